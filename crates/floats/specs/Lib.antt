@@ -1,0 +1,7 @@
+pub mod Numbers
+pub mod Lists
+pub mod Words
+pub mod Fill
+pub mod Splice
+pub mod FloatLaws
+pub mod Dyadic

@@ -1,0 +1,41 @@
+// Numbers and their bits, with nothing asked of either, and their sizes.
+ghost use mathlib.Core.Path.{_≡_};
+ghost use Rattle.floats.specs.Numbers.{absOf};
+ghost use Rattle.floats.specs.Words.{finiteBits};
+ghost use lib.Ieee as Ieee;
+ghost use lib.Ieee.{binary64};
+
+// The bit pattern of x, at every x: a NaN's is 7FF8000000000000.
+pub fn bits(x: f64) -> u64
+    ensures { λ r. ⌜ r ≡ Ieee.toBits binary64 x ⌝ }
+{
+    if x != x {
+        0x7ff8000000000000
+    } else {
+        f64::to_bits(x)
+    }
+}
+
+// The number that a pattern stands for, at every pattern.
+pub fn of_bits(n: u64) -> f64
+    ensures { λ r. ⌜ r ≡ Ieee.ofBits binary64 n ⌝ }
+{
+    if n % 0x8000000000000000 > 0x7ff0000000000000 {
+        0.0 / 0.0
+    } else {
+        f64::from_bits(n)
+    }
+}
+
+// Whether a pattern stands for a finite number.
+pub fn is_finite(n: u64) -> bool
+    ensures { λ r. ⌜ r ≡ finiteBits n ⌝ }
+{
+    n % 0x8000000000000000 < 0x7ff0000000000000
+}
+
+pub fn abs(x: f64) -> f64
+    ensures { λ r. ⌜ r ≡ absOf x ⌝ }
+{
+    if x > 0.0 { x } else { 0.0 - x }
+}

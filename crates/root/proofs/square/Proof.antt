@@ -1,0 +1,18 @@
+use native.Mathlib.Omega.{arith}
+use Rattle.root.proofs.Squares.{mul-lt-pow}
+use borrow.Author.Needs.{needs}
+use Rattle.root.proofs.square.Statement.{statement}
+use Rattle.root.proofs.square.Tie as tie
+use Rattle.root.proofs.square.Reads as reads
+use Rattle.root.proofs.square.Lts as lts
+
+-- src/lib.rt:259:5
+mul-result : tie.Need-mul-result
+mul-result c = omega (arith, mul-lt-pow 29 29 (c .pre) (c .pre))
+
+-- src/lib.rt:255:1
+returns : tie.Need-returns
+returns c = search needs
+
+pub square-spec : {M : Type 1} → statement M
+square-spec = tie.close (tie.spec mul-result returns)

@@ -1,0 +1,6 @@
+//! The one error that flatten.rs makes, as in docs/src/src/errors.rs.
+
+#[derive(Debug)]
+pub enum ParsingError {
+    ParseError { message: String },
+}
