@@ -15,8 +15,13 @@ pub enum Call {
     PokeStore(usize, u64),
 }
 
+/// 1 to 16 digits, decimal or hex: what is longer is no number of a call.
+fn has_digits(text: &str, is_digit: fn(&u8) -> bool) -> bool {
+    (1..=16).contains(&text.len()) && text.as_bytes().iter().all(is_digit)
+}
+
 fn decimal(text: &str) -> Option<u64> {
-    text.bytes().all(|b| b.is_ascii_digit()).then(|| text.parse().ok())?
+    has_digits(text, u8::is_ascii_digit).then(|| text.parse().ok())?
 }
 
 fn up_to(most: usize, text: &str) -> Option<usize> {
@@ -24,12 +29,12 @@ fn up_to(most: usize, text: &str) -> Option<usize> {
 }
 
 fn hex(text: &str) -> Option<u64> {
-    let digits = (1..=16).contains(&text.len()) && text.bytes().all(|b| b.is_ascii_hexdigit());
-    digits.then(|| u64::from_str_radix(text, 16).ok())?
+    has_digits(text, u8::is_ascii_hexdigit).then(|| u64::from_str_radix(text, 16).ok())?
 }
 
 fn axis_list(text: &str) -> Option<Vec<u64>> {
-    if text == "-" { Some(Vec::new()) } else { text.split(',').map(decimal).collect() }
+    let codes: Option<Vec<u64>> = if text == "-" { Some(Vec::new()) } else { text.split(',').map(decimal).collect() };
+    codes.filter(|codes| codes.len() <= MOST_LENGTH)
 }
 
 fn pushed_words(fields: &[&str]) -> Option<Vec<u64>> {
@@ -39,9 +44,10 @@ fn pushed_words(fields: &[&str]) -> Option<Vec<u64>> {
     row[MOTION] = decimal(motion)?;
     row[PLANE] = decimal(plane)?;
     row[CARRY] = hex(carry)?;
-    row[PRESENT] = hex(present)?;
+    let present = hex(present)?;
+    row[PRESENT] = present;
     let mut numbers = numbers.iter();
-    for k in (0..CELLS).filter(|&k| has(hex(present).unwrap_or(0), k)) {
+    for k in (0..CELLS).filter(|&k| has(present, k)) {
         row[CELL + k] = hex(numbers.next()?)?;
     }
     numbers.next().is_none().then_some(row)

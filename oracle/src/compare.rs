@@ -1,4 +1,5 @@
 //! `compare CALLS WANT GOT`: the answers GOT held against WANT, the oracle's, for the same calls.
+//! It stops at the first that disagrees and shows it; `compare --count CALLS WANT GOT` counts all that do.
 //!
 //! Everything must agree in every bit, except the two plane cells of an arc's marked rows: there document 01 asks
 //! 1e-11 * (1 + centre size + radius), where centre size is the larger of the two centre numbers' sizes and radius
@@ -187,6 +188,9 @@ struct Tally {
     excluded: u64,
     passed_over: u64,
     worst: f64,
+    different: u64,
+    sequences: u64,
+    different_sequences: u64,
 }
 
 enum Verdict {
@@ -215,11 +219,24 @@ fn judge(want: &Answer, got: &Answer, arc: Option<&Arc>, tally: &mut Tally) -> V
         }
     }
     let by_one = want.count().abs_diff(got.count()) <= 1 && want.wanted().abs_diff(got.wanted()) <= 1;
-    if arc.near_turn || arc.near_whole && by_one {
+    if (arc.near_turn || arc.near_whole && by_one) && agree_apart_from_samples(want, got, arc) {
         Verdict::Excluded((want.refused() == 0) != (got.refused() == 0))
     } else {
         Verdict::Different
     }
+}
+
+/// What no exclusion covers: the rows of a spline that the call emits first, and an arc's end.
+fn agree_apart_from_samples(want: &Answer, got: &Answer, arc: &Arc) -> bool {
+    if want.rows.is_empty() || got.rows.is_empty() {
+        return matches!((want.refused(), got.refused()), (0 | 7, 0 | 7));
+    }
+    let emitted = want.rows.len().saturating_sub(arc.rows as usize);
+    let one_row = want.rows.len() == emitted + 1 || got.rows.len() <= emitted + 1;
+    got.rows.len() > emitted
+        && want.rows[..emitted] == got.rows[..emitted]
+        && (one_row || want.rows.last() == got.rows.last())
+        && want.field("held") == got.field("held")
 }
 
 /// What the accepted call leaves in the words.
@@ -289,9 +306,13 @@ fn disagree(at: usize, line: &str, want: Option<&Answer>, got: Option<&Answer>, 
 }
 
 fn main() {
-    let args: Vec<String> = std::env::args().skip(1).collect();
+    let mut args: Vec<String> = std::env::args().skip(1).collect();
+    let counting = args.first().is_some_and(|arg| arg == "--count");
+    if counting {
+        args.remove(0);
+    }
     let [calls, want, got] = &args[..] else {
-        eprintln!("compare CALLS WANT GOT");
+        eprintln!("compare [--count] CALLS WANT GOT");
         std::process::exit(2);
     };
     let (mut wants, mut gots) = (open(want), open(got));
@@ -299,10 +320,12 @@ fn main() {
     let mut tally = Tally::default();
     let mut parted = false;
     let mut sequence = "no sequence named".to_string();
+    let mut last_different = String::new();
     for (i, line) in open(calls).enumerate() {
         let line = line.expect("calls");
         if calls::is_comment(&line) {
             sequence = line;
+            tally.sequences += 1;
             continue;
         }
         let call = calls::read(&line);
@@ -336,6 +359,11 @@ fn main() {
                 tally.excluded += 1;
                 parted = apart;
             }
+            Verdict::Different if counting => {
+                tally.different += 1;
+                tally.different_sequences += u64::from(last_different != sequence);
+                last_different.clone_from(&sequence);
+            }
             Verdict::Different => disagree(i + 1, &line, Some(want), Some(got), &sequence),
         }
         if let Some(call) = &call {
@@ -345,6 +373,13 @@ fn main() {
     if wants.next().is_some() || gots.next().is_some() {
         println!("DIFFERENT: answers beyond the last call");
         std::process::exit(1);
+    }
+    if counting {
+        println!(
+            "different: calls {} of {} sequences {} of {}",
+            tally.different, tally.calls, tally.different_sequences, tally.sequences
+        );
+        std::process::exit(i32::from(tally.different > 0));
     }
     println!(
         "same: calls {} rows {} arc-rows {} excludable {} excluded {} passed-over {} worst-share {:.3e}",

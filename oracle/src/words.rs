@@ -134,8 +134,7 @@ pub fn row_check(row: &[u64]) -> u64 {
 /// A mask word and the numbers after it: on geometric axes alone, each within rule 3.
 fn point_ok(state: &[u64], at: usize) -> bool {
     let axes = geometric(state);
-    state[at] < 1 << AXES
-        && (0..AXES).all(|k| !has(state[at], k) || axes.contains(&k) && within(state[at + 1 + k]))
+    state[at] < 1 << AXES && (0..AXES).all(|k| !has(state[at], k) || axes.contains(&k) && within(state[at + 1 + k]))
 }
 
 pub fn state_ok(state: &[u64]) -> bool {
@@ -161,11 +160,19 @@ pub fn saved_check(lent: &Lent) -> u64 {
         return 8;
     }
     let row_ok = |row: &[u64]| row_check(row) == 0 && (row[MOTION] == 0 || row[MOTION] == lent.state[W_MOTION]);
-    if (0..lent.held()).all(|i| row_ok(lent.held_row(i))) { 0 } else { 9 }
+    if (0..lent.held()).all(|i| row_ok(lent.held_row(i))) {
+        0
+    } else {
+        9
+    }
 }
 
 pub fn motion_then(lent: &Lent, row: &[u64]) -> u64 {
-    if row[MOTION] == 0 { lent.state[W_MOTION] } else { row[MOTION] }
+    if row[MOTION] == 0 {
+        lent.state[W_MOTION]
+    } else {
+        row[MOTION]
+    }
 }
 
 pub fn emits(lent: &Lent, row: &[u64]) -> bool {
@@ -183,7 +190,11 @@ pub fn push_check(lent: &Lent, row: &[u64]) -> u64 {
         return shape;
     }
     let kept = if emits(lent, row) { 0 } else { lent.held() };
-    if is_spline(motion_then(lent, row)) && kept >= lent.blocks { 6 } else { 0 }
+    if is_spline(motion_then(lent, row)) && kept >= lent.blocks {
+        6
+    } else {
+        0
+    }
 }
 
 pub fn start_check(lent: &Lent, tolerance: u64, axes: &[u64]) -> u64 {

@@ -1,0 +1,275 @@
+//! The library beside the unchanged Rust, in one run: rows written per second of this thread's time, and their ratio.
+//!
+//! Each side gets the blocks in its own form, made beforehand: words for the library, `Row`s for the Rust, which takes
+//! them. Each side's rows are dropped after every call: the library's places are written over, the Rust's list is
+//! cleared. The two take turns, and each keeps the best of its rounds.
+
+#[path = "../../oracle/src/errors.rs"]
+mod errors;
+#[path = "../../docs/src/src/flatten.rs"]
+mod flatten;
+#[path = "../../oracle/src/output.rs"]
+mod output;
+#[path = "../../oracle/src/rust.rs"]
+mod rust;
+#[path = "../../oracle/src/state.rs"]
+mod state;
+#[path = "../../oracle/src/types.rs"]
+mod types;
+#[path = "../../oracle/src/words.rs"]
+mod words;
+
+use output::Row;
+use std::hint::black_box;
+use words::*;
+
+#[repr(C)]
+struct Reply {
+    code: u64,
+    count: u64,
+    warning: u64,
+    wanted: u64,
+    held: u64,
+}
+
+#[repr(C)]
+#[derive(Default)]
+struct Time {
+    seconds: i64,
+    nanoseconds: i64,
+}
+
+extern "C" {
+    fn flat_start(state: *mut u64, words: usize, tolerance: u64, axes: *const u64, count: usize) -> Reply;
+    fn flat_push(
+        state: *mut u64,
+        words: usize,
+        store: *mut u64,
+        store_words: usize,
+        rows: *mut u64,
+        row_words: usize,
+        row: *const u64,
+        this_row_words: usize,
+    ) -> Reply;
+    fn flat_close(
+        state: *mut u64,
+        words: usize,
+        store: *const u64,
+        store_words: usize,
+        rows: *mut u64,
+        row_words: usize,
+    ) -> Reply;
+    fn clock_gettime(clock: i32, time: *mut Time) -> i32;
+}
+
+/// This thread's own time: other work on the machine does not count.
+fn now() -> f64 {
+    const THREAD_TIME: i32 = 3;
+    let mut time = Time::default();
+    // The clock is Linux's, and writes the two numbers that it is lent.
+    unsafe { clock_gettime(THREAD_TIME, &mut time) };
+    time.seconds as f64 + time.nanoseconds as f64 * 1e-9
+}
+
+const AXES: [u64; 3] = [0, 1, 2];
+const PLACES: usize = 120_000;
+const I: usize = 15;
+
+/// Blocks to push after a start with this tolerance, then a close.
+struct Work {
+    name: String,
+    tolerance: f64,
+    blocks: Vec<RowWords>,
+}
+
+fn block(motion: u64, cells: &[(usize, f64)]) -> RowWords {
+    let mut row = [0; ROW_WORDS];
+    row[LINE] = 1;
+    row[MOTION] = motion;
+    for &(k, x) in cells {
+        row[PRESENT] |= 1 << k;
+        row[CELL + k] = x.to_bits();
+    }
+    row
+}
+
+// ---- the two sides: each runs the work once and says how many rows it wrote
+
+struct Lent {
+    state: Vec<u64>,
+    store: Vec<u64>,
+    rows: Vec<u64>,
+}
+
+fn library(work: &Work, lent: &mut Lent) -> u64 {
+    let (state, store, rows) = (&mut lent.state, &mut lent.store, &mut lent.rows);
+    let mut count = 0;
+    // Pointers and lengths of live vectors.
+    unsafe {
+        let reply = flat_start(state.as_mut_ptr(), state.len(), work.tolerance.to_bits(), AXES.as_ptr(), AXES.len());
+        assert_eq!(reply.code, 0);
+        for row in &work.blocks {
+            let reply = flat_push(
+                state.as_mut_ptr(),
+                state.len(),
+                store.as_mut_ptr(),
+                store.len(),
+                rows.as_mut_ptr(),
+                rows.len(),
+                row.as_ptr(),
+                row.len(),
+            );
+            assert_eq!((reply.code, reply.warning, reply.wanted, reply.held), (0, 0, 0, 0), "{}", work.name);
+            count += reply.count;
+            black_box(&rows);
+        }
+        let reply =
+            flat_close(state.as_mut_ptr(), state.len(), store.as_ptr(), store.len(), rows.as_mut_ptr(), rows.len());
+        assert_eq!(reply.code, 0);
+        black_box(&rows);
+        count + reply.count
+    }
+}
+
+fn unchanged(tolerance: f64, blocks: Vec<Row>) -> u64 {
+    let mut flattener = rust::fresh(tolerance.to_bits(), &AXES);
+    let mut out = Vec::new();
+    let mut count = 0;
+    for row in blocks {
+        flattener.push(row, &mut out);
+        count += out.len() as u64;
+        black_box(&out);
+        out.clear();
+    }
+    flattener.finish(&mut out);
+    black_box(&out);
+    count + out.len() as u64
+}
+
+fn rust_blocks(work: &Work) -> Vec<Row> {
+    work.blocks.iter().map(|row| rust::rust_row(row)).collect()
+}
+
+// ---- measuring
+
+const ROUNDS: usize = 5;
+const ROUND_SECONDS: f64 = 0.02;
+
+/// Rows per second of one round, which repeats until it is long enough to time.
+fn round(mut once: impl FnMut() -> (u64, f64)) -> f64 {
+    let (mut rows, mut seconds) = (0, 0.0);
+    while seconds < ROUND_SECONDS {
+        let (count, took) = once();
+        rows += count;
+        seconds += took;
+    }
+    rows as f64 / seconds
+}
+
+fn timed(run: impl FnOnce() -> u64) -> (u64, f64) {
+    let before = now();
+    let rows = run();
+    (rows, now() - before)
+}
+
+fn measure(work: &Work, lent: &mut Lent) {
+    let rows = library(work, lent);
+    let rust_rows = unchanged(work.tolerance, rust_blocks(work));
+    let (mut ours, mut theirs) = (0f64, 0f64);
+    for _ in 0..ROUNDS {
+        ours = ours.max(round(|| timed(|| library(work, lent))));
+        theirs = theirs.max(round(|| {
+            let blocks = rust_blocks(work);
+            timed(|| unchanged(work.tolerance, blocks))
+        }));
+    }
+    let same = if rows == rust_rows { "" } else { " (counts differ)" };
+    println!("| {} | {rows}{same} | {:.3e} | {:.3e} | {:.2} |", work.name, theirs, ours, ours / theirs);
+}
+
+// ---- the work
+
+fn pass_through() -> Work {
+    let blocks = (0..10_000).map(|i| block(if i == 0 { 2 } else { 0 }, &[(0, i as f64), (1, 0.5), (11, 1000.0)]));
+    Work { name: "pass-through".into(), tolerance: 0.1, blocks: blocks.collect() }
+}
+
+/// Quarter turns there and back, of about so many rows each.
+fn arcs(rows: usize) -> Work {
+    let mut blocks = vec![block(2, &[(0, 10.0), (1, 0.0)])];
+    for _ in 0..(10_000 / rows).max(1) {
+        blocks.push(block(4, &[(0, 0.0), (1, 10.0), (I, -10.0), (I + 1, 0.0)]));
+        blocks.push(block(3, &[(0, 10.0), (1, 0.0), (I, 0.0), (I + 1, -10.0)]));
+    }
+    let step = std::f64::consts::FRAC_PI_2 / (rows as f64 - 0.5);
+    Work { name: format!("arcs of {rows} rows"), tolerance: 10.0 * (1.0 - (step / 2.0).cos()), blocks }
+}
+
+/// A tolerance that gives about so many rows in all: they go with its inverse root.
+fn tolerance_for(rows: u64, blocks: &[Row]) -> f64 {
+    let mut tolerance: f64 = 1.0;
+    for _ in 0..6 {
+        let share = unchanged(tolerance, blocks.to_vec()) as f64 / rows as f64;
+        tolerance *= (share * share).clamp(1e-3, 1e3);
+    }
+    tolerance
+}
+
+fn spline(name: &str, motion: u64, degree: u64, points: usize, rows: u64) -> Work {
+    let mut blocks = vec![block(2, &[(0, 0.0), (1, 0.0), (2, 0.0)])];
+    for i in 1..=points {
+        let t = i as f64;
+        let mut row = block(0, &[(0, t * 10.0), (1, 50.0 * (t * 1.3).sin()), (2, 5.0 * (t * 0.7).cos())]);
+        if i == 1 {
+            row[MOTION] = motion;
+            if degree != 3 {
+                row[PRESENT] |= 1 << SD;
+                row[CELL + SD] = (degree as f64).to_bits();
+            }
+        }
+        blocks.push(row);
+    }
+    let mut work = Work { name: format!("{name}, {points} points, {rows} rows a block"), tolerance: 1.0, blocks };
+    work.tolerance = tolerance_for(points as u64 * rows, &rust_blocks(&work));
+    work
+}
+
+/// Moves, feeds, arcs and short splines by turns.
+fn mixed() -> Work {
+    let mut blocks = Vec::new();
+    for i in 0..300 {
+        let t = i as f64;
+        blocks.push(block(2, &[(0, t), (1, 0.0), (2, 0.0), (11, 800.0)]));
+        blocks.push(block(0, &[(0, t + 10.0)]));
+        blocks.push(block(4, &[(0, t), (1, 10.0), (I, -10.0), (2, 1.0)]));
+        blocks.push(block(0, &[(11, 600.0)]));
+        for j in 1..=5 {
+            let motion = if j == 1 { 5 + i as u64 % 3 } else { 0 };
+            blocks.push(block(motion, &[(0, t + 4.0 * j as f64), (1, 10.0 + 6.0 * (j as f64).sin())]));
+        }
+    }
+    Work { name: "mixed program".into(), tolerance: 0.01, blocks }
+}
+
+fn main() {
+    let quick = std::env::args().nth(1).is_some_and(|arg| arg == "quick");
+    let mut lent =
+        Lent { state: vec![0; STATE_WORDS], store: vec![0; MOST_HELD * ROW_WORDS], rows: vec![0; PLACES * ROW_WORDS] };
+    println!("| work | rows | Rust rows/s | library rows/s | ratio |\n|---|---|---|---|---|");
+    measure(&pass_through(), &mut lent);
+    for rows in [6, 100, 10_000] {
+        measure(&arcs(rows), &mut lent);
+    }
+    let kinds =
+        [("Akima", 5, 3), ("cubic", 7, 3), ("B-spline 3", 6, 3), ("B-spline 10", 6, 10), ("B-spline 50", 6, 50)];
+    for (name, motion, degree) in kinds {
+        for points in [4, 30, 256] {
+            for rows in [2, 10, 100] {
+                if !quick || points == 30 && rows == 10 {
+                    measure(&spline(name, motion, degree, points, rows), &mut lent);
+                }
+            }
+        }
+    }
+    measure(&mixed(), &mut lent);
+}

@@ -1,0 +1,452 @@
+//! `fuzz N [SEED]`: N random or damaged states, stores and rows thrown at the four exported calls.
+//!
+//! All lent memory stands between canary words. After each call the number, the state, the store, the row places
+//! beyond those written, and every canary are held against the model; a reply of 7 is asked again with one place
+//! too few and with just enough. An emission whose tolerance is tiny against its numbers would run for minutes, as
+//! document 01 lets it: such a call is not made, and is counted.
+
+mod model;
+
+use model::{Expected, Reply, ROW, STATE};
+
+extern "C" {
+    fn flat_start(state: *mut u64, words: usize, tolerance: u64, axes: *const u64, count: usize) -> Reply;
+    fn flat_seed(state: *mut u64, words: usize, axis: u64, value: u64) -> Reply;
+    fn flat_push(
+        state: *mut u64,
+        words: usize,
+        store: *mut u64,
+        store_words: usize,
+        rows: *mut u64,
+        row_words: usize,
+        row: *const u64,
+        this_row_words: usize,
+    ) -> Reply;
+    fn flat_close(
+        state: *mut u64,
+        words: usize,
+        store: *const u64,
+        store_words: usize,
+        rows: *mut u64,
+        row_words: usize,
+    ) -> Reply;
+}
+
+struct Rng(u64);
+
+impl Rng {
+    fn next(&mut self) -> u64 {
+        self.0 ^= self.0 << 13;
+        self.0 ^= self.0 >> 7;
+        self.0 ^= self.0 << 17;
+        self.0.wrapping_mul(0x2545_F491_4F6C_DD1D)
+    }
+
+    fn below(&mut self, n: u64) -> u64 {
+        (self.next() >> 16) % n
+    }
+
+    fn one_in(&mut self, n: u64) -> bool {
+        self.below(n) == 0
+    }
+}
+
+const GUARD: usize = 64;
+const CANARY: u64 = 0xC0FF_EE00_DEAD_BEEF;
+
+/// Words to lend, with canaries on both sides.
+struct Lent {
+    all: Vec<u64>,
+}
+
+impl Lent {
+    fn new(words: &[u64]) -> Self {
+        let mut all = vec![CANARY; GUARD];
+        all.extend_from_slice(words);
+        all.resize(all.len() + GUARD, CANARY);
+        Lent { all }
+    }
+
+    fn len(&self) -> usize {
+        self.all.len() - 2 * GUARD
+    }
+
+    fn pointer(&mut self) -> *mut u64 {
+        self.all[GUARD..].as_mut_ptr()
+    }
+
+    fn words(&self) -> &[u64] {
+        &self.all[GUARD..self.all.len() - GUARD]
+    }
+
+    fn is_guarded(&self) -> bool {
+        let end = self.all.len() - GUARD;
+        self.all[..GUARD].iter().chain(&self.all[end..]).all(|&word| word == CANARY)
+    }
+}
+
+#[derive(Clone, Debug)]
+enum Call {
+    Start(u64, Vec<u64>),
+    Seed(u64, u64),
+    Push(Vec<u64>),
+    Close,
+}
+
+#[derive(Clone, Debug)]
+struct Case {
+    call: Call,
+    state: Vec<u64>,
+    store: Vec<u64>,
+    row_words: usize,
+}
+
+const PLACES: u64 = 0x5EED;
+
+/// Makes the call on guarded copies, and says what it answered and left.
+fn run(case: &Case) -> (Reply, Vec<u64>, Vec<u64>, Vec<u64>) {
+    let mut state = Lent::new(&case.state);
+    let mut store = Lent::new(&case.store);
+    let mut rows = Lent::new(&vec![PLACES; case.row_words]);
+    let given = match &case.call {
+        Call::Start(_, words) | Call::Push(words) => words.clone(),
+        _ => Vec::new(),
+    };
+    let mut lent = Lent::new(&given);
+    let (words, store_words, row_words, count) = (state.len(), store.len(), rows.len(), lent.len());
+    let (s, t, r, l) = (state.pointer(), store.pointer(), rows.pointer(), lent.pointer());
+    // Each pointer is of a live vector of its own, as long as the length beside it.
+    let reply = unsafe {
+        match &case.call {
+            Call::Start(tolerance, _) => flat_start(s, words, *tolerance, l, count),
+            Call::Seed(axis, bits) => flat_seed(s, words, *axis, *bits),
+            Call::Push(_) => flat_push(s, words, t, store_words, r, row_words, l, count),
+            Call::Close => flat_close(s, words, t, store_words, r, row_words),
+        }
+    };
+    for (name, lent) in [("state", &state), ("store", &store), ("rows", &rows), ("row or list", &lent)] {
+        must(lent.is_guarded(), &format!("a canary beside the {name} was changed"), case, &reply);
+    }
+    must(lent.words() == given, "a row or list that was only lent for reading was changed", case, &reply);
+    (reply, state.words().to_vec(), store.words().to_vec(), rows.words().to_vec())
+}
+
+fn must(holds: bool, what: &str, case: &Case, reply: &Reply) {
+    if !holds {
+        println!("WRONG: {what}\nreply {reply:?}\ncall {:?}", case.call);
+        println!("state {:x?}\nstore words {}, row words {}", case.state, case.store.len(), case.row_words);
+        println!("store begins {:x?}", &case.store[..case.store.len().min(3 * ROW)]);
+        std::process::exit(1);
+    }
+}
+
+fn expected(case: &Case) -> Expected {
+    match &case.call {
+        Call::Start(tolerance, axes) => model::start(&case.state, *tolerance, axes),
+        Call::Seed(axis, bits) => model::seed(&case.state, *axis, *bits),
+        Call::Push(row) => model::push(&case.state, &case.store, row),
+        Call::Close => model::close(&case.state, &case.store),
+    }
+}
+
+/// A reply of 7 is asked again with room; more than this many rows are left at that.
+const MOST_ROWS: u64 = 120_000;
+
+fn check(case: &Case, tally: &mut Tally) {
+    let want = expected(case);
+    if want.code == 0 && would_run_long(case, &want) {
+        tally.left_out += 1;
+        return;
+    }
+    let (reply, state, store, rows) = run(case);
+    let places = (case.row_words / ROW) as u64;
+    tally.codes[reply.code.min(10) as usize] += 1;
+    if want.code != 0 || reply.code == 7 {
+        let code = if want.code == 0 { 7 } else { want.code };
+        must(reply.code == code, &format!("the number is not {code}"), case, &reply);
+        must((reply.warning, reply.wanted, reply.held) == (0, 0, 0), "a refusal that says more", case, &reply);
+        must(state == case.state && store == case.store, "a refusal changed the state or the store", case, &reply);
+        must(rows.iter().all(|&word| word == PLACES), "a refusal wrote rows", case, &reply);
+        if code != 7 {
+            must(reply.count == 0, "a refusal with a count", case, &reply);
+            return;
+        }
+        let fits = want.rows.0 <= reply.count && reply.count <= want.rows.1;
+        must(fits && reply.count > places, "7 with a count that is not so", case, &reply);
+        ask_again(case, &reply, tally);
+        return;
+    }
+    must(reply.code == 0, "the number is not 0", case, &reply);
+    must(reply.count <= places, "0 with more rows than places", case, &reply);
+    must(want.rows.0 <= reply.count && reply.count <= want.rows.1, "an impossible count", case, &reply);
+    must(want.warnings.contains(&reply.warning), "an impossible warning", case, &reply);
+    must((reply.wanted > 100_000) == (reply.warning == 6), "a wanted count without 6", case, &reply);
+    must((reply.wanted == 0) == (reply.warning != 6), "a wanted count without 6", case, &reply);
+    must(reply.held & !want.may_hold == 0, "an axis held that is not held", case, &reply);
+    must(state == want.state, "the state's words", case, &reply);
+    must(store == want.store || matches!(case.call, Call::Start(..) | Call::Seed(..)), "the store", case, &reply);
+    let written = reply.count as usize * ROW;
+    must(rows[written..].iter().all(|&word| word == PLACES), "a place beyond the rows", case, &reply);
+    must(rows[..written].chunks_exact(ROW).all(is_row), "what was written is no row", case, &reply);
+    tally.rows += reply.count;
+}
+
+fn is_row(row: &[u64]) -> bool {
+    let finite = |k: usize| f64::from_bits(row[6 + k]).is_finite();
+    let absent = |k: usize| row[5] >> k & 1 == 0;
+    let shape = row[0] >> 32 == 0 && row[1] <= 31 && row[3] <= 1 && row[5] >> 23 == 0;
+    shape && (0..23).all(|k| if absent(k) { row[6 + k] == 0 } else { finite(k) })
+}
+
+fn ask_again(case: &Case, reply: &Reply, tally: &mut Tally) {
+    if reply.count > MOST_ROWS {
+        return;
+    }
+    let with = |places: u64| Case { row_words: places as usize * ROW, ..case.clone() };
+    let (few, ..) = run(&with(reply.count - 1));
+    must(few == *reply, "one place too few, and another reply", case, &few);
+    let (enough, ..) = run(&with(reply.count));
+    must(enough.code == 0 && enough.count == reply.count, "as many places as asked for, and no rows", case, &enough);
+    tally.asked_again += 1;
+}
+
+/// An emission, or an arc, is as long as its numbers are large against the tolerance.
+fn would_run_long(case: &Case, want: &Expected) -> bool {
+    if want.rows.1 <= 100_000 {
+        return false;
+    }
+    let held = case.state[43] as usize;
+    let size = |bits: u64| if model::is_small(bits) { f64::from_bits(bits).abs() } else { 0.0 };
+    let cells = case.store[..held * ROW].chunks_exact(ROW).flat_map(|row| row[6..16].iter());
+    let most = cells.chain(&case.state[32..42]).map(|&bits| size(bits)).fold(0.0, f64::max);
+    f64::from_bits(case.state[0]) < 1e-6 * most
+}
+
+#[derive(Default)]
+struct Tally {
+    codes: [u64; 11],
+    rows: u64,
+    asked_again: u64,
+    left_out: u64,
+}
+
+// ---- what is thrown
+
+/// Words about the bounds of the rules.
+fn special(rng: &mut Rng) -> u64 {
+    const WHOLE: [u64; 22] =
+        [0, 1, 2, 3, 5, 6, 7, 8, 14, 15, 16, 17, 19, 20, 31, 32, 256, 257, 1 << 32, 1 << 63, (1 << 23) - 1, u64::MAX];
+    const OVER: f64 = 1_000_000_000.000_000_1;
+    const NUMBERS: [f64; 10] = [f64::NAN, f64::INFINITY, OVER, -OVER, 1e9, -1e9, 1000.0, 1000.5, 0.5, -1.0];
+    match rng.below(6) {
+        0 => rng.next(),
+        1 => 1 << rng.below(64),
+        2 | 3 => WHOLE[rng.below(WHOLE.len() as u64) as usize],
+        _ => NUMBERS[rng.below(NUMBERS.len() as u64) as usize].to_bits(),
+    }
+}
+
+fn number(rng: &mut Rng) -> u64 {
+    match rng.below(8) {
+        0 => 0,
+        1 => (rng.below(2000) as f64 - 1000.0).to_bits(),
+        2 => (rng.below(1_000_000) as f64 / 1000.0).to_bits(),
+        _ => (rng.below(400) as f64 / 8.0 - 25.0).to_bits(),
+    }
+}
+
+fn good_list(rng: &mut Rng) -> Vec<u64> {
+    let mut list: Vec<u64> = (0..15).filter(|_| !rng.one_in(3)).collect();
+    for i in (1..list.len()).rev() {
+        list.swap(i, rng.below(i as u64 + 1) as usize);
+    }
+    list
+}
+
+fn point(words: &mut [u64], axes: &[u64], rng: &mut Rng) {
+    for &k in axes.iter().filter(|&&k| k <= 9) {
+        if !rng.one_in(4) {
+            words[0] |= 1 << k;
+            words[1 + k as usize] = number(rng);
+        }
+    }
+}
+
+fn good_state(rng: &mut Rng, held: u64) -> Vec<u64> {
+    let mut words = vec![0; STATE];
+    let list = good_list(rng);
+    words[0] = [0.01f64, 0.5, 2.0, 100.0][rng.below(4) as usize].to_bits();
+    words[1] = list.len() as u64;
+    words[2..2 + list.len()].copy_from_slice(&list);
+    words[17] = if held > 0 { 5 + rng.below(3) } else { 1 + rng.below(31) };
+    words[18] = 17 + rng.below(3);
+    point(&mut words[19..30], &list, rng);
+    words[30] = rng.next() & 0xffff_ff00;
+    if held > 0 {
+        point(&mut words[31..42], &list, rng);
+    }
+    let most = if rng.one_in(5) { 256 } else { 6 };
+    words[42] = 1 + rng.below(most);
+    words[43] = held;
+    words
+}
+
+fn good_row(rng: &mut Rng, motion: u64) -> Vec<u64> {
+    let mut row = vec![0; ROW];
+    row[0] = rng.below(1 << 32);
+    row[1] = motion;
+    row[2] = if rng.one_in(4) { 17 + rng.below(3) } else { 0 };
+    row[4] = rng.next() >> rng.below(64);
+    row[5] = rng.next() & rng.next() & 0x7f_ffff;
+    for k in 0..23 {
+        // What an absent cell holds is not read: leave rubbish there.
+        row[6 + k] = if row[5] >> k & 1 == 1 { number(rng) } else { rng.next() };
+    }
+    row
+}
+
+fn good_store(rng: &mut Rng, held: u64, motion: u64) -> Vec<u64> {
+    let mut store = Vec::new();
+    for _ in 0..held {
+        let word = if rng.one_in(2) { motion } else { 0 };
+        let row = good_row(rng, word);
+        store.extend(row);
+    }
+    for _ in 0..rng.below(3) * ROW as u64 + rng.below(ROW as u64) {
+        store.push(rng.next());
+    }
+    store
+}
+
+/// A TURN about the bound of rule 5.
+fn put_turn(row: &mut [u64], rng: &mut Rng) {
+    row[5] |= 1 << 19;
+    row[6 + 19] = [1000f64, 1000.0000000000001, -1001.0, 1e9, 999.5][rng.below(5) as usize].to_bits();
+}
+
+fn held_count(rng: &mut Rng) -> u64 {
+    match rng.below(8) {
+        0..=3 => 0,
+        4..=6 => 1 + rng.below(5),
+        _ if rng.one_in(20) => 256,
+        _ => 1 + rng.below(20),
+    }
+}
+
+fn any_call(rng: &mut Rng, state: &[u64]) -> Call {
+    match rng.below(12) {
+        0 => {
+            let list = if rng.one_in(2) { good_list(rng) } else { (0..rng.below(20)).map(|_| rng.below(17)).collect() };
+            let tolerance = if rng.one_in(2) { 1f64.to_bits() } else { special(rng) };
+            Call::Start(tolerance, list)
+        }
+        1 => Call::Seed(
+            if rng.one_in(3) { special(rng) } else { rng.below(17) },
+            if rng.one_in(3) { special(rng) } else { number(rng) },
+        ),
+        2..=4 => Call::Close,
+        _ => {
+            let now = state.get(17).copied().unwrap_or(0) % 32;
+            let motion = [0, now, rng.below(32), 2, 3, 4][rng.below(6) as usize];
+            Call::Push(good_row(rng, motion))
+        }
+    }
+}
+
+fn any_case(rng: &mut Rng) -> Case {
+    let held = held_count(rng);
+    let mut state = good_state(rng, held);
+    let mut store = good_store(rng, held, state[17]);
+    let mut call = any_call(rng, &state);
+    let mut row_words = [0, 28, 29, 100, 1000, 60 * ROW, 3000 * ROW][rng.below(7) as usize];
+    match rng.below(8) {
+        0 => {
+            state = (0..rng.below(65)).map(|_| if rng.one_in(2) { rng.next() } else { special(rng) }).collect();
+        }
+        1 | 2 => {
+            let at = rng.below(STATE as u64) as usize;
+            state[at] = special(rng);
+        }
+        3 => state.resize(rng.below(65) as usize, 0),
+        4 => {
+            if let Call::Push(row) = &mut call {
+                if rng.one_in(3) {
+                    row.resize(rng.below(65) as usize, 0);
+                } else if rng.one_in(3) {
+                    put_turn(row, rng);
+                } else {
+                    let at = rng.below(ROW as u64) as usize;
+                    row[at] = special(rng);
+                }
+            }
+        }
+        5 if !store.is_empty() => {
+            let at = rng.below(store.len() as u64) as usize;
+            store[at] = special(rng);
+            if held > 0 && rng.one_in(4) {
+                put_turn(&mut store[..ROW], rng);
+            }
+        }
+        6 => {
+            store.truncate(rng.below(store.len() as u64 + 1) as usize);
+            row_words = rng.below(65) as usize;
+        }
+        _ => {}
+    }
+    Case { call, state, store, row_words }
+}
+
+/// Warning 6 needs 100,000 places, more than the replay program lends: it is asked for here.
+fn clamped_arc(tally: &mut Tally) {
+    let state = model::start(&vec![0; STATE], 1e-9f64.to_bits(), &[0, 1, 2]).state;
+    let state = model::seed(&model::seed(&state, 0, 1000f64.to_bits()).state, 1, 0).state;
+    let mut row = vec![0; ROW];
+    (row[1], row[5]) = (4, 1 << 0 | 1 << 1 | 1 << 15);
+    (row[6], row[6 + 15]) = (1000f64.to_bits(), (-1000f64).to_bits());
+    let case = Case { call: Call::Push(row), state, store: Vec::new(), row_words: 100_001 * ROW };
+    check(&case, tally);
+    let (reply, ..) = run(&case);
+    let step = 2.0 * (1.0 - 1e-12f64).acos();
+    let wanted = (std::f64::consts::TAU / step).ceil() as u64;
+    must(reply.count == 100_000 && reply.warning == 6, "no warning 6 for a clamped arc", &case, &reply);
+    // The wanted count may differ by one where the quotient is near a whole number.
+    must(reply.wanted.abs_diff(wanted) <= 1, &format!("wanted is not {wanted}"), &case, &reply);
+}
+
+/// Every length of state, row and store from 0 to 64, on valid words.
+fn every_length(rng: &mut Rng, tally: &mut Tally) {
+    for length in 0..=64usize {
+        let state = good_state(rng, 0);
+        let row = good_row(rng, 2);
+        let mut cut = state.clone();
+        cut.resize(length, 0);
+        let base = |call: Call| Case { call, state: state.clone(), store: Vec::new(), row_words: ROW };
+        for call in [Call::Start(1f64.to_bits(), vec![0, 1]), Call::Seed(0, 0), Call::Push(row.clone()), Call::Close] {
+            check(&Case { state: cut.clone(), ..base(call) }, tally);
+        }
+        let mut short = row.clone();
+        short.resize(length, 0);
+        check(&base(Call::Push(short)), tally);
+        check(&Case { row_words: length, ..base(Call::Push(row.clone())) }, tally);
+        check(&Case { store: vec![7; length], ..base(Call::Push(good_row(rng, 5))) }, tally);
+        check(&base(Call::Start(1f64.to_bits(), (0..length as u64).collect())), tally);
+    }
+}
+
+fn main() {
+    let number = |i: usize, or: u64| std::env::args().nth(i).map_or(or, |text| text.parse().expect("a number"));
+    let (count, seed) = (number(1, 100_000), number(2, 1));
+    let mut rng = Rng(seed.wrapping_mul(0x9E37_79B9_7F4A_7C15) | 1);
+    let mut tally = Tally::default();
+    every_length(&mut rng, &mut tally);
+    clamped_arc(&mut tally);
+    for _ in 0..count {
+        let case = any_case(&mut rng);
+        check(&case, &mut tally);
+    }
+    print!("fuzz: seed {seed}, as the model says:");
+    for (code, calls) in tally.codes.iter().enumerate().filter(|(_, &calls)| calls > 0) {
+        print!(" {calls} of {code},");
+    }
+    println!(" {} asked again, {} rows, {} left out", tally.asked_again, tally.rows, tally.left_out);
+}

@@ -1,0 +1,248 @@
+//! A safe Rust host: the flattener behind the C interface of docs/INTERFACE.md, with its memory.
+
+mod calls {
+    /// The reply as C returns it.
+    #[repr(C)]
+    #[derive(Clone, Copy, Debug, PartialEq)]
+    pub struct Reply {
+        pub code: u64,
+        pub count: u64,
+        pub warning: u64,
+        pub wanted: u64,
+        pub held: u64,
+    }
+
+    extern "C" {
+        pub fn flat_start(state: *mut u64, words: usize, tolerance: u64, axes: *const u64, count: usize) -> Reply;
+        pub fn flat_seed(state: *mut u64, words: usize, axis: u64, value: u64) -> Reply;
+        pub fn flat_push(
+            state: *mut u64,
+            words: usize,
+            store: *mut u64,
+            store_words: usize,
+            rows: *mut u64,
+            row_words: usize,
+            row: *const u64,
+            this_row_words: usize,
+        ) -> Reply;
+        pub fn flat_close(
+            state: *mut u64,
+            words: usize,
+            store: *const u64,
+            store_words: usize,
+            rows: *mut u64,
+            row_words: usize,
+        ) -> Reply;
+    }
+}
+
+pub const CELLS: usize = 23;
+const ROW_WORDS: usize = 6 + CELLS;
+const STATE_WORDS: usize = 44;
+const STORE_WORDS: usize = 256 * ROW_WORDS;
+const TOO_FEW_PLACES: u64 = 7;
+
+/// A block or an output row. A motion, plane or carry of 0 is none.
+#[derive(Clone, Debug, Default, PartialEq)]
+pub struct Row {
+    pub line: u32,
+    pub motion: u8,
+    pub plane: u8,
+    pub marked: bool,
+    pub carry: u64,
+    pub cells: [Option<f64>; CELLS],
+}
+
+impl Row {
+    fn to_words(&self) -> [u64; ROW_WORDS] {
+        let mut words = [0; ROW_WORDS];
+        let head = [self.line.into(), self.motion.into(), self.plane.into(), self.marked.into(), self.carry];
+        words[..5].copy_from_slice(&head);
+        for (k, cell) in self.cells.iter().enumerate() {
+            if let Some(number) = cell {
+                words[5] |= 1 << k;
+                words[6 + k] = number.to_bits();
+            }
+        }
+        words
+    }
+
+    fn from_words(words: &[u64]) -> Row {
+        let mut row = Row {
+            line: words[0] as u32,
+            motion: words[1] as u8,
+            plane: words[2] as u8,
+            marked: words[3] != 0,
+            carry: words[4],
+            ..Row::default()
+        };
+        for (k, cell) in row.cells.iter_mut().enumerate() {
+            *cell = (words[5] >> k & 1 == 1).then(|| f64::from_bits(words[6 + k]));
+        }
+        row
+    }
+}
+
+/// Document 01's reply number of a call that was refused. Nothing was changed.
+#[derive(Clone, Copy, Debug, PartialEq)]
+pub struct Refused(pub u64);
+
+/// What an accepted call said besides its rows.
+#[derive(Clone, Copy, Debug, PartialEq)]
+pub struct Said {
+    pub warning: u64,
+    /// The rows that an arc wanted, with warning 6.
+    pub wanted: u64,
+    /// Bit k: axis k held its end for want of a start.
+    pub held: u64,
+}
+
+/// A flattener with the memory that it needs: the saved state, the spline store, and row places, which grow.
+pub struct Flattener {
+    state: Vec<u64>,
+    store: Vec<u64>,
+    rows: Vec<u64>,
+}
+
+impl Flattener {
+    pub fn start(tolerance: f64, axes: &[u64]) -> Result<Flattener, Refused> {
+        let mut state = vec![0; STATE_WORDS];
+        // Pointers and lengths of live vectors of our own, here and below.
+        let reply = unsafe {
+            calls::flat_start(state.as_mut_ptr(), state.len(), tolerance.to_bits(), axes.as_ptr(), axes.len())
+        };
+        accepted(reply)?;
+        Ok(Flattener { state, store: vec![0; STORE_WORDS], rows: vec![0; 256 * ROW_WORDS] })
+    }
+
+    pub fn seed(&mut self, axis: u64, value: f64) -> Result<(), Refused> {
+        let reply = unsafe { calls::flat_seed(self.state.as_mut_ptr(), self.state.len(), axis, value.to_bits()) };
+        accepted(reply).map(drop)
+    }
+
+    pub fn push(&mut self, row: &Row, out: &mut Vec<Row>) -> Result<Said, Refused> {
+        let words = row.to_words();
+        self.with_room(out, |state, store, rows| unsafe {
+            calls::flat_push(
+                state.as_mut_ptr(),
+                state.len(),
+                store.as_mut_ptr(),
+                store.len(),
+                rows.as_mut_ptr(),
+                rows.len(),
+                words.as_ptr(),
+                words.len(),
+            )
+        })
+    }
+
+    pub fn close(&mut self, out: &mut Vec<Row>) -> Result<Said, Refused> {
+        self.with_room(out, |state, store, rows| unsafe {
+            calls::flat_close(
+                state.as_mut_ptr(),
+                state.len(),
+                store.as_ptr(),
+                store.len(),
+                rows.as_mut_ptr(),
+                rows.len(),
+            )
+        })
+    }
+
+    /// Makes the call; where it needs more places, once more with as many as it says.
+    fn with_room(
+        &mut self,
+        out: &mut Vec<Row>,
+        call: impl Fn(&mut [u64], &mut [u64], &mut [u64]) -> calls::Reply,
+    ) -> Result<Said, Refused> {
+        let mut reply = call(&mut self.state, &mut self.store, &mut self.rows);
+        if reply.code == TOO_FEW_PLACES {
+            self.rows.resize(reply.count as usize * ROW_WORDS, 0);
+            reply = call(&mut self.state, &mut self.store, &mut self.rows);
+        }
+        let said = accepted(reply)?;
+        let written = self.rows.chunks_exact(ROW_WORDS).take(reply.count as usize);
+        out.extend(written.map(Row::from_words));
+        Ok(said)
+    }
+}
+
+fn accepted(reply: calls::Reply) -> Result<Said, Refused> {
+    match reply.code {
+        0 => Ok(Said { warning: reply.warning, wanted: reply.wanted, held: reply.held }),
+        code => Err(Refused(code)),
+    }
+}
+
+#[cfg(test)]
+mod tests {
+    use super::*;
+
+    const X: usize = 0;
+    const Y: usize = 1;
+    const Z: usize = 2;
+    const F: usize = 11;
+    const I: usize = 15;
+    const TURN: usize = 19;
+
+    fn block(line: u32, motion: u8, cells: &[(usize, f64)]) -> Row {
+        let mut row = Row { line, motion, ..Row::default() };
+        for &(k, number) in cells {
+            row.cells[k] = Some(number);
+        }
+        row
+    }
+
+    #[test]
+    fn the_whole_case_of_document_01() {
+        let mut flattener = Flattener::start(0.1, &[0, 1, 2]).unwrap();
+        let mut out = Vec::new();
+        let blocks = [
+            Row { plane: 17, ..block(1, 2, &[(X, 0.04), (Y, 0.0), (F, 1000.0)]) },
+            block(2, 4, &[(X, 0.0), (Y, 0.04), (I, -0.04)]),
+            block(3, 5, &[(X, 10.0), (Y, 0.04)]),
+            block(4, 0, &[(X, 20.0)]),
+            block(5, 0, &[(F, 500.0)]),
+            block(6, 2, &[(X, 0.0), (Y, 0.0)]),
+        ];
+        for row in &blocks {
+            flattener.push(row, &mut out).unwrap();
+        }
+        flattener.close(&mut out).unwrap();
+        let want = [
+            blocks[0].clone(),
+            block(2, 2, &[(X, 0.0), (Y, 0.04)]),
+            block(3, 2, &[(X, 10.0), (Y, 0.04)]),
+            block(4, 0, &[(X, 20.0), (Y, 0.04)]),
+            blocks[4].clone(),
+            blocks[5].clone(),
+        ];
+        assert_eq!(out, want);
+    }
+
+    #[test]
+    fn places_grow_for_a_long_arc() {
+        let mut flattener = Flattener::start(0.1, &[0, 1, 2]).unwrap();
+        flattener.seed(0, 10.0).unwrap();
+        flattener.seed(1, 0.0).unwrap();
+        let mut out = Vec::new();
+        let said = flattener.push(&block(1, 4, &[(X, 10.0), (Z, 5.0), (I, -10.0), (TURN, 99.0)]), &mut out).unwrap();
+        assert_eq!((said.warning, said.held), (0, 1 << Z));
+        assert_eq!(out.len(), 2220);
+        assert!(out[..2219].iter().all(|row| row.marked && row.line == 1));
+        assert_eq!(out[2219], block(1, 0, &[(X, 10.0), (Y, 0.0), (Z, 5.0)]));
+    }
+
+    #[test]
+    fn a_refusal_has_its_number_and_changes_nothing() {
+        assert_eq!(Flattener::start(0.0, &[0]).err(), Some(Refused(1)));
+        assert_eq!(Flattener::start(0.1, &[15]).err(), Some(Refused(2)));
+        let mut flattener = Flattener::start(0.1, &[0, 1, 2]).unwrap();
+        assert_eq!(flattener.seed(0, f64::NAN), Err(Refused(3)));
+        let before = flattener.state.clone();
+        let mut out = Vec::new();
+        assert_eq!(flattener.push(&block(1, 32, &[]), &mut out), Err(Refused(4)));
+        assert_eq!(flattener.push(&block(1, 2, &[(TURN, 1001.0)]), &mut out), Err(Refused(5)));
+        assert_eq!((flattener.state, out), (before, Vec::new()));
+    }
+}
