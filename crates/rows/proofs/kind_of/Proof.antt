@@ -1,0 +1,58 @@
+-- `rows::kind_of` meets its contract. Assumes nothing.
+use mathlib.Core.Path.{sym, ap, _∙_}
+use native.Mathlib.Omega.{arith}
+use borrow.Author.Tests.{le-leb, lt-leb, ne-eqb}
+use Rattle.rows.specs.Truth.{cond-t, cond-f}
+use Rattle.rows.specs.Codes.{kindOf}
+use Rattle.rows.proofs.kind_of.Statement.{statement}
+use Rattle.rows.proofs.kind_of.Tie as tie
+
+returns : tie.Need-returns
+unfolding kindOf
+returns c = sym (ap kindOf (c .match .keys1))
+
+returns-2 : tie.Need-returns-2
+unfolding kindOf
+returns-2 c = sym (ap kindOf (c .match .keys2))
+
+returns-3 : tie.Need-returns-3
+unfolding kindOf
+returns-3 c = sym (ap kindOf (c .match .keys3))
+
+returns-4 : tie.Need-returns-4
+unfolding kindOf
+returns-4 c = sym (ap kindOf (c .match .keys4))
+
+returns-5 : tie.Need-returns-5
+unfolding kindOf
+returns-5 c = sym (ap kindOf (c .match .keys5))
+
+returns-6 : tie.Need-returns-6
+unfolding kindOf
+returns-6 c = sym (ap kindOf (c .match .keys6))
+
+returns-7 : tie.Need-returns-7
+unfolding kindOf
+returns-7 c = sym (cond-f _ _ (ne-eqb _ _ ((c .before .match .rest) .0 .0 .0 .0 .0 .1)) ∙ cond-t _ _ (le-leb (c .before .before .args .motion) 2 (omega arith)))
+
+returns-8 : tie.Need-returns-8
+unfolding kindOf
+returns-8 c = sym (cond-f _ _ (ne-eqb _ _ ((c .before .before .match .rest) .0 .0 .0 .0 .0 .1)) ∙ cond-f _ _ (lt-leb (c .before .before .before .args .motion) 2 (omega arith)) ∙ cond-f _ _ (ne-eqb _ _ ((c .before .before .match .rest) .0 .0 .0 .0 .1)) ∙ cond-f _ _ (ne-eqb _ _ ((c .before .before .match .rest) .0 .0 .0 .1)) ∙ cond-f _ _ (ne-eqb _ _ ((c .before .before .match .rest) .0 .0 .1)) ∙ cond-f _ _ (ne-eqb _ _ ((c .before .before .match .rest) .0 .1)) ∙ cond-f _ _ (ne-eqb _ _ ((c .before .before .match .rest) .1)) ∙ cond-t _ _ (le-leb (c .before .before .before .args .motion) 31 (omega arith)))
+
+returns-9 : tie.Need-returns-9
+unfolding kindOf
+returns-9 c = sym (cond-f _ _ (ne-eqb _ _ ((c .before .before .match .rest) .0 .0 .0 .0 .0 .1)) ∙ cond-f _ _ (lt-leb (c .before .before .before .args .motion) 2 (omega arith)) ∙ cond-f _ _ (ne-eqb _ _ ((c .before .before .match .rest) .0 .0 .0 .0 .1)) ∙ cond-f _ _ (ne-eqb _ _ ((c .before .before .match .rest) .0 .0 .0 .1)) ∙ cond-f _ _ (ne-eqb _ _ ((c .before .before .match .rest) .0 .0 .1)) ∙ cond-f _ _ (ne-eqb _ _ ((c .before .before .match .rest) .0 .1)) ∙ cond-f _ _ (ne-eqb _ _ ((c .before .before .match .rest) .1)) ∙ cond-f _ _ (lt-leb (c .before .before .before .args .motion) 31 (omega arith)))
+
+pub kind-of-spec : {M : Type 1} → statement M
+kind-of-spec =
+    tie.close
+    (tie.spec
+    returns
+    returns-2
+    returns-3
+    returns-4
+    returns-5
+    returns-6
+    returns-7
+    returns-8
+    returns-9)

@@ -1,0 +1,12 @@
+-- `rows::within_range` meets its contract. Assumes nothing.
+use mathlib.Core.Path.{refl}
+use Rattle.rows.specs.Row.{within}
+use Rattle.rows.proofs.within_range.Statement.{statement}
+use Rattle.rows.proofs.within_range.Tie as tie
+
+returns : tie.Need-returns
+unfolding within
+returns c = refl
+
+pub within-range-spec : {M : Type 1} → statement M
+within-range-spec = tie.close (tie.spec returns)

@@ -1,0 +1,6 @@
+pub mod Codes
+pub mod Row
+pub mod KindCase
+pub mod Truth
+pub mod Masks
+pub mod RowLaws

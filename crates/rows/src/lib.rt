@@ -1,0 +1,355 @@
+// Rows as words: what an incoming row is refused for, what a motion cell says, and rows that go out.
+ghost use mathlib.Core.Path.{_≡_};
+ghost use mathlib.Core.Bool.{cond};
+ghost use mathlib.Core.List.{[], _∷_};
+ghost use mathlib.Core.Option.{Option·getD};
+ghost use Prim.Native.Nat.{_+_, _<_, _≤_, _^_};
+ghost use lib.ListN.{length};
+ghost use Rattle.floats.specs.Lists.{upto, spliced};
+ghost use Rattle.rows.specs.Codes.{axisCodes, cells, wCells, rowWords, planeOk, kindOf};
+ghost use Rattle.rows.specs.Row.{has, within, above1000, shapeOk, cellOk, numbersOk, turnOk, rowCheck, cell, shown, axesOf, outRow, rides, madeRow};
+ghost use Rattle.rows.specs.KindCase.{kindCase};
+ghost use Rattle.rows.specs.RowLaws.{cellWord, madeHas, madeWord, MadeOf};
+ghost use Rattle.rows.specs.Masks.{maskSum};
+
+pub const AXIS_CODES: usize = 10;
+
+pub const LAST_CODE: usize = 14;
+
+pub const C_CR: usize = 18;
+
+pub const C_TURN: usize = 19;
+
+pub const C_PW: usize = 20;
+
+pub const C_SD: usize = 21;
+
+pub const CELLS: usize = 23;
+
+pub const W_CELLS: usize = 6;
+
+pub const ROW_WORDS: usize = 29;
+
+pub fn has_bit(p: u64, k: u64) -> bool
+    requires { ⌜ k < 64 ⌝ }
+    ensures { λ r. ⌜ r ≡ has p k ⌝ }
+{
+    (p >> k) % 2 == 1
+}
+
+pub fn within_range(x: u64) -> bool
+    ensures { λ r. ⌜ r ≡ within x ⌝ }
+{
+    x % 0x8000_0000_0000_0000 <= 0x41CD_CD65_0000_0000
+}
+
+pub fn is_above_1000(x: u64) -> bool
+    ensures { λ r. ⌜ r ≡ above1000 x ⌝ }
+{
+    x < 0x8000_0000_0000_0000 && 0x408F_4000_0000_0000 < x
+}
+
+pub fn plane_ok(p: u64) -> bool
+    ensures { λ r. ⌜ r ≡ planeOk p ⌝ }
+{
+    p == 0 || (17 <= p && p <= 19)
+}
+
+pub fn shape_ok(row: &[u64]) -> bool
+    ensures { λ r. ⌜ r ≡ shapeOk (now (row .entry)) ⌝ }
+{
+    if row.len() != ROW_WORDS {
+        return false;
+    }
+    if row[0] >= 0x1_0000_0000 {
+        return false;
+    }
+    if row[1] > 31 {
+        return false;
+    }
+    if !plane_ok(row[2]) {
+        return false;
+    }
+    if row[3] != 0 {
+        return false;
+    }
+    row[5] < 0x80_0000
+}
+
+// Whether cell k is absent or in range. An absent cell is not read.
+fn cell_ok(row: &[u64], k: usize) -> bool
+    requires { ⌜ (length (now row) ≡ rowWords) × (k < cells) ⌝ }
+    ensures { λ r. ⌜ r ≡ cellOk (now (row .entry)) k ⌝ }
+{
+    if has_bit(row[5], k as u64) {
+        within_range(row[W_CELLS + k])
+    } else {
+        true
+    }
+}
+
+pub fn numbers_ok(row: &[u64]) -> bool
+    requires { ⌜ length (now row) ≡ rowWords ⌝ }
+    ensures { λ r. ⌜ r ≡ numbersOk (now (row .entry)) ⌝ }
+{
+    let mut k: usize = 0;
+    while k < CELLS {
+        if !cell_ok(row, k) {
+            return false;
+        }
+        k += 1;
+    }
+    true
+}
+
+pub fn turn_ok(row: &[u64]) -> bool
+    requires { ⌜ length (now row) ≡ rowWords ⌝ }
+    ensures { λ r. ⌜ r ≡ turnOk (now (row .entry)) ⌝ }
+{
+    if has_bit(row[5], C_TURN as u64) {
+        !is_above_1000(row[W_CELLS + C_TURN])
+    } else {
+        true
+    }
+}
+
+// 0, or the number of the refusal that an incoming row is due.
+pub fn check_row(row: &[u64]) -> u64
+    ensures { λ r. ⌜ r ≡ rowCheck (now (row .entry)) ⌝ }
+{
+    if !shape_ok(row) {
+        return 4;
+    }
+    if !numbers_ok(row) {
+        return 3;
+    }
+    if !turn_ok(row) {
+        return 5;
+    }
+    0
+}
+
+// What a motion cell says.
+pub enum Kind {
+    Same,
+    Linear,
+    Clockwise,
+    Counter,
+    Akima,
+    Basis,
+    Cubic,
+    Other,
+    Refused,
+}
+
+pub fn kind_of(motion: u64) -> Kind
+    ensures { λ r. ⌜ kindCase r ≡ kindOf motion ⌝ }
+{
+    match motion {
+        0 => Kind::Same,
+        1..=2 => Kind::Linear,
+        3 => Kind::Clockwise,
+        4 => Kind::Counter,
+        5 => Kind::Akima,
+        6 => Kind::Basis,
+        7 => Kind::Cubic,
+        8..=31 => Kind::Other,
+        _ => Kind::Refused,
+    }
+}
+
+// The word that goes out for cell k: an absent cell is written as zero.
+pub fn cell_word(row: &[u64], k: usize) -> u64
+    requires { ⌜ (length (now row) ≡ rowWords) × (k < cells) ⌝ }
+    ensures { λ r. ⌜ r ≡ cellWord (now (row .entry)) k ⌝ }
+{
+    if has_bit(row[5], k as u64) {
+        return row[W_CELLS + k];
+    }
+    0
+}
+
+// The words of a row before its cells.
+fn put_head(
+    rows: &mut [u64],
+    at: usize,
+    line: u64,
+    motion: u64,
+    plane: u64,
+    mark: u64,
+    carry: u64,
+    present: u64,
+)
+    requires { ⌜ at + wCells ≤ length (now rows) ⌝ }
+    ensures { λ _. ⌜ now (rows .exit) ≡ spliced (now (rows .entry)) at (line ∷ motion ∷ plane ∷ mark ∷ carry ∷ present ∷ []) ⌝ }
+{
+    rows[at] = line;
+    rows[at + 1] = motion;
+    rows[at + 2] = plane;
+    rows[at + 3] = mark;
+    rows[at + 4] = carry;
+    rows[at + 5] = present;
+}
+
+fn put_cells(rows: &mut [u64], at: usize, row: &[u64])
+    requires { ⌜ (length (now row) ≡ rowWords) × (at + cells ≤ length (now rows)) ⌝ }
+    ensures { λ _. ⌜ now (rows .exit) ≡ spliced (now (rows .entry)) at (upto (cellWord (now (row .entry))) cells) ⌝ }
+{
+    let mut k: usize = 0;
+    while k < CELLS {
+        rows[at + k] = cell_word(row, k);
+        k += 1;
+    }
+}
+
+// Writes, from word `at` on, the row that goes out for `row` unchanged.
+pub fn put_row(rows: &mut [u64], at: usize, row: &[u64])
+    requires { ⌜ (length (now row) ≡ rowWords) × (at + rowWords ≤ length (now rows)) ⌝ }
+    ensures { λ _. ⌜ now (rows .exit) ≡ spliced (now (rows .entry)) at (outRow (now (row .entry))) ⌝ }
+{
+    put_head(
+        rows,
+        at,
+        row[0],
+        row[1],
+        row[2],
+        0,
+        row[4],
+        row[5] % 0x80_0000,
+    );
+    put_cells(rows, at + W_CELLS, row);
+}
+
+// Whether cell k rides on the first row of a group: not a geometric axis of the mask gs, and none of cells 15 to 22.
+fn is_rider(gs: u64, k: usize) -> bool
+    requires { ⌜ (gs < 2 ^ axisCodes) × (k < cells) ⌝ }
+    ensures { λ r. ⌜ r ≡ rides (axesOf gs) k ⌝ }
+{
+    if k > LAST_CODE {
+        return false;
+    }
+    !has_bit(gs, k as u64)
+}
+
+// Whether a made row has cell k.
+fn has_made(row: &[u64], gs: u64, first: bool, mask: u64, k: usize) -> bool
+    requires { ⌜ (length (now row) ≡ rowWords) × ((gs < 2 ^ axisCodes) × (k < cells)) ⌝ }
+    ensures { λ r. ⌜ r ≡ madeHas (axesOf gs) (now (row .entry)) first mask k ⌝ }
+{
+    if !first {
+        return has_bit(mask, k as u64);
+    }
+    if is_rider(gs, k) {
+        return has_bit(row[5], k as u64);
+    }
+    has_bit(mask, k as u64)
+}
+
+// The mask m of cells below k, with cell k.
+pub fn mask_with(m: u64, k: usize, present: bool) -> u64
+    requires { ⌜ (m < 2 ^ k) × (k < cells) ⌝ }
+    ensures { λ r. ⌜ r ≡ m + cond present (2 ^ k) 0 ⌝ }
+{
+    if present {
+        return m + (1 << k as u64);
+    }
+    m
+}
+
+// The presence mask of a made row.
+fn made_mask(row: &[u64], gs: u64, first: bool, mask: u64) -> u64
+    requires { ⌜ (length (now row) ≡ rowWords) × (gs < 2 ^ axisCodes) ⌝ }
+    ensures { λ r. ⌜ r ≡ maskSum (madeHas (axesOf gs) (now (row .entry)) first mask) cells ⌝ }
+{
+    let mut m: u64 = 0;
+    let mut k: usize = 0;
+    while k < CELLS {
+        m = mask_with(m, k, has_made(row, gs, first, mask, k));
+        k += 1;
+    }
+    m
+}
+
+// The word of a point's axis k, zero where the mask has it not.
+fn shown_word(mask: u64, words: &[u64], k: usize) -> u64
+    requires { ⌜ (mask < 2 ^ axisCodes) × ((axisCodes ≤ length (now words)) × (k < cells)) ⌝ }
+    ensures { λ r. ⌜ r ≡ Option·getD (shown mask (now (words .entry)) k) 0 ⌝ }
+{
+    if k >= AXIS_CODES {
+        return 0;
+    }
+    if has_bit(mask, k as u64) {
+        return words[k];
+    }
+    0
+}
+
+// The word of cell k of a made row.
+fn made_word(row: &[u64], gs: u64, first: bool, mask: u64, words: &[u64], k: usize) -> u64
+    requires { ⌜ MadeOf (now row) gs mask (now words) × (k < cells) ⌝ }
+    ensures { λ r. ⌜ r ≡ madeWord (axesOf gs) (now (row .entry)) first (shown mask (now (words .entry))) k ⌝ }
+{
+    if !first {
+        return shown_word(mask, words, k);
+    }
+    if is_rider(gs, k) {
+        return cell_word(row, k);
+    }
+    shown_word(mask, words, k)
+}
+
+fn put_made_cells(
+    rows: &mut [u64],
+    at: usize,
+    row: &[u64],
+    gs: u64,
+    first: bool,
+    mask: u64,
+    words: &[u64],
+)
+    requires { ⌜ MadeOf (now row) gs mask (now words) × (at + cells ≤ length (now rows)) ⌝ }
+    ensures { λ _. ⌜ now (rows .exit) ≡ spliced (now (rows .entry)) at (upto (madeWord (axesOf gs) (now (row .entry)) first (shown mask (now (words .entry)))) cells) ⌝ }
+{
+    let mut k: usize = 0;
+    while k < CELLS {
+        rows[at + k] = made_word(row, gs, first, mask, words, k);
+        k += 1;
+    }
+}
+
+fn if_first(first: bool, x: u64) -> u64
+    ensures { λ r. ⌜ r ≡ cond first x 0 ⌝ }
+{
+    if first { x } else { 0 }
+}
+
+// Writes, from word `at` on, a row of the group of `row`: its geometric cells are the words of the mask, and the first
+// row has the motion and what rides along. gs is the mask of the geometric axes.
+pub fn put_made(
+    rows: &mut [u64],
+    at: usize,
+    row: &[u64],
+    gs: u64,
+    first: bool,
+    motion: u64,
+    marked: bool,
+    mask: u64,
+    words: &[u64],
+)
+    requires { ⌜ MadeOf (now row) gs mask (now words) × (at + rowWords ≤ length (now rows)) ⌝ }
+    ensures { λ _. ⌜ now (rows .exit) ≡ spliced (now (rows .entry)) at (madeRow (axesOf gs) (now (row .entry)) first motion marked (shown mask (now (words .entry)))) ⌝ }
+{
+    let present = made_mask(row, gs, first, mask);
+    let mark = if_first(marked, 1);
+    put_head(
+        rows,
+        at,
+        row[0],
+        if_first(first, motion),
+        if_first(first, row[2]),
+        mark,
+        if_first(first, row[4]),
+        present,
+    );
+    put_made_cells(rows, at + W_CELLS, row, gs, first, mask, words);
+}
