@@ -6,10 +6,10 @@ use crate::words::*;
 impl Gen {
     pub fn axis_list(&mut self) -> Vec<u64> {
         match self.rng.below(10) {
-            0..=3 => vec![0, 1, 2],
-            4 => vec![0, 1, 2, 9],
-            5 => (0..15).collect(),
-            6 | 7 => self.shuffled(vec![0, 1, 2, 9]),
+            0..=2 => vec![0, 1, 2],
+            3 => vec![0, 1, 2, 9],
+            4 => (0..15).collect(),
+            5..=7 => self.shuffled(vec![0, 1, 2, 9]),
             8 if self.rng.one_in(4) => Vec::new(),
             _ => {
                 let list = (0..15).filter(|_| !self.rng.one_in(3)).collect();
@@ -87,7 +87,7 @@ impl Gen {
     /// A tolerance that gives about `rows` rows a block, and never one that rounding noise could not meet.
     pub fn spline_tolerance(&mut self, rows: f64) -> f64 {
         let noise = 1e-11 * (self.origin.abs() + self.scale);
-        (self.scale / (rows * rows)).max(noise)
+        (0.05 * self.scale / (rows * rows)).max(noise)
     }
 
     pub fn splines(&mut self) {
@@ -103,7 +103,7 @@ impl Gen {
         let power = (degree.min(points as u64) as f64).max(1.0);
         let work = if motion == 6 { 4e6 / (power * power) } else { 4000.0 };
         let most = (work / points as f64).clamp(1.0, 400.0);
-        let rows = self.rng.power(-1.5, most.log10());
+        let rows = self.rng.power(-0.7, most.log10().max(0.0));
         let tolerance = self.spline_tolerance(rows);
         self.begin(tolerance);
         if self.rng.one_in(6) {

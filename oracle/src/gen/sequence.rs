@@ -224,7 +224,9 @@ impl Gen {
     pub fn some_axes(&mut self, block: &mut Block, one_in: u64) {
         for k in self.axes() {
             if self.rng.one_in(one_in) {
-                let x = if self.rng.one_in(8) { self.any_number() } else { self.coordinate() };
+                // Not so far away that a spline from there would need a row for each bit of its tolerance.
+                let far = 1e4 * self.scale + self.origin.abs();
+                let x = if self.rng.one_in(8) { self.any_number().clamp(-far, far) } else { self.coordinate() };
                 block.set(k, x);
             }
         }

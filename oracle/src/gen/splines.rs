@@ -7,9 +7,9 @@ impl Gen {
     /// A spline of some blocks, its tolerance already chosen; the caller ends it.
     pub fn spline(&mut self, motion: u64, points: usize) {
         let axes = self.axes();
-        let used: Vec<usize> = match self.rng.below(4) {
-            0 => axes.clone(),
-            1 => axes.iter().copied().filter(|&k| k > 2).collect(),
+        let used: Vec<usize> = match self.rng.below(8) {
+            0..=3 => axes.clone(),
+            4 => axes.iter().copied().filter(|&k| k > 2).collect(),
             _ => axes.iter().copied().filter(|_| !self.rng.one_in(3)).collect(),
         };
         let shape = self.rng.below(12);

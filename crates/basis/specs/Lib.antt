@@ -1,0 +1,11 @@
+pub mod Basis
+pub mod BasisLaws
+pub mod EndPoint
+pub mod Joins
+pub mod LastOwner
+pub mod LastRun
+pub mod Mirror
+pub mod RowLaws
+pub mod Spans
+pub mod TableLaws
+pub mod Tables

@@ -1,0 +1,4 @@
+pub mod boor;
+pub mod owner;
+pub mod point;
+pub mod tables;

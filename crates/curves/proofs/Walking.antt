@@ -1,0 +1,92 @@
+-- What the walks cite of points, flat stretches and owners. Assumes nothing.
+use mathlib.Core.Path.{_≡_, refl, sym, ap, _∙_}
+use mathlib.Core.List.{List, _++_}
+use mathlib.Core.Bool.{Bool, true, false, cond}
+use Prim.Native.Nat.{ℕ, zero, suc, _+_, _-_, _≤_, _<_}
+use native.Mathlib.Omega.{arith}
+use lib.ListN.{length, take, drop, replicate}
+use lib.Seq.{take-at}
+use lib.Ieee as Ieee
+use lib.Ieee.{Float, lt}
+use Rattle.floats.specs.Numbers.{_⊕_, _⊖_, _⊗_, f0, f¼, f¾}
+use Rattle.floats.specs.Lists.{upto, filled}
+use Rattle.floats.specs.Fill.{length-upto, length-filled, upto-same}
+use Rattle.metric.specs.Metric.{deviationOf}
+use Rattle.metric.specs.Walk.{near, flat}
+use Rattle.fit.specs.Memory.{fitAt}
+use Rattle.basis.specs.Tables.{curveAt, advanced, grevilleAt}
+use Rattle.curves.specs.declared.Shape.{Shape}
+use Rattle.curves.specs.Walks.{fitTimes, fitPoints, fitSlopes, pointAt, Tables, Stretch, Owners, ownOf, Counts}
+
+-- a point is the first ch of an array's numbers
+module _ (f : ℕ → Float) (ch : ℕ) {q : List Float} (eq : q ≡ filled f ch (replicate 16 f0)) where
+  pub point-is : take ch q ≡ upto f ch
+  point-is = ap (take ch) eq ∙ take-at (upto f ch) (drop ch (replicate 16 f0)) ch (length-upto f ch)
+
+  pub point-length : length (take ch q) ≡ ch
+  point-length = ap length point-is ∙ length-upto f ch
+
+  pub point-room : ch ≤ 10 → length q ≡ 16
+  point-room h = ap length eq ∙ length-filled f (replicate 16 f0) ch (omega arith)
+
+module _ (s : Shape) (ks cs : List Float) (t : Float) (l : List Float) {r : List Float} where
+  pub spline-point : s .basis ≡ true → r ≡ filled (curveAt ks cs (s .n) (s .size) (s .ch) t) (s .ch) l → r ≡ filled (pointAt s ks cs t) (s .ch) l
+  unfolding pointAt
+  spline-point e h = h ∙ ap (λ (z : List Float). z ++ drop (s .ch) l) (upto-same _ _ (λ c. rw e) (s .ch))
+
+  pub fit-point : s .basis ≡ false → r ≡ filled (fitAt (fitTimes ks) (fitPoints cs) (fitSlopes cs) (s .size) (s .ch) t) (s .ch) l → r ≡ filled (pointAt s ks cs t) (s .ch) l
+  unfolding pointAt
+  fit-point e h = h ∙ ap (λ (z : List Float). z ++ drop (s .ch) l) (upto-same _ _ (λ c. rw e) (s .ch))
+
+pub near-is : (ms : List ℕ) (tol : Float) (p0 p1 p : List Float) {r : Float} → r ≡ deviationOf p p0 p1 ms → Ieee.le r tol ≡ near ms tol p0 p1 p
+unfolding near
+near-is ms tol p0 p1 p e = rw e
+
+module _ (ev : Float → List Float) (ms : List ℕ) (tol t0 : Float) (p0 : List Float) (t1 : Float) (p1 pm : List Float) where
+  pub flat-no : {a : Bool} → a ≡ near ms tol p0 p1 pm → a ≡ false → false ≡ flat ev ms tol t0 p0 t1 p1 pm
+  unfolding flat
+  flat-no e h = rw (sym e ∙ h)
+
+  pub flat-no-2 : {a b : Bool} → a ≡ near ms tol p0 p1 pm → a ≡ true → b ≡ near ms tol p0 p1 (ev (t0 ⊕ f¼ ⊗ (t1 ⊖ t0))) → b ≡ false → false ≡ flat ev ms tol t0 p0 t1 p1 pm
+  unfolding flat
+  flat-no-2 e h g k = rw (sym e ∙ h, sym g ∙ k)
+
+  pub flat-last : {a b z : Bool} → a ≡ near ms tol p0 p1 pm → a ≡ true → b ≡ near ms tol p0 p1 (ev (t0 ⊕ f¼ ⊗ (t1 ⊖ t0))) → b ≡ true
+      → z ≡ near ms tol p0 p1 (ev (t0 ⊕ f¾ ⊗ (t1 ⊖ t0))) → z ≡ flat ev ms tol t0 p0 t1 p1 pm
+  unfolding flat
+  flat-last e h g k m = rw (sym e ∙ h, sym g ∙ k) m
+
+-- between other points
+pub stretch-at : {s : Shape} {ms : List ℕ} {ks cs p0 p1 q0 q1 : List Float} → Stretch s ms ks cs p0 p1 → length q0 ≡ s .ch → length q1 ≡ s .ch → Stretch s ms ks cs q0 q1
+stretch-at w e0 e1 = record { tables = w .tables; metric = w .metric; first = e0; end = e1 }
+
+-- ---- owners
+
+advanced-in : (ks : List Float) (p : ℕ) (t : Float) (left o : ℕ) → (o ≤ advanced ks p t left o) × (advanced ks p t left o ≤ o + left)
+unfolding advanced
+advanced-in ks p t zero o = omega arith
+advanced-in ks p t (suc left) o = go (lt (grevilleAt ks p o) t) (advanced-in ks p t left (o + 1))
+  where
+    go : (c : Bool) → (o + 1 ≤ advanced ks p t left (o + 1)) × (advanced ks p t left (o + 1) ≤ o + 1 + left)
+        → (o ≤ cond c (advanced ks p t left (o + 1)) o) × (cond c (advanced ks p t left (o + 1)) o ≤ o + suc left)
+    go true h = omega arith
+    go false h = omega arith
+
+pub own-in : (s : Shape) (ks : List Float) (o : ℕ) (t : Float) → o ≤ s .n - 1 → (o ≤ ownOf s ks o t) × (ownOf s ks o t ≤ s .n - 1)
+unfolding ownOf
+own-in s ks o t h = go (s .basis)
+  where
+    go : (b : Bool) → (o ≤ cond b (advanced ks (s .size) t (s .n - 1 - o) o) o) × (cond b (advanced ks (s .size) t (s .n - 1 - o) o) o ≤ s .n - 1)
+    go true = omega (arith, advanced-in ks (s .size) t (s .n - 1 - o) o)
+    go false = omega arith
+
+pub owners-of : {s : Shape} {ks cs : List Float} → Tables s ks cs → (o : ℕ) → o ≤ s .n - 1 → Owners s ks o
+owners-of t o h = record {
+  owned = h;
+  one = λ e. omega (arith, t .spline e .under);
+  knots = λ e. omega (arith, t .spline e .knots, t .spline e .some);
+  low = λ e. omega (arith, t .spline e .under, t .spline e .few);
+}
+
+pub owner-index : {s : Shape} {ks : List Float} {o : ℕ} {l : List ℕ} (t : Float) {r : ℕ} → Owners s ks o × Counts s o 0 l → r ≡ ownOf s ks o t → r - 1 < s .n - 1
+owner-index {s} {ks} {o} {l} t h e = omega (arith, own-in s ks o t (h .1 .owned), h .1 .some)

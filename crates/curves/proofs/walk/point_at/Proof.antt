@@ -1,0 +1,78 @@
+use Rattle.curves.proofs.Walking.{spline-point, fit-point}
+use borrow.Author.Needs.{needs}
+use Rattle.curves.proofs.walk.point_at.Statement.{statement}
+use Rattle.curves.proofs.walk.point_at.Tie as tie
+use Rattle.curves.proofs.walk.point_at.Reads as reads
+use Rattle.curves.proofs.walk.point_at.Lts as lts
+use Rattle.basis.proofs.point.eval.Reads as eval-reads
+use Rattle.fit.proofs.eval_fit.Reads as eval-fit-reads
+
+-- src/walk.rt:24:9
+eval-requires : tie.Need-eval-requires
+eval-requires c κs = (c .before .before .before .pre) .spline (c .if1 .taken)
+
+-- src/walk.rt:24:9
+returns : tie.Need-returns
+returns c = spline-point _ _ _ _ _ (c .before .if1 .taken) (c .eval .ensures)
+
+-- src/walk.rt:26:19
+sub-eval-fit : tie.Need-sub-eval-fit
+sub-eval-fit c = search needs
+
+-- src/walk.rt:26:19
+part-eval-fit-start : tie.Need-part-eval-fit-start
+part-eval-fit-start c = search needs
+
+-- src/walk.rt:26:19
+part-eval-fit-end : tie.Need-part-eval-fit-end
+part-eval-fit-end c = search needs
+
+-- src/walk.rt:26:34
+sub-eval-fit-2 : tie.Need-sub-eval-fit-2
+sub-eval-fit-2 c = search needs
+
+-- src/walk.rt:26:34
+part-eval-fit-start-2 : tie.Need-part-eval-fit-start-2
+part-eval-fit-start-2 c = search needs
+
+-- src/walk.rt:26:34
+part-eval-fit-end-2 : tie.Need-part-eval-fit-end-2
+part-eval-fit-end-2 c = search needs
+
+-- src/walk.rt:26:48
+sub-eval-fit-3 : tie.Need-sub-eval-fit-3
+sub-eval-fit-3 c = search needs
+
+-- src/walk.rt:26:48
+part-eval-fit-start-3 : tie.Need-part-eval-fit-start-3
+part-eval-fit-start-3 c = search needs
+
+-- src/walk.rt:26:48
+part-eval-fit-end-3 : tie.Need-part-eval-fit-end-3
+part-eval-fit-end-3 c = search needs
+
+-- src/walk.rt:26:5
+eval-fit-requires : tie.Need-eval-fit-requires
+eval-fit-requires c κs = (c .before .before .before .before .before .before .pre) .fit (c .before .before .before .if1 .left)
+
+-- src/walk.rt:15:1
+returns-2 : tie.Need-returns-2
+returns-2 c = fit-point _ _ _ _ _ (c .before .before .before .before .if1 .left) (c .eval-fit .ensures)
+
+pub point-at-spec : {M : Type 1} → statement M
+point-at-spec =
+    tie.close
+    (tie.spec
+    eval-requires
+    returns
+    sub-eval-fit
+    part-eval-fit-start
+    part-eval-fit-end
+    sub-eval-fit-2
+    part-eval-fit-start-2
+    part-eval-fit-end-2
+    sub-eval-fit-3
+    part-eval-fit-start-3
+    part-eval-fit-end-3
+    eval-fit-requires
+    returns-2)

@@ -1,0 +1,15 @@
+// The samples of a spline of any kind, counted by block and written.
+pub mod fitted;
+pub mod runs;
+pub mod segment;
+pub mod sizes;
+pub mod spline;
+pub mod walk;
+
+// A curve's tables, in short: a B-spline of degree `size`, or a fit of `size` kept points; n points of ch numbers.
+pub struct Shape {
+    pub basis: bool,
+    pub n: usize,
+    pub ch: usize,
+    pub size: usize,
+}

@@ -1,0 +1,88 @@
+// The samples of a B-spline, knot span by knot span.
+use crate::Shape;
+use crate::sizes::DEPTH;
+use crate::walk::count_walk;
+use crate::walk::point_at;
+use crate::walk::write_walk;
+ghost use mathlib.Core.Path.{_≡_};
+ghost use mathlib.Core.Bool.{true};
+ghost use Prim.Native.Nat.{_≤_, _-_};
+ghost use lib.ListN.{length};
+ghost use Rattle.floats.specs.Lists.{spliced};
+ghost use Rattle.metric.specs.Below.{Below};
+ghost use Rattle.curves.specs.Runs.{encode};
+ghost use Rattle.curves.specs.Walks.{evalOf, ownOf, Tables, Fresh, splineSamples, counted, pointsOf};
+
+// Counts the samples by owner.
+pub fn count_spline(s: Shape, tol: f64, ms: &[usize], ks: &[f64], cs: &[f64], counts: &mut [usize])
+    requires { ⌜ Tables s (now ks) (now cs) × (s .basis ≡ true) ⌝ }
+    requires { ⌜ Below (now ms) (s .ch) × Fresh s (now counts) ⌝ }
+    ensures { λ _. ⌜ now (counts .exit) ≡ counted (ownOf s (now (ks .entry))) 1 (splineSamples (evalOf s (now (ks .entry)) (now (cs .entry))) (now (ms .entry)) tol (s .n - s .size)) (now (counts .entry)) ⌝ }
+{
+    let n = s.n;
+    let p = s.size;
+    let ch = s.ch;
+    let spans = n - p;
+    let mut o = 1;
+    let mut t = 0.0;
+    let mut prev = point_at(s, ks, cs, t);
+    let mut j = 0;
+    while j < spans {
+        let u = (j + 1) as f64;
+        let next = point_at(s, ks, cs, u);
+        o = count_walk(
+            s,
+            ms,
+            tol,
+            DEPTH,
+            t,
+            &prev[..ch],
+            u,
+            &next[..ch],
+            ks,
+            cs,
+            o,
+            counts,
+        );
+        t = u;
+        prev = next;
+        j += 1;
+    }
+}
+
+// Writes the samples' points.
+pub fn write_spline(s: Shape, tol: f64, ms: &[usize], ks: &[f64], cs: &[f64], out: &mut [u64])
+    requires { ⌜ Tables s (now ks) (now cs) × (s .basis ≡ true) ⌝ }
+    requires { ⌜ Below (now ms) (s .ch) × (length (encode (pointsOf (splineSamples (evalOf s (now ks) (now cs)) (now ms) tol (s .n - s .size)))) ≤ length (now out)) ⌝ }
+    ensures { λ _. ⌜ now (out .exit) ≡ spliced (now (out .entry)) 0 (encode (pointsOf (splineSamples (evalOf s (now (ks .entry)) (now (cs .entry))) (now (ms .entry)) tol (s .n - s .size)))) ⌝ }
+{
+    let n = s.n;
+    let p = s.size;
+    let ch = s.ch;
+    let spans = n - p;
+    let mut from = 0;
+    let mut t = 0.0;
+    let mut prev = point_at(s, ks, cs, t);
+    let mut j = 0;
+    while j < spans {
+        let u = (j + 1) as f64;
+        let next = point_at(s, ks, cs, u);
+        from = write_walk(
+            s,
+            ms,
+            tol,
+            DEPTH,
+            t,
+            &prev[..ch],
+            u,
+            &next[..ch],
+            ks,
+            cs,
+            out,
+            from,
+        );
+        t = u;
+        prev = next;
+        j += 1;
+    }
+}

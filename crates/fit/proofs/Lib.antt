@@ -1,0 +1,5 @@
+pub mod Cubics
+pub mod Gathers
+pub mod Keeps
+pub mod Pieces
+pub mod Slopes

@@ -1,0 +1,8 @@
+pub mod Akima
+pub mod Blocks
+pub mod Fit
+pub mod FitLaws
+pub mod Kept
+pub mod Memory
+pub mod Order
+pub mod Prepare

@@ -1,0 +1,8 @@
+// The rules' numbers.
+
+// The start and 256 blocks.
+pub const MOST_POINTS: usize = 257;
+// A point stands in an array of this many numbers.
+pub const WIDEST: usize = 16;
+// No more than this counts as nothing: growth of the chord sum, Akima's weights.
+pub const SMALL: f64 = 1e-12;

@@ -1,0 +1,6 @@
+pub mod Below
+pub mod Ends
+pub mod Metric
+pub mod Points
+pub mod Walk
+pub mod WalkLaws
