@@ -1,0 +1,71 @@
+use mathlib.Core.Path.{_≡_, refl, sym, _∙_}
+use Prim.Native.Nat.{ℕ, _+_, _≤_, _-_}
+use native.Mathlib.Omega.{arith}
+use lib.ListN.{length}
+use Rattle.floats.specs.Lists.{filled}
+use Rattle.floats.specs.Fill.{Filling, filling-none, filling-more}
+use Rattle.places.specs.Groups.{placeOf}
+use borrow.Author.Needs.{needs}
+use Rattle.places.proofs.layout.places_of.Statement.{statement}
+use Rattle.places.proofs.layout.places_of.Tie as tie
+use Rattle.places.proofs.layout.places_of.Reads as reads
+use Rattle.places.proofs.layout.places_of.Lts as lts
+use Rattle.places.proofs.layout.place_of.Reads as place-of-reads
+
+abbrev Inv-loop : tie.InvT-loop
+Inv-loop chans places₀ k₀ places k = (k ≤ 10) × Filling (λ (k : ℕ). placeOf k chans) k places₀ places
+
+abbrev μ-loop : tie.MeasureT-loop
+μ-loop chans places₀ k₀ places k = 10 - k
+
+-- src/layout.rt:93:5
+loop-holds : tie.Need-loop-holds Inv-loop μ-loop
+loop-holds c = (omega arith, filling-none)
+
+-- src/layout.rt:94:21
+place-of-requires : tie.Need-place-of-requires Inv-loop μ-loop
+place-of-requires c κs = search needs
+
+-- src/layout.rt:94:9
+mul-places : tie.Need-mul-places Inv-loop μ-loop
+mul-places c = search needs
+
+-- src/layout.rt:94:9
+slice-write-places : tie.Need-slice-write-places Inv-loop μ-loop
+slice-write-places c = omega (arith, (c .before .before .loop .inv) .1 .same)
+
+-- src/layout.rt:95:9
+add-k : tie.Need-add-k Inv-loop μ-loop
+add-k c = search needs
+
+-- src/layout.rt:93:5
+loop-less : tie.Need-loop-less Inv-loop μ-loop
+loop-less c = search needs
+
+-- src/layout.rt:93:5
+loop-again : tie.Need-loop-again Inv-loop μ-loop
+loop-again c = (omega arith, filling-more ((c .before .before .loop .inv) .1) (omega arith) (c .place-of .ensures))
+
+-- src/layout.rt:88:1
+same-length : tie.Need-same-length Inv-loop μ-loop
+same-length c = (c .before .loop .inv) .1 .same
+
+-- src/layout.rt:88:1
+returns : tie.Need-returns Inv-loop μ-loop
+returns c = let e : (c .before .loop .k) ≡ 10 = omega arith in rw e at ((c .before .loop .inv) .1 .is)
+
+pub places-of-spec : {M : Type 1} → statement M
+places-of-spec =
+    tie.close
+    (tie.spec
+    Inv-loop
+    μ-loop
+    loop-holds
+    place-of-requires
+    mul-places
+    slice-write-places
+    add-k
+    loop-less
+    loop-again
+    same-length
+    returns)

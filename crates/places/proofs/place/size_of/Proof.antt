@@ -1,0 +1,16 @@
+use Rattle.places.specs.Sizes.{size-zero, size-some}
+use Rattle.places.proofs.place.size_of.Statement.{statement}
+use Rattle.places.proofs.place.size_of.Tie as tie
+use Rattle.places.proofs.place.size_of.Reads as reads
+use Rattle.places.proofs.place.size_of.Lts as lts
+
+-- src/place.rt:20:1
+returns : tie.Need-returns
+returns c = size-zero _ (c .if1 .taken)
+
+-- src/place.rt:20:1
+returns-2 : tie.Need-returns-2
+returns-2 c = size-some _ (c .if1 .left)
+
+pub size-of-spec : {M : Type 1} → statement M
+size-of-spec = tie.close (tie.spec returns returns-2)

@@ -1,0 +1,5 @@
+pub mod Groups
+pub mod Sizes
+pub mod Raw
+pub mod Splices
+pub mod Puts

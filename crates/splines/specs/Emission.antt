@@ -1,0 +1,24 @@
+-- Document 01, "Spline": the group of each held block; an emission is their concatenation. Assumes nothing.
+use Prim.Native.Nat.{ℕ}
+use mathlib.Core.List.{List, _∷_, map}
+use lib.ListN.{length}
+use lib.Ieee.{Float}
+use Rattle.floats.specs.Numbers.{f1}
+use Rattle.floats.specs.Lists.{upto}
+use Rattle.curves.specs.Runs.{curveRuns}
+pub use Rattle.gather.specs.Points.{Spline}
+pub use Rattle.places.specs.Groups.{isBasis}
+unfoldable pub use Rattle.gather.specs.Points.{pointRows, channelsFrom, channels, firstCell, startPoint, nextPoint, pointsFrom, metricOf, weightOf}
+unfoldable pub use Rattle.places.specs.Groups.{placeOf, sampleCell, ownCell, isMarked, pointGroup, heldGroup}
+
+-- the run of points of each point block; none where the curve gives it no sample
+unfoldable pub runsOf : Spline → List (List (List Float))
+runsOf s =
+    let cs = channels s in
+    let rs = pointRows s in
+    let p = startPoint s cs in
+    let pts = p ∷ pointsFrom cs p rs in
+    curveRuns (s .motion) (s .power) (metricOf cs) (s .tol) pts (f1 ∷ map weightOf rs)
+
+unfoldable pub splineGroups : Spline → List (List (List ℕ))
+splineGroups s = let runs = runsOf s in upto (heldGroup s runs) (length (s .blocks))

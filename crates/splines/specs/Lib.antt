@@ -1,0 +1,5 @@
+pub mod Emission
+pub mod Widths
+pub mod Words
+pub mod Emits
+pub mod Laws

@@ -1,0 +1,16 @@
+use Rattle.places.specs.Puts.{motion-first, motion-later}
+use Rattle.spread.proofs.motion_of.Statement.{statement}
+use Rattle.spread.proofs.motion_of.Tie as tie
+use Rattle.spread.proofs.motion_of.Reads as reads
+use Rattle.spread.proofs.motion_of.Lts as lts
+
+-- src/lib.rt:55:1
+returns : tie.Need-returns
+returns c = motion-first _ (c .if1 .taken)
+
+-- src/lib.rt:55:1
+returns-2 : tie.Need-returns-2
+returns-2 c = motion-later _ (c .if1 .left)
+
+pub motion-of-spec : {M : Type 1} → statement M
+motion-of-spec = tie.close (tie.spec returns returns-2)
