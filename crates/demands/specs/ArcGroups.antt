@@ -1,0 +1,176 @@
+-- The group of a block of no spline has the shape that demand 3 asks for: a row passed on, or an arc's rows. Assumes nothing.
+use Prim.Native.Nat.{ℕ, _+_, _-_, _<_}
+use mathlib.Core.Path.{_≡_, refl, sym, _∙_, ap, subst}
+use mathlib.Core.Bool.{Bool, true, false, _&&_, false≢true, true≢false}
+use mathlib.Core.List.{List}
+use mathlib.Core.Option.{Option, none, some, Option·getD}
+use native.Mathlib.Omega.{arith}
+use lib.Dec.{leb, eqb}
+use borrow.Author.Tests.{eqb-true, eqb-false, eq-eqb, ne-eqb}
+use lib.Ieee.{Float, eq}
+use Rattle.floats.specs.Numbers.{num, bits, ofNat, _⊘_}
+use Rattle.floats.specs.Lists.{upto, member}
+use Rattle.rows.specs.Codes.{axisCodes, gOne, planeU, planeV, Kind, same, linear, clockwise, counter, akima, basis, cubic, other, refused, kindOf, isSpline}
+use Rattle.rows.specs.Row.{cell, lineOf, markOf, madeRow}
+use Rattle.rows.specs.Truth.{by-bit, cond-t, cond-f}
+use Rattle.arcs.specs.Arc.{Answer, passed, silent, Centre, centred, warned, Ends, Arc, wantedOf, countOf, lastCell, midCell, arcRow, arcRows, fromCentre, fromStart, arcAnswer}
+use Rattle.flattener.specs.Push.{answerAs}
+use Rattle.demands.specs.Demands.{Bare, Carries}
+use Rattle.demands.specs.Laws.{none-some, cond-both}
+use Rattle.demands.specs.Accepted.{Fine}
+use Rattle.demands.specs.InRange.{shown-bits}
+use Rattle.demands.specs.Shapes.{Shaped, upto-shaped, made-line, made-mark, made-shows, made-bare, made-carries, out-shaped, programmed, same-number}
+
+module _ (gs r : List ℕ) (fine : Fine r) (small : (k : ℕ) → member k gs ≡ true → k < axisCodes) (plane : ℕ) (pos : ℕ → Option ℕ) where
+  -- ---- the rows of an arc whose plane axes are listed
+  module _ (su sv : ℕ) (onU : member (planeU plane) gs ≡ true) (onV : member (planeV plane) gs ≡ true) (e : Ends) (c : Arc)
+      (eu : e .eu ≡ num (Option·getD (cell r (planeU plane)) su)) (ev : e .ev ≡ num (Option·getD (cell r (planeV plane)) sv)) where
+    -- an axis that is not listed is no plane axis
+    not-plane : (k u : ℕ) → member u gs ≡ true → member k gs ≡ false → eqb k u ≡ false
+    not-plane k u a b = ne-eqb k u (λ q. false≢true (sym b ∙ subst (λ (i : ℕ). member i gs ≡ true) (sym q) a))
+
+    last-off : (k : ℕ) → member k gs ≡ false → lastCell gs plane e r k ≡ none
+    unfolding lastCell
+    last-off k b = cond-f _ _ (not-plane k (planeU plane) onU b) ∙ cond-f _ _ (not-plane k (planeV plane) onV b) ∙ cond-f _ none b
+
+    mid-off : (f : Float) (k : ℕ) → member k gs ≡ false → midCell gs plane pos r c f k ≡ none
+    unfolding midCell
+    mid-off f k b = cond-f _ _ (not-plane k (planeU plane) onU b) ∙ cond-f _ _ (not-plane k (planeV plane) onV b) ∙ cond-f _ none b
+
+    -- the end of a plane axis: the programmed number
+    plane-end : (k v w : ℕ) (x : Float) (start : ℕ) → x ≡ num (Option·getD (cell r k) start) → member k gs ≡ true → cell r k ≡ some v → some (bits x) ≡ some w → eq (num w) (num v) ≡ true
+    plane-end k v w x start ex m pv cw =
+        let y : x ≡ num v = ex ∙ ap (λ (o : Option ℕ). num (Option·getD o start)) pv in
+        let z : w ≡ bits (num v) = sym (let q : bits x ≡ w = cc in q) ∙ ap bits y in
+        ap (λ (i : ℕ). eq (num i) (num v)) z ∙ (let h : k < axisCodes = small k m in shown-bits v (programmed gs r fine k v (omega arith) pv))
+
+    last-ends : (k v w : ℕ) → member k gs ≡ true → cell r k ≡ some v → lastCell gs plane e r k ≡ some w → eq (num w) (num v) ≡ true
+    unfolding lastCell
+    last-ends k v w m pv cw =
+        by-bit (eqb k (planeU plane))
+        (λ a. let q : k ≡ planeU plane = eqb-true k (planeU plane) a in
+        plane-end k v w (e .eu) su (eu ∙ ap (λ (i : ℕ). num (Option·getD (cell r i) su)) (sym q)) m pv (sym (cond-t _ _ a) ∙ cw))
+        (λ a. by-bit (eqb k (planeV plane))
+        (λ b. let q : k ≡ planeV plane = eqb-true k (planeV plane) b in
+        plane-end k v w (e .ev) sv (ev ∙ ap (λ (i : ℕ). num (Option·getD (cell r i) sv)) (sym q)) m pv (sym (cond-f _ _ a ∙ cond-t _ _ b) ∙ cw))
+        (λ b. let h : k < axisCodes = small k m in same-number gs r fine k v w (omega arith) pv (sym (cond-f _ _ a ∙ cond-f _ _ b ∙ cond-t _ none m) ∙ cw)))
+
+    module _ (n : ℕ) where
+      row : ℕ → List ℕ
+      row i = arcRow gs plane pos r e c n (i + 1)
+
+      row-last : (i : ℕ) → i + 1 ≡ n → row i ≡ madeRow gs r (eqb (i + 1) 1) gOne false (lastCell gs plane e r)
+      unfolding row arcRow
+      row-last i q = cond-t _ _ (eq-eqb (i + 1) n q)
+
+      row-mid : (i : ℕ) → (i + 1 ≡ n → ⊥) → row i ≡ madeRow gs r (eqb (i + 1) 1) gOne true (midCell gs plane pos r c (ofNat (i + 1) ⊘ ofNat n))
+      unfolding row arcRow
+      row-mid i d = cond-f _ _ (ne-eqb (i + 1) n d)
+
+      row-line : (i : ℕ) → lineOf (row i) ≡ lineOf r
+      row-line i =
+          by-bit (eqb (i + 1) n)
+          (λ a. ap lineOf (row-last i (eqb-true _ _ a)) ∙ made-line gs r _ _ _ _)
+          (λ a. ap lineOf (row-mid i (eqb-false _ _ a)) ∙ made-line gs r _ _ _ _)
+
+      row-bare : (i : ℕ) → 0 < i → Bare gs (row i)
+      row-bare i p =
+          let f : eqb (i + 1) 1 ≡ false = ne-eqb (i + 1) 1 (λ q. omega arith) in
+          by-bit (eqb (i + 1) n)
+          (λ a. subst (λ (l : List ℕ). Bare gs l) (sym (row-last i (eqb-true _ _ a) ∙ ap (λ (b : Bool). madeRow gs r b gOne false (lastCell gs plane e r)) f)) (made-bare gs r gOne false _ last-off))
+          (λ a. subst (λ (l : List ℕ). Bare gs l) (sym (row-mid i (eqb-false _ _ a) ∙ ap (λ (b : Bool). madeRow gs r b gOne true (midCell gs plane pos r c (ofNat (i + 1) ⊘ ofNat n))) f)) (made-bare gs r gOne true _ (mid-off _)))
+
+      first-carries : Carries gs r (row 0)
+      first-carries =
+          by-bit (eqb (0 + 1) n)
+          (λ a. subst (λ (l : List ℕ). Carries gs r l) (sym (row-last 0 (eqb-true _ _ a))) (made-carries gs r gOne false _))
+          (λ a. subst (λ (l : List ℕ). Carries gs r l) (sym (row-mid 0 (eqb-false _ _ a))) (made-carries gs r gOne true _))
+
+      row-marked : (i : ℕ) → i + 1 < n → markOf (row i) ≡ 1
+      row-marked i h = ap markOf (row-mid i (λ q. omega arith)) ∙ made-mark gs r _ _ _ _
+
+      rows-shaped : {asks : Type 0} → 0 < n → Shaped gs r asks (upto row n)
+      rows-shaped p = upto-shaped row n p (λ i h. row-line i) first-carries (λ i q h. row-bare i q) row-marked
+          (λ u a k v w h pv cw.
+          let z : n - 1 + 1 ≡ n = omega arith in
+          made-shows gs r fine _ gOne false (lastCell gs plane e r) last-off last-ends k v w h pv (ap (λ (l : List ℕ). cell l k) (sym (row-last (n - 1) z)) ∙ cw))
+
+    some-rows : (wanted : ℕ) → 0 < countOf wanted
+    unfolding countOf
+    some-rows wanted = omega arith
+
+    arc-shaped : {asks : Type 0} → Shaped gs r asks (arcRows gs plane pos r e c .rows)
+    unfolding arcRows row
+    arc-shaped = rows-shaped (countOf (wantedOf c)) (some-rows (wantedOf c))
+
+  pass-shaped : {asks : Type 0} (n : ℕ) → Shaped gs r asks (passed n r .rows)
+  unfolding passed
+  pass-shaped n = out-shaped gs r fine
+
+  -- a plane axis that has a position is listed
+  module _ (off : (k : ℕ) → member k gs ≡ false → pos k ≡ none) (tol : Float) (cw : Bool) where
+    listed : (k x : ℕ) → pos k ≡ some x → member k gs ≡ true
+    listed k x q = by-bit (member k gs) (λ a. a) (λ a. absurd (none-some (sym (off k a) ∙ q)))
+
+    centre-shaped : {asks : Type 0} (su sv : ℕ) → pos (planeU plane) ≡ some su → pos (planeV plane) ≡ some sv → (e : Ends)
+        → e .eu ≡ num (Option·getD (cell r (planeU plane)) su) → e .ev ≡ num (Option·getD (cell r (planeV plane)) sv)
+        → (c : Centre) → Shaped gs r asks (fromCentre tol gs plane cw pos r e c .rows)
+    unfolding fromCentre
+    centre-shaped su sv pu pv e eu ev (centred cu cv) = arc-shaped su sv (listed (planeU plane) su pu) (listed (planeV plane) sv pv) e _ eu ev
+    centre-shaped su sv pu pv e eu ev (warned n) = pass-shaped n
+
+    start-shaped : {asks : Type 0} (su sv : Option ℕ) → pos (planeU plane) ≡ su → pos (planeV plane) ≡ sv
+        → Shaped gs r asks (fromStart tol gs plane cw pos r su sv .rows)
+    unfolding fromStart
+    start-shaped none sv pu pv = pass-shaped 1
+    start-shaped (some su) none pu pv = pass-shaped 1
+    start-shaped (some su) (some sv) pu pv = centre-shaped su sv pu pv _ refl refl _
+
+    arc-answer-shaped : {asks : Type 0} → Shaped gs r asks (arcAnswer tol gs plane cw pos r .rows)
+    unfolding arcAnswer
+    arc-answer-shaped {asks} =
+        cond-both (λ (a : Answer). Shaped gs r asks (a .rows)) (silent gs plane r)
+        (pass-shaped 0)
+        (start-shaped (pos (planeU plane)) (pos (planeV plane)) refl refl)
+
+-- no kind of a spline
+abbrev drawn : Kind → Bool
+drawn same = false
+drawn linear = false
+drawn clockwise = false
+drawn counter = false
+drawn akima = true
+drawn basis = true
+drawn cubic = true
+drawn other = false
+drawn refused = false
+
+kind-shaped : (gs r : List ℕ) → Fine r → ((k : ℕ) → member k gs ≡ true → k < axisCodes) → (plane : ℕ) (pos : ℕ → Option ℕ) → ((k : ℕ) → member k gs ≡ false → pos k ≡ none)
+    → (tol : Float) (m : Kind) → drawn m ≡ false → {asks : Type 0} → Shaped gs r asks (answerAs m tol gs plane pos r .rows)
+unfolding answerAs
+kind-shaped gs r fine small plane pos off tol same f = pass-shaped gs r fine small plane pos 0
+kind-shaped gs r fine small plane pos off tol linear f = pass-shaped gs r fine small plane pos 0
+kind-shaped gs r fine small plane pos off tol clockwise f = arc-answer-shaped gs r fine small plane pos off tol true
+kind-shaped gs r fine small plane pos off tol counter f = arc-answer-shaped gs r fine small plane pos off tol false
+kind-shaped gs r fine small plane pos off tol akima f = absurd (false≢true (sym f))
+kind-shaped gs r fine small plane pos off tol basis f = absurd (false≢true (sym f))
+kind-shaped gs r fine small plane pos off tol cubic f = absurd (false≢true (sym f))
+kind-shaped gs r fine small plane pos off tol other f = pass-shaped gs r fine small plane pos 0
+kind-shaped gs r fine small plane pos off tol refused f = pass-shaped gs r fine small plane pos 0
+
+drawn-spline : (m : ℕ) → isSpline m ≡ false → drawn (kindOf m) ≡ false
+unfolding isSpline kindOf
+drawn-spline m f =
+    by-bit (eqb m 0) (λ a. rw a)
+    (λ a. rw a (by-bit (leb m 2) (λ b. rw b)
+    (λ b. rw b (by-bit (eqb m 3) (λ c. rw c)
+    (λ c. rw c (by-bit (eqb m 4) (λ d. rw d)
+    (λ d. rw d (by-bit (eqb m 5) (λ e. absurd (true≢false (sym (ap (λ (n : ℕ). leb 5 n && leb n 7) (eqb-true m 5 e)) ∙ f)))
+    (λ e. rw e (by-bit (eqb m 6) (λ g. absurd (true≢false (sym (ap (λ (n : ℕ). leb 5 n && leb n 7) (eqb-true m 6 g)) ∙ f)))
+    (λ g. rw g (by-bit (eqb m 7) (λ h. absurd (true≢false (sym (ap (λ (n : ℕ). leb 5 n && leb n 7) (eqb-true m 7 h)) ∙ f)))
+    (λ h. rw h (by-bit (leb m 31) (λ i. rw i) (λ i. rw i)))))))))))))))
+
+-- the group of a block of no spline
+pub own-shaped : (gs r : List ℕ) → Fine r → ((k : ℕ) → member k gs ≡ true → k < axisCodes) → (plane : ℕ) (pos : ℕ → Option ℕ) → ((k : ℕ) → member k gs ≡ false → pos k ≡ none)
+    → (tol : Float) (m : ℕ) → isSpline m ≡ false → {asks : Type 0} → Shaped gs r asks (answerAs (kindOf m) tol gs plane pos r .rows)
+own-shaped gs r fine small plane pos off tol m f = kind-shaped gs r fine small plane pos off tol (kindOf m) (drawn-spline m f)

@@ -1,0 +1,58 @@
+-- Demand 3 holds of the four calls. Assumes nothing.
+use Prim.Native.Nat.{ℕ}
+use mathlib.Core.Path.{_≡_, refl, sym, _∙_, ap, subst}
+use mathlib.Core.Bool.{true}
+use mathlib.Core.List.{List, [], _∷_, _++_, map}
+use native.Mathlib.Omega.{arith}
+use lib.ListN.{length}
+use lib.Dec.{eqb}
+use Rattle.rows.specs.Codes.{stateWords, geometricOf}
+use Rattle.rows.specs.Truth.{by-bit}
+use Rattle.flattener.specs.State.{tolOk, codesOk}
+use Rattle.flattener.specs.Start.{fresh, startSpec}
+use Rattle.flattener.specs.Close.{closeSpec}
+use Rattle.demands.specs.Groups.{Event, seed, block, closed, blocksOf, Standing, atFirst, withBlock, withSeed, withClose, Piece, pieceOf, piecesFrom, pieces}
+use Rattle.demands.specs.Demands.{wrote, Ran, run, Written, Demand3}
+use Rattle.demands.specs.Stands.{Stands, small-axes, fresh-stands}
+use Rattle.demands.specs.Pending.{toCome, come-empty}
+use Rattle.demands.specs.Written.{words, run-groups}
+use Rattle.demands.specs.Sound.{sound-run}
+use Rattle.demands.specs.Each.{keeps-first, each-group}
+
+-- an accepted start
+started : (old : List ℕ) (tol : ℕ) (axes : List ℕ) → startSpec old tol axes .reply .code ≡ 0 → (codesOk axes ≡ true) × (startSpec old tol axes .state ≡ fresh tol axes)
+unfolding startSpec
+started old tol axes =
+    by-bit (eqb (length old) stateWords)
+    (λ a. by-bit (tolOk tol)
+    (λ b. by-bit (codesOk axes)
+    (λ c. rw (a, b, c) (λ z. (refl, refl)))
+    (λ c. rw (a, b, c) (λ z. absurd (omega arith))))
+    (λ b. rw (a, b) (λ z. absurd (omega arith))))
+    (λ a. rw a (λ z. absurd (omega arith)))
+
+-- "one group of rows for each block, in block order"
+in-order : (tol : ℕ) (gs : List ℕ) (s : Standing) (es : List Event) → map (λ (p : Piece). p .block) (piecesFrom tol gs s es) ≡ blocksOf es
+unfolding piecesFrom pieceOf blocksOf
+in-order tol gs s [] = refl
+in-order tol gs s (seed c x ∷ es) = in-order tol gs (withSeed gs s c x) es
+in-order tol gs s (block r ∷ es) = ap (λ (l : List (List ℕ)). r ∷ l) (in-order tol gs (withBlock gs s r) es)
+in-order tol gs s (closed ∷ es) = in-order tol gs (withClose s) es
+
+at-first : (tol : ℕ) (axes : List ℕ) (es : List Event) → toCome tol (geometricOf axes) atFirst es ≡ map (λ (p : Piece). p .rows) (pieces tol axes es)
+unfolding pieces atFirst
+at-first tol axes es = come-empty tol (geometricOf axes) atFirst es refl
+
+pub demand3 : Demand3
+unfolding pieces
+demand3 old tol axes store cs rows z x e c =
+    let ok : (codesOk axes ≡ true) × (startSpec old tol axes .state ≡ fresh tol axes) = started old tol axes z in
+    let g : x ≡ run (fresh tol axes) store cs = e ∙ ap (λ (st : List ℕ). run st store cs) (ok .1) in
+    let t : Stands tol (geometricOf axes) atFirst (fresh tol axes) store = fresh-stands tol axes (ok .0) store in
+    subst (λ (y : Ran). closeSpec (y .state) (y .store) rows .reply .code ≡ 0 → Written tol axes (y .events) (y .out ++ wrote (closeSpec (y .state) (y .store) rows))) (sym g)
+    (λ d. record {
+      groups = run-groups cs rows t d ∙ ap words (at-first tol axes (run (fresh tol axes) store cs .events));
+      order = in-order tol (geometricOf axes) atFirst (run (fresh tol axes) store cs .events);
+      each = each-group tol (geometricOf axes) (small-axes axes) (keeps-first (geometricOf axes)) (sound-run cs rows t d);
+    })
+    c

@@ -1,0 +1,150 @@
+-- Demands 1 and 3, as statements over the four calls' definitions. Demand1, Demand3 and NoTrace prove them; Answers, Places, ShutOut, StaysGood and Starred say what else follows. Assumes nothing.
+use Prim.Native.Nat.{ℕ, _+_, _-_, _*_, _≤_, _<_}
+use mathlib.Core.Path.{_≡_}
+use mathlib.Core.Bool.{Bool, true, false, cond}
+use mathlib.Core.List.{List, [], _∷_, _++_, map}
+use mathlib.Core.Option.{none, some}
+use lib.ListN.{length, getD, take}
+use lib.Dec.{eqb}
+use lib.Ieee.{eq}
+use Rattle.flattener.specs.declared.Reply.{Reply}
+use Rattle.floats.specs.Numbers.{num, f1}
+use Rattle.floats.specs.Lists.{member, flatten}
+use Rattle.rows.specs.Codes.{rowWords, lastCode, geometricOf}
+use Rattle.rows.specs.Row.{lineOf, motionOf, planeOf, markOf, carryOf, cell}
+use Rattle.flattener.specs.Start.{After, AfterState, startSpec}
+use Rattle.flattener.specs.Seed.{seedSpec}
+use Rattle.splines.specs.Emission.{weightOf}
+use Rattle.flattener.specs.Push.{pushSpec}
+use Rattle.flattener.specs.Close.{closeSpec}
+use Rattle.demands.specs.Groups.{Event, seed, block, closed, blocksOf, Piece, pieces, groups}
+use Rattle.demands.specs.Laws.{Every}
+
+-- ---- Demand 1. That no call halts or leaves its memory is what the proof of each exported function, which has no `requires`, says: every
+-- input has an answer, and the slices keep their lengths. Here is what the answers are.
+
+-- "It turns down a call with one of ten numbers": the tenth, 10, is `flatcsv`'s own. "Every refusal .. gives warning 0 and no held axes and, 7 apart, has count 0"
+pub record Turned (p : Reply) : Type 0 where
+  pub ten : p .code ≤ 9
+  pub none : (p .code ≡ 0 → ⊥) → (p .warning ≡ 0) × (p .wanted ≡ 0) × (p .held ≡ 0)
+  pub count : (p .code ≡ 0 → ⊥) → (p .code ≡ 7 → ⊥) → p .count ≡ 0
+
+-- "The state, spline store and row buffer then hold the bytes they held before that call"; and no call changes a length
+pub record Safe (a : After) (st store rows : List ℕ) : Type 0 where
+  pub turned : Turned (a .reply)
+  pub same : (a .reply .code ≡ 0 → ⊥) → (a .state ≡ st) × (a .store ≡ store) × (a .rows ≡ rows)
+  pub long : (length (a .state) ≡ length st) × (length (a .store) ≡ length store) × (length (a .rows) ≡ length rows)
+
+pub record SafeState (a : AfterState) (st : List ℕ) : Type 0 where
+  pub turned : Turned (a .reply)
+  pub same : (a .reply .code ≡ 0 → ⊥) → a .state ≡ st
+  pub long : length (a .state) ≡ length st
+
+pub record Demand1 : Type 0 where
+  pub start : (st : List ℕ) (tol : ℕ) (axes : List ℕ) → SafeState (startSpec st tol axes) st
+  pub seeds : (st : List ℕ) (code x : ℕ) → SafeState (seedSpec st code x) st
+  pub push : (st store rows r : List ℕ) → Safe (pushSpec st store rows r) st store rows
+  pub close : (st store rows : List ℕ) → Safe (closeSpec st store rows) st store rows
+
+-- ---- Demand 3. A call after the start, with the row places lent to it
+pub data Call : Type 0 where
+  pushing : List ℕ → List ℕ → Call
+  seeding : ℕ → ℕ → Call
+  closing : List ℕ → Call
+
+-- its answer
+unfoldable pub answer : List ℕ → List ℕ → Call → After
+answer st store (pushing rows r) = pushSpec st store rows r
+answer st store (seeding k x) = record { reply = seedSpec st k x .reply; state = seedSpec st k x .state; store = store; rows = [] }
+answer st store (closing rows) = closeSpec st store rows
+
+abbrev pub accepts : After → Bool
+accepts a = eqb (a .reply .code) 0
+
+-- the words that an accepted call wrote; a refused one wrote none
+unfoldable pub wrote : After → List ℕ
+wrote a = cond (accepts a) (take (a .reply .count * rowWords) (a .rows)) []
+
+-- the event that an accepted call is
+unfoldable pub eventOf : Call → Event
+eventOf (pushing rows r) = block r
+eventOf (seeding k x) = seed k x
+eventOf (closing rows) = closed
+
+unfoldable pub taken : After → Call → List Event
+taken a c = cond (accepts a) (eventOf c ∷ []) []
+
+-- what some calls come to: the state and the store, all that was written, and the accepted events
+pub record Ran : Type 0 where
+  pub state : List ℕ
+  pub store : List ℕ
+  pub out : List ℕ
+  pub events : List Event
+
+-- "state and store handed on untouched"
+unfoldable pub run : List ℕ → List ℕ → List Call → Ran
+run st store [] = record { state = st; store = store; out = []; events = [] }
+run st store (c ∷ cs) =
+    let a = answer st store c in
+    let rest = run (a .state) (a .store) cs in
+    record { state = rest .state; store = rest .store; out = wrote a ++ rest .out; events = taken a c ++ rest .events }
+
+-- "Feed, tool and other carried cells stand on its first row only": a later row has geometric cells alone
+pub record Bare (gs row : List ℕ) : Type 0 where
+  pub motion : motionOf row ≡ 0
+  pub plane : planeOf row ≡ 0
+  pub carry : carryOf row ≡ 0
+  pub cells : (k : ℕ) → member k gs ≡ false → cell row k ≡ none
+
+-- .. and they do stand there: plane, carry, N F S D T and the axis cells outside the started list
+pub record Carries (gs r row : List ℕ) : Type 0 where
+  pub plane : planeOf row ≡ planeOf r
+  pub carry : carryOf row ≡ carryOf r
+  pub cells : (k : ℕ) → k ≤ lastCode → member k gs ≡ false → cell row k ≡ cell r k
+
+-- "each listed axis number that it shows and the block programmed equals the programmed one": so does any of the codes 0 to 14 that a list may hold; "Demand 3 counts -0 as 0"
+pub record Shows (r row : List ℕ) : Type 0 where
+  pub equal : (k v w : ℕ) → k ≤ lastCode → cell r k ≡ some v → cell row k ≡ some w → eq (num w) (num v) ≡ true
+
+-- a row of no words, past the end of a group
+abbrev pub rowAt : List (List ℕ) → ℕ → List ℕ
+rowAt g j = getD g j []
+
+abbrev pub lastRow : List (List ℕ) → List ℕ
+lastRow g = rowAt g (length g - 1)
+
+-- the group of a block: not empty, "each row with its block's line number", "Only its last row may be unmarked"; "on the last point of a B-spline this needs weight 1"
+pub record Group (gs : List ℕ) (p : Piece) : Type 0 where
+  pub filled : 0 < length (p .rows)
+  pub lines : (j : ℕ) → j < length (p .rows) → lineOf (rowAt (p .rows) j) ≡ lineOf (p .block)
+  pub carries : Carries gs (p .block) (rowAt (p .rows) 0)
+  pub bare : (j : ℕ) → 0 < j → j < length (p .rows) → Bare gs (rowAt (p .rows) j)
+  pub marked : (j : ℕ) → j + 1 < length (p .rows) → markOf (rowAt (p .rows) j) ≡ 1
+  pub ends : markOf (lastRow (p .rows)) ≡ 0 → (p .last ≡ true → eq (weightOf (p .block)) f1 ≡ true) → Shows (p .block) (lastRow (p .rows))
+
+-- "The output is one group of rows for each block, in block order: no group missing, empty, split or repeated"
+pub record Written (tol : ℕ) (axes : List ℕ) (es : List Event) (out : List ℕ) : Type 0 where
+  pub groups : out ≡ flatten (flatten (groups (pieces tol axes es)))
+  pub order : map (λ (p : Piece). p .block) (pieces tol axes es) ≡ blocksOf es
+  pub each : Every (Group (geometricOf axes)) (pieces tol axes es)
+
+-- "Take any accepted blocks and seeds from a fresh start, state and store handed on untouched, then an accepted close": the calls cs may hold refused ones, and closes
+abbrev pub Demand3 : Type 0
+Demand3 =
+    (old : List ℕ) (tol : ℕ) (axes store : List ℕ) (cs : List Call) (rows : List ℕ)
+    → startSpec old tol axes .reply .code ≡ 0
+    → (x : Ran)
+    → x ≡ run (startSpec old tol axes .state) store cs
+    → closeSpec (x .state) (x .store) rows .reply .code ≡ 0
+    → Written tol axes (x .events) (x .out ++ wrote (closeSpec (x .state) (x .store) rows))
+
+-- "Refused calls in between change none of it": the calls of cs that are accepted, each where it stands in cs
+unfoldable pub acceptedOf : List ℕ → List ℕ → List Call → List Call
+acceptedOf st store [] = []
+acceptedOf st store (c ∷ cs) =
+    let a = answer st store c in
+    let rest = acceptedOf (a .state) (a .store) cs in
+    cond (accepts a) (c ∷ rest) rest
+
+abbrev pub NoTrace : Type 0
+NoTrace = (st store : List ℕ) (cs : List Call) → run st store (acceptedOf st store cs) ≡ run st store cs

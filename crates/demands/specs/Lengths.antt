@@ -1,0 +1,113 @@
+-- No call changes the length of what it was lent. Assumes nothing.
+use Prim.Native.Nat.{ℕ, zero, suc, _+_, _*_, _/_, _≤_, _<_, min}
+use mathlib.Core.Path.{_≡_, refl, sym, _∙_, ap, subst}
+use mathlib.Core.Bool.{true, _&&_, cond}
+use mathlib.Core.List.{List, _∷_}
+use mathlib.Core.Option.{Option·getD}
+use native.Mathlib.Omega.{arith}
+use lib.ListN.{length, getD, set, length-set}
+use lib.Dec.{eqb}
+use borrow.Author.Tests.{leb-true}
+use Rattle.floats.specs.Lists.{upto, flatten, member, spliced}
+use Rattle.floats.specs.Fill.{length-upto}
+use Rattle.floats.specs.Splice.{length-spliced}
+use Rattle.rows.specs.Codes.{axisCodes, cSD, rowWords, wMotion, wPlane, wKnown, wWarned, wStart, wDegree, wHeld, stateWords, mostHeld, isSpline}
+use Rattle.rows.specs.Row.{has, motionOf, presentOf, number, outRow}
+use Rattle.rows.specs.Truth.{by-bit}
+use Rattle.flattener.specs.State.{held, degree, position, geometric, withBit, placed}
+use Rattle.flattener.specs.Push.{emits, kept, motionThen, planeThen, forgotten, opened, degreeWith, buffered, news, trackTo, pushState, pushStore, fits}
+use Rattle.demands.specs.Laws.{cond-both, Every, length-flatten, every-imp}
+use Rattle.demands.specs.RowLengths.{Long, outRow-long}
+use Rattle.demands.specs.Accepted.{Pushed}
+
+-- ---- the state
+pub placed-length : (st : List ℕ) (k x : ℕ) → length (placed st k x) ≡ length st
+unfolding placed
+placed-length st k x = length-set (set st wKnown (withBit (getD st wKnown 0) k)) (wKnown + 1 + k) x ∙ length-set st wKnown (withBit (getD st wKnown 0) k)
+
+pub track-length : (n : ℕ) (st r : List ℕ) → length (trackTo n st r) ≡ length st
+unfolding trackTo
+track-length zero st r = refl
+track-length (suc n) st r =
+    cond-both (λ (s : List ℕ). length s ≡ length st) (has (presentOf r) n && member n (geometric st))
+    (placed-length (trackTo n st r) n _ ∙ track-length n st r)
+    (track-length n st r)
+
+pub forgotten-length : (st : List ℕ) → length st ≡ stateWords → length (forgotten st) ≡ stateWords
+unfolding forgotten
+forgotten-length st e =
+    let z : List ℕ = upto (λ (k : ℕ). 0) (axisCodes + 1) in
+    let n : length z ≡ 11 = length-upto _ _ in
+    length-set (spliced st wStart z) wHeld 0 ∙ length-spliced st wStart z (omega (arith, e, n)) ∙ e
+
+pub opened-length : (st : List ℕ) → length st ≡ stateWords → length (opened st) ≡ stateWords
+unfolding opened
+opened-length st e =
+    let p : List ℕ = upto (λ (k : ℕ). Option·getD (position st k) 0) axisCodes in
+    let n : length p ≡ 10 = length-upto _ _ in
+    length-set (spliced st wStart (getD st wKnown 0 ∷ p)) wDegree 3 ∙ length-spliced st wStart (getD st wKnown 0 ∷ p) (omega (arith, e, n)) ∙ e
+
+pub buffered-length : (st r : List ℕ) → length st ≡ stateWords → length (buffered st r) ≡ stateWords
+unfolding buffered
+buffered-length st r e =
+    let s : List ℕ = cond (eqb (held st) 0) (opened st) st in
+    let n : length s ≡ stateWords = cond-both (λ (s : List ℕ). length s ≡ stateWords) (eqb (held st) 0) (opened-length st e) e in
+    length-set (set s wDegree (degreeWith (degree s) (number r cSD))) wHeld (held st + 1) ∙ length-set s wDegree (degreeWith (degree s) (number r cSD)) ∙ n
+
+-- the steps of a push on the state, one by one: emission, the words, the buffer, the word warned of
+unfoldable pub emptied : List ℕ → List ℕ → List ℕ
+emptied st r = cond (emits st r) (forgotten st) st
+
+unfoldable pub worded : List ℕ → List ℕ → List ℕ
+worded st r = set (set (emptied st r) wMotion (motionThen st r)) wPlane (planeThen st r)
+
+unfoldable pub laid : List ℕ → List ℕ → List ℕ
+laid st r = cond (isSpline (motionThen st r)) (buffered (worded st r) r) (worded st r)
+
+unfoldable pub told : List ℕ → List ℕ → List ℕ
+told st r = cond (news st r) (set (laid st r) wWarned (withBit (getD (laid st r) wWarned 0) (motionOf r))) (laid st r)
+
+pub pushState-steps : (st r : List ℕ) → pushState st r ≡ trackTo axisCodes (told st r) r
+unfolding pushState told laid worded emptied
+pushState-steps st r = refl
+
+module _ (st r : List ℕ) (e : length st ≡ stateWords) where
+  pub emptied-length : length (emptied st r) ≡ stateWords
+  unfolding emptied
+  emptied-length = cond-both (λ (s : List ℕ). length s ≡ stateWords) (emits st r) (forgotten-length st e) e
+
+  pub worded-length : length (worded st r) ≡ stateWords
+  unfolding worded
+  worded-length = length-set (set (emptied st r) wMotion (motionThen st r)) wPlane (planeThen st r) ∙ length-set (emptied st r) wMotion (motionThen st r) ∙ emptied-length
+
+  pub laid-length : length (laid st r) ≡ stateWords
+  unfolding laid
+  laid-length = cond-both (λ (s : List ℕ). length s ≡ stateWords) (isSpline (motionThen st r)) (buffered-length (worded st r) r worded-length) worded-length
+
+  pub told-length : length (told st r) ≡ stateWords
+  unfolding told
+  told-length = cond-both (λ (s : List ℕ). length s ≡ stateWords) (news st r) (length-set (laid st r) wWarned (withBit (getD (laid st r) wWarned 0) (motionOf r)) ∙ laid-length) laid-length
+
+  pub pushState-length : length (pushState st r) ≡ stateWords
+  pushState-length = ap length (pushState-steps st r) ∙ track-length axisCodes (told st r) r ∙ told-length
+
+-- ---- the store: a block is put where a whole one is lent
+div-room : (k len : ℕ) → k < min mostHeld (len / rowWords) → k * rowWords + rowWords ≤ len
+div-room k len h = omega arith
+
+pub pushStore-length : (st store r : List ℕ) → Pushed st store r → length (pushStore st store r) ≡ length store
+unfolding pushStore
+pushStore-length st store r p =
+    by-bit (isSpline (motionThen st r))
+    (λ b. rw b (length-spliced store (kept st r * rowWords) (outRow r)
+    (subst (λ (n : ℕ). kept st r * rowWords + n ≤ length store) (sym (outRow-long r .words)) (div-room (kept st r) (length store) (p .room b)))))
+    (λ b. rw b)
+
+-- ---- the rows: they are spliced in where they fit
+pub fitting : (out : List (List ℕ)) (rows : List ℕ) → Every Long out → fits out rows ≡ true → length (flatten out) ≤ length rows
+fitting out rows l f =
+    let h : length out ≤ length rows / rowWords = leb-true (length out) (length rows / rowWords) f in
+    rw (length-flatten rowWords out (every-imp (λ x q. q .words) l)) (omega arith)
+
+pub spliced-rows : (out : List (List ℕ)) (rows : List ℕ) → Every Long out → fits out rows ≡ true → length (spliced rows 0 (flatten out)) ≡ length rows
+spliced-rows out rows l f = let h : length (flatten out) ≤ length rows = fitting out rows l f in length-spliced rows 0 (flatten out) (omega arith)

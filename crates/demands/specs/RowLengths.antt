@@ -1,0 +1,100 @@
+-- Every row that a call writes has a row's words, whatever motion it comes from. Assumes nothing.
+use Prim.Native.Nat.{ℕ, _+_}
+use mathlib.Core.Path.{_≡_, _∙_}
+use mathlib.Core.Bool.{Bool, true, false, cond}
+use mathlib.Core.List.{List, [], map}
+use mathlib.Core.Option.{Option, none, some, Option·getD}
+use native.Mathlib.Omega.{arith}
+use lib.ListN.{length, getD, length-map}
+use lib.Dec.{eqb}
+use lib.Ieee.{Float}
+use Rattle.floats.specs.Lists.{upto, flatten}
+use Rattle.floats.specs.Fill.{length-upto}
+use Rattle.rows.specs.Codes.{rowWords, cells, Kind, same, linear, clockwise, counter, akima, basis, cubic, other, refused}
+use Rattle.rows.specs.Row.{rowOf, outRow, madeRow, cell, withRiders, lineOf, motionOf, planeOf, carryOf, hasPoint}
+use Rattle.arcs.specs.Arc.{Answer, silent, passed, arcAnswer, fromStart, fromCentre, arcRows, arcRow, Centre, centred, warned, Ends, Arc}
+use Rattle.splines.specs.Emission.{Spline, splineGroups, heldGroup, pointGroup}
+use Rattle.flattener.specs.State.{held}
+use Rattle.flattener.specs.Push.{answerAs, emits, ownAnswer, emission, pushRows}
+use Rattle.flattener.specs.Close.{closeRows}
+use Rattle.demands.specs.Laws.{cond-both, Every, nil, more, every-append, every-upto, every-flatten}
+
+pub record Long (row : List ℕ) : Type 0 where
+  pub words : length row ≡ rowWords
+
+rowOf-long : (line motion plane mark carry : ℕ) (f : ℕ → Option ℕ) → Long (rowOf line motion plane mark carry (upto f cells))
+unfolding rowOf
+rowOf-long line motion plane mark carry f = let e : length (map (λ (c : Option ℕ). Option·getD c 0) (upto f cells)) ≡ cells = length-map (upto f cells) _ ∙ length-upto f cells in record { words = omega arith }
+
+pub outRow-long : (r : List ℕ) → Long (outRow r)
+unfolding outRow
+outRow-long r = rowOf-long (lineOf r) (motionOf r) (planeOf r) 0 (carryOf r) (cell r)
+
+pub madeRow-long : (gs r : List ℕ) (first : Bool) (motion : ℕ) (marked : Bool) (f : ℕ → Option ℕ) → Long (madeRow gs r first motion marked f)
+unfolding madeRow
+madeRow-long gs r true motion marked f = rowOf-long (lineOf r) motion (planeOf r) (cond marked 1 0) (carryOf r) (withRiders gs r f)
+madeRow-long gs r false motion marked f = rowOf-long (lineOf r) 0 0 (cond marked 1 0) 0 f
+
+-- ---- the rows of a block of no spline
+passed-long : (w : ℕ) (r : List ℕ) → Every Long (passed w r .rows)
+unfolding passed
+passed-long w r = more (outRow-long r) nil
+
+arcRow-long : (gs : List ℕ) (plane : ℕ) (pos : ℕ → Option ℕ) (r : List ℕ) (e : Ends) (c : Arc) (n k : ℕ) → Long (arcRow gs plane pos r e c n k)
+unfolding arcRow
+arcRow-long gs plane pos r e c n k = cond-both Long (eqb k n) (madeRow-long gs r _ _ _ _) (madeRow-long gs r _ _ _ _)
+
+module _ (tol : Float) (gs : List ℕ) (plane : ℕ) (cw : Bool) (pos : ℕ → Option ℕ) (r : List ℕ) where
+  centre-long : (e : Ends) (c : Centre) → Every Long (fromCentre tol gs plane cw pos r e c .rows)
+  unfolding fromCentre arcRows
+  centre-long e (centred cu cv) = every-upto _ _ (λ k l. arcRow-long gs plane pos r e _ _ (k + 1))
+  centre-long e (warned n) = passed-long n r
+
+  start-long : (su sv : Option ℕ) → Every Long (fromStart tol gs plane cw pos r su sv .rows)
+  unfolding fromStart
+  start-long none sv = passed-long 1 r
+  start-long (some su) none = passed-long 1 r
+  start-long (some su) (some sv) = centre-long _ _
+
+  arc-long : Every Long (arcAnswer tol gs plane cw pos r .rows)
+  unfolding arcAnswer
+  arc-long = cond-both (λ (a : Answer). Every Long (a .rows)) (silent gs plane r) (passed-long 0 r) (start-long _ _)
+
+own-long : (m : Kind) (tol : Float) (gs : List ℕ) (plane : ℕ) (pos : ℕ → Option ℕ) (r : List ℕ) → Every Long (answerAs m tol gs plane pos r .rows)
+unfolding answerAs
+own-long same tol gs plane pos r = passed-long 0 r
+own-long linear tol gs plane pos r = passed-long 0 r
+own-long clockwise tol gs plane pos r = arc-long tol gs plane true pos r
+own-long counter tol gs plane pos r = arc-long tol gs plane false pos r
+own-long akima tol gs plane pos r = nil
+own-long basis tol gs plane pos r = nil
+own-long cubic tol gs plane pos r = nil
+own-long other tol gs plane pos r = passed-long 0 r
+own-long refused tol gs plane pos r = passed-long 0 r
+
+-- ---- the rows of a spline
+point-long : (s : Spline) (cs : List ℕ) (n j : ℕ) (run : List (List Float)) (r : List ℕ) → Every Long (pointGroup s cs n j run r)
+unfolding pointGroup
+point-long s cs n j run r = cond-both (Every Long) (eqb (length run) 0) (more (madeRow-long (s .axes) r _ _ _ _) nil) (every-upto _ _ (λ i l. madeRow-long (s .axes) r _ _ _ _))
+
+held-long : (s : Spline) (runs : List (List (List Float))) (i : ℕ) → Every Long (heldGroup s runs i)
+unfolding heldGroup
+held-long s runs i = cond-both (Every Long) (hasPoint (s .axes) (getD (s .blocks) i [])) (point-long s _ _ _ _ _) (more (outRow-long _) nil)
+
+spline-long : (s : Spline) → Every Long (flatten (splineGroups s))
+unfolding splineGroups
+spline-long s = every-flatten (every-upto _ _ (λ i l. held-long s _ i))
+
+-- ---- the rows of a push and of a close
+emission-long : (st store : List ℕ) → Every Long (emission st store)
+unfolding emission
+emission-long st store = spline-long _
+
+pub pushRows-long : (st store r : List ℕ) → Every Long (pushRows st store r)
+unfolding pushRows ownAnswer
+pushRows-long st store r =
+    cond-both (Every Long) (emits st r) (every-append (emission-long st store) (own-long _ _ _ _ _ r)) (own-long _ _ _ _ _ r)
+
+pub closeRows-long : (st store : List ℕ) → Every Long (closeRows st store)
+unfolding closeRows
+closeRows-long st store = cond-both (Every Long) (eqb (held st) 0) nil (emission-long st store)

@@ -1,0 +1,93 @@
+-- Wrong programs that document 01 names, each shut out by what a push has to answer: refusing always, writing nothing, one fixed row for every block, only the first block's rows, an invented needed count. Assumes nothing.
+use Prim.Native.Nat.{ℕ}
+use mathlib.Core.Path.{_≡_, refl, sym, _∙_, ap}
+use mathlib.Core.List.{List, [], _∷_}
+use native.Mathlib.Omega.{arith}
+use lib.ListN.{length, getD, replicate}
+use Rattle.floats.specs.Lists as Lists
+use Rattle.floats.specs.Lists.{spliced}
+use Rattle.rows.specs.Codes as Codes
+use Rattle.rows.specs.Row as Row
+use Rattle.arcs.specs.Arc.{passed}
+use Rattle.flattener.specs.State as State
+use Rattle.flattener.specs.Start as Start
+use Rattle.flattener.specs.Start.{After, fresh}
+use Rattle.flattener.specs.Push as Push
+use Rattle.flattener.specs.Push.{pushRows, pushSpec}
+use Rattle.demands.specs.Answers.{push-count}
+
+-- a program's push
+abbrev pub Program : Type 0
+Program = List ℕ → List ℕ → List ℕ → List ℕ → After
+
+abbrev pub Meets : Program → Type 0
+Meets f = (st store rows r : List ℕ) → f st store rows r ≡ pushSpec st store rows r
+
+-- axes X Y Z, tolerance 0.1, room for one row, and the block of line n with nothing in it
+abbrev begun : List ℕ
+begun = fresh 0x3fb999999999999a (0 ∷ 1 ∷ 2 ∷ [])
+
+abbrev room : List ℕ
+room = replicate 29 7
+
+abbrev line : ℕ → List ℕ
+line n = n ∷ replicate 28 0
+
+abbrev pushedLine : ℕ → After
+pushedLine n = pushSpec begun [] room (line n)
+
+abbrev pushedNext : After
+pushedNext = pushSpec (pushedLine 1 .state) (pushedLine 1 .store) room (line 2)
+
+-- each of them is accepted, and writes itself
+computed : (pushedLine 1 .reply .code ∷ []) ∷ pushedLine 1 .rows ∷ pushedLine 2 .rows ∷ pushedNext .rows ∷ (pushedLine 2 .reply .code ∷ []) ∷ []
+    ≡ (0 ∷ []) ∷ line 1 ∷ line 2 ∷ line 2 ∷ (0 ∷ []) ∷ []
+unfolding fresh Start.freshWord Lists.upto Lists.keep Lists.member Lists.flatten Lists.spliced Codes.kindOf Codes.isSpline Codes.planeOk Codes.geometricOf Row.has Row.all Row.cell Row.maskOf Row.rowOf Row.outRow Row.shapeOk Row.within Row.cellOk Row.numbersOk Row.above1000 Row.turnOk Row.rowCheck passed State.geometric State.pointWord State.tolOk State.codeOk State.codesOk State.axesOk State.pointAtOk State.pointOk State.heldOk State.stateOk State.storeOk State.heldRows State.heldRowOk State.savedCheck State.withBit State.placed Push.orNow Push.emits Push.kept Push.answerAs Push.ownAnswer Push.news Push.trackTo Push.pushState Push.pushStore Push.pushRows Push.isFull Push.pushCheck Push.pushDone Push.pushSpec
+computed = refl
+
+-- the first word of answer i
+word : (i : ℕ) → getD (getD ((pushedLine 1 .reply .code ∷ []) ∷ pushedLine 1 .rows ∷ pushedLine 2 .rows ∷ pushedNext .rows ∷ (pushedLine 2 .reply .code ∷ []) ∷ []) i []) 0 0
+    ≡ getD (getD ((0 ∷ []) ∷ line 1 ∷ line 2 ∷ line 2 ∷ (0 ∷ []) ∷ []) i []) 0 0
+word i = ap (λ (l : List (List ℕ)). getD (getD l i []) 0 0) computed
+
+module _ (f : Program) (m : Meets f) where
+  rowsOf : (st store rows r : List ℕ) → f st store rows r .rows ≡ pushSpec st store rows r .rows
+  rowsOf st store rows r = ap (λ (a : After). a .rows) (m st store rows r)
+
+  -- "Refusing always"
+  pub refusing-always : ((st store rows r : List ℕ) → f st store rows r .reply .code ≡ 0 → ⊥) → ⊥
+  refusing-always h = h begun [] room (line 1) (ap (λ (a : After). a .reply .code) (m begun [] room (line 1)) ∙ word 0)
+
+  -- "writing nothing"
+  pub writing-nothing : ((st store rows r : List ℕ) → f st store rows r .rows ≡ rows) → ⊥
+  writing-nothing h =
+      let e : _≡_ {A = ℕ} 7 1 = ap (λ (l : List ℕ). getD l 0 0) (sym (h begun [] room (line 1)) ∙ rowsOf begun [] room (line 1)) ∙ word 1 in
+      omega arith
+
+  -- "one fixed row for every block"
+  pub one-fixed-row : (row : List ℕ) → ((st store rows r : List ℕ) → f st store rows r .reply .code ≡ 0 → f st store rows r .rows ≡ spliced rows 0 row) → ⊥
+  one-fixed-row row h =
+      let e : _≡_ {A = ℕ} 1 2 =
+      sym (word 1)
+      ∙ ap (λ (l : List ℕ). getD l 0 0) (sym (rowsOf begun [] room (line 1)) ∙ h begun [] room (line 1) (code 1 (word 0)) ∙ sym (h begun [] room (line 2) (code 2 (word 4))) ∙ rowsOf begun [] room (line 2))
+      ∙ word 2 in
+      omega arith
+    where
+      code : (n : ℕ) → pushedLine n .reply .code ≡ 0 → f begun [] room (line n) .reply .code ≡ 0
+      code n e = ap (λ (a : After). a .reply .code) (m begun [] room (line n)) ∙ e
+
+  -- "or only the first block's rows": a second push, on what the first left, that writes nothing
+  pub only-the-first : ((st store rows r r′ : List ℕ) → f (f st store rows r .state) (f st store rows r .store) rows r′ .rows ≡ rows) → ⊥
+  only-the-first h =
+      let a : After = f begun [] room (line 1) in
+      let e : _≡_ {A = ℕ} 7 2 =
+      ap (λ (l : List ℕ). getD l 0 0) (sym (h begun [] room (line 1) (line 2)) ∙ rowsOf (a .state) (a .store) room (line 2))
+      ∙ ap (λ (a : After). getD (pushSpec (a .state) (a .store) room (line 2) .rows) 0 0) (m begun [] room (line 1))
+      ∙ word 3 in
+      omega arith
+
+  -- "an invented needed-count": with 7 the count is that of the rows of the call
+  pub no-invented-count : (st store rows r : List ℕ) → f st store rows r .reply .code ≡ 7 → f st store rows r .reply .count ≡ length (pushRows st store r)
+  no-invented-count st store rows r z =
+      ap (λ (a : After). a .reply .count) (m st store rows r)
+      ∙ push-count st store r rows (sym (ap (λ (a : After). a .reply .code) (m st store rows r)) ∙ z) .1

@@ -1,0 +1,187 @@
+-- What a push and a close answer, by their cases. Assumes nothing.
+use Prim.Native.Nat.{ℕ, _+_, _*_, _/_, _%_, _≤_, _<_}
+use mathlib.Core.Path.{_≡_, refl, sym, _∙_, ap, ap₂}
+use mathlib.Core.Bool.{false, cond}
+use mathlib.Core.List.{List, [], _∷_, _++_, append-assoc}
+use native.Mathlib.Omega.{arith}
+use native.Mathlib.Nat.{div-add-mod'}
+use lib.ListN.{length, getD, length-append}
+use lib.Dec.{eqb, leb}
+use borrow.Author.Tests.{eqb-true, eqb-false, eq-eqb, ne-eqb, le-leb, lt-leb}
+use Rattle.floats.specs.Lists.{flatten, spliced}
+use Rattle.floats.specs.Splice.{spliced-none, spliced-spliced}
+use Rattle.rows.specs.Codes.{rowWords, wStart}
+use Rattle.rows.specs.Row.{axesOf, rowCheck}
+use Rattle.arcs.specs.Plan.{planRows, WriteOf}
+use mathlib.Core.Option.{Option}
+use Rattle.rows.specs.Truth.{by-bit, cond-t, cond-f}
+use Rattle.arcs.specs.declared.Plan.{Plan}
+use Rattle.flattener.specs.State.{held, motionNow, degree, tolerance, position, savedCheck}
+use Rattle.flattener.specs.Start.{plain, After}
+use Rattle.flattener.specs.Push.{emits, emission, planeThen, isFull, news, ownAnswer, pushRows, pushCheck, pushState, pushStore, pushDone, pushSpec, untouched, tooFew}
+use Rattle.flattener.specs.Close.{closeRows, closeState, closeSpec}
+use Rattle.flattener.specs.PushLaws.{doneReply}
+use Rattle.flattener.specs.Keeps.{saved-ok}
+use Rattle.flattener.specs.Own.{geometricMask, Ready, ready, OwnPlanned, ownRows, own-write, own-rows, own-no-rows}
+use lib.Ieee.{Float}
+use Rattle.gather.specs.Points.{splineOf}
+use Rattle.splines.specs.Emission.{splineGroups}
+use Rattle.splines.specs.Emits.{Holds}
+use Rattle.flattener.specs.StateLaws.{good, good-few}
+use Rattle.flattener.specs.Emitted.{before, before-words, codesOf, startOf, holds, emission-is, emission-few, mostEmitted}
+
+-- what a push that passes its checks has
+pub record Passes (st store r : List ℕ) : Type 0 where
+  pub saved : savedCheck st store ≡ 0
+  pub row : rowCheck r ≡ 0
+  pub space : isFull st store r ≡ false
+
+pub passes : (st store r : List ℕ) → pushCheck st store r ≡ 0 → Passes st store r
+unfolding pushCheck
+passes st store r p =
+    by-bit (eqb (savedCheck st store) 0)
+    (λ a. by-bit (eqb (rowCheck r) 0)
+    (λ b. by-bit (isFull st store r)
+    (λ c. let z : _≡_ {A = ℕ} 6 0 = sym (cond-t _ _ a ∙ cond-t _ _ b ∙ cond-t _ _ c) ∙ p in absurd (omega arith))
+    (λ c. record { saved = eqb-true (savedCheck st store) 0 a; row = eqb-true (rowCheck r) 0 b; space = c }))
+    (λ b. absurd (eqb-false (rowCheck r) 0 b (sym (cond-t _ _ a ∙ cond-f _ (rowCheck r) b) ∙ p))))
+    (λ a. absurd (eqb-false (savedCheck st store) 0 a (sym (cond-f _ (savedCheck st store) a) ∙ p)))
+
+pub passes-ready : {st store r : List ℕ} → Passes st store r → Ready st r
+passes-ready {st} {store} {r} p = ready st r (saved-ok st store (p .saved)) (p .row)
+
+-- the rows are those of the emission, then the block's own
+rows-are : (st store r : List ℕ) → pushRows st store r ≡ before st store r ++ ownAnswer st r .rows
+unfolding pushRows
+rows-are st store r = by-bit (emits st r) (λ b. rw b) (λ b. rw b)
+
+flatten-append : (a b : List (List ℕ)) → flatten (a ++ b) ≡ flatten a ++ flatten b
+unfolding flatten
+flatten-append [] b = refl
+flatten-append (x ∷ xs) b = ap (λ (l : List ℕ). x ++ l) (flatten-append xs b) ∙ sym (append-assoc x (flatten xs) (flatten b))
+
+pub turned-is : (st store rows r : List ℕ) → (pushCheck st store r ≡ 0 → ⊥) → pushSpec st store rows r ≡ untouched (plain (pushCheck st store r)) st store rows
+unfolding pushSpec
+turned-is st store rows r d = cond-f _ _ (ne-eqb (pushCheck st store r) 0 d)
+
+-- what a push that is done leaves, by its count, warning, wanted count, held axes and rows
+abbrev pub doneOf : List ℕ → List ℕ → List ℕ → List ℕ → ℕ → ℕ → ℕ → ℕ → List (List ℕ) → After
+doneOf st store rows r count warning wanted held out =
+    record {
+      reply = doneReply count (cond (news st r) 7 warning) wanted held;
+      state = pushState st r;
+      store = pushStore st store r;
+      rows = spliced rows 0 (flatten out);
+    }
+
+module _ (st store rows r : List ℕ) (pass : pushCheck st store r ≡ 0) (p : Plan) (h : OwnPlanned st r p) (n : ℕ) (hn : n ≡ length (before st store r)) where
+  count-is : length (pushRows st store r) ≡ n + p .count
+  count-is =
+      ap length (rows-are st store r) ∙ length-append (before st store r) (ownAnswer st r .rows)
+      ∙ ap₂ (λ (a b : ℕ). a + b) (sym hn) (sym (h .count))
+
+  pub few-is : length rows / rowWords < n + p .count → pushSpec st store rows r ≡ untouched (tooFew (n + p .count)) st store rows
+  unfolding pushSpec
+  few-is l =
+      cond-t _ _ (eq-eqb (pushCheck st store r) 0 pass)
+      ∙ cond-f _ _ (ap (λ (k : ℕ). leb k (length rows / rowWords)) count-is ∙ lt-leb (n + p .count) (length rows / rowWords) l)
+      ∙ ap (λ (k : ℕ). untouched (tooFew k) st store rows) count-is
+
+  pub done-is : n + p .count ≤ length rows / rowWords
+      → pushSpec st store rows r ≡ doneOf st store rows r (n + p .count) (p .warning) (p .wanted) (p .held) (before st store r ++ ownRows st r p)
+  unfolding pushSpec pushDone
+  done-is l =
+      cond-t _ _ (eq-eqb (pushCheck st store r) 0 pass)
+      ∙ cond-t _ _ (ap (λ (k : ℕ). leb k (length rows / rowWords)) count-is ∙ le-leb (n + p .count) (length rows / rowWords) l)
+      ∙ ap (λ (c : ℕ). doneOf st store rows r c (ownAnswer st r .warning) (ownAnswer st r .wanted) (ownAnswer st r .held) (pushRows st store r)) count-is
+      ∙ ap (λ (w : ℕ). doneOf st store rows r (n + p .count) w (ownAnswer st r .wanted) (ownAnswer st r .held) (pushRows st store r)) (sym (h .warning))
+      ∙ ap (λ (k : ℕ). doneOf st store rows r (n + p .count) (p .warning) k (ownAnswer st r .held) (pushRows st store r)) (sym (h .wanted))
+      ∙ ap (λ (k : ℕ). doneOf st store rows r (n + p .count) (p .warning) (p .wanted) k (pushRows st store r)) (sym (h .held))
+      ∙ ap (doneOf st store rows r (n + p .count) (p .warning) (p .wanted) (p .held)) (rows-are st store r ∙ ap (λ (o : List (List ℕ)). before st store r ++ o) (sym (h .rows)))
+
+  -- both writings, one after the other
+  pub both-written : n + p .count ≤ length rows / rowWords → (t u : List ℕ) → t ≡ spliced rows 0 (flatten (before st store r)) → u ≡ spliced t (n * rowWords) (flatten (ownRows st r p))
+      → u ≡ spliced rows 0 (flatten (before st store r ++ ownRows st r p))
+  both-written l t u et eu =
+      let w : length (flatten (before st store r)) ≡ length (before st store r) * rowWords = before-words st store r in
+      let d : length rows / rowWords * rowWords + length rows % rowWords ≡ length rows = div-add-mod' (length rows) rowWords in
+      let i : 0 + length (flatten (before st store r)) ≡ n * rowWords = (let z : 0 + length (flatten (before st store r)) ≡ length (flatten (before st store r)) = omega arith in z ∙ w ∙ ap (λ (k : ℕ). k * rowWords) (sym hn)) in
+      eu ∙ ap (λ (q : List ℕ). spliced q (n * rowWords) (flatten (ownRows st r p))) et
+      ∙ ap (λ (k : ℕ). spliced (spliced rows 0 (flatten (before st store r))) k (flatten (ownRows st r p))) (sym i)
+      ∙ spliced-spliced rows 0 (flatten (before st store r)) (flatten (ownRows st r p)) (omega arith)
+      ∙ ap (spliced rows 0) (sym (flatten-append (before st store r) (ownRows st r p)))
+
+-- ---- a close
+pub close-turned-is : (st store rows : List ℕ) → (savedCheck st store ≡ 0 → ⊥) → closeSpec st store rows ≡ untouched (plain (savedCheck st store)) st store rows
+unfolding closeSpec closeRows
+close-turned-is st store rows d = cond-f _ _ (ne-eqb (savedCheck st store) 0 d)
+
+abbrev pub closed : List ℕ → List ℕ → List ℕ → List (List ℕ) → After
+closed st store rows out = record { reply = doneReply (length out) 0 0 0; state = closeState st; store = store; rows = spliced rows 0 (flatten out) }
+
+module _ (st store rows : List ℕ) (pass : savedCheck st store ≡ 0) where
+  pub close-none-is : held st ≡ 0 → closeSpec st store rows ≡ closed st store rows []
+  unfolding closeSpec closeRows
+  close-none-is e =
+      cond-t _ _ (eq-eqb (savedCheck st store) 0 pass)
+      ∙ rw (eq-eqb (held st) 0 e, le-leb 0 (length rows / rowWords) (omega arith))
+
+  pub close-few-is : (held st ≡ 0 → ⊥) → length rows / rowWords < length (emission st store) → closeSpec st store rows ≡ untouched (tooFew (length (emission st store))) st store rows
+  unfolding closeSpec closeRows
+  close-few-is d l =
+      cond-t _ _ (eq-eqb (savedCheck st store) 0 pass)
+      ∙ rw (ne-eqb (held st) 0 d, lt-leb (length (emission st store)) (length rows / rowWords) l)
+
+  pub close-done-is : (held st ≡ 0 → ⊥) → length (emission st store) ≤ length rows / rowWords → closeSpec st store rows ≡ closed st store rows (emission st store)
+  unfolding closeSpec closeRows
+  close-done-is d l =
+      cond-t _ _ (eq-eqb (savedCheck st store) 0 pass)
+      ∙ rw (ne-eqb (held st) 0 d, le-leb (length (emission st store)) (length rows / rowWords) l)
+
+pub no-rows : (rows : List ℕ) → rows ≡ spliced rows 0 (flatten [])
+unfolding flatten
+no-rows rows = spliced-none rows 0
+
+-- ---- a block's own rows, written by what the code has at hand
+module _ (st r : List ℕ) (p : Plan) (gs plane : ℕ) (pos : ℕ → Option ℕ) (eg : gs ≡ geometricMask st) (ep : plane ≡ planeThen st r) (es : pos ≡ position st) where
+  pub write-at : (rows : List ℕ) (from : ℕ) → OwnPlanned st r p → 0 < p .count → from + p .count * rowWords ≤ length rows → WriteOf (axesOf gs) plane pos r rows from p
+  write-at rows from h l room = rw (eg, ep, es) (own-write st r p rows from h (λ e. omega arith) room)
+
+  pub written : (rows : List ℕ) (from : ℕ) (u : List ℕ) → 0 < p .count → u ≡ spliced rows from (flatten (planRows (axesOf gs) plane pos r p)) → u ≡ spliced rows from (flatten (ownRows st r p))
+  written rows from u l e =
+      e ∙ ap (λ (o : List (List ℕ)). spliced rows from (flatten o)) (rw (eg, ep, es) (own-rows st r p (λ z. omega arith)))
+
+pub unwritten : (st r : List ℕ) (p : Plan) (rows : List ℕ) (from : ℕ) → p .count ≤ 0 → rows ≡ spliced rows from (flatten (ownRows st r p))
+unfolding flatten
+unwritten st r p rows from l =
+    let e : p .count ≡ 0 = omega arith in
+    spliced-none rows from ∙ ap (λ (o : List (List ℕ)). spliced rows from (flatten o)) (sym (own-no-rows st r p e))
+
+-- n and m places are room for the first n rows, and for m rows after them
+pub first-room : (n m l : ℕ) {k : ℕ} → k ≡ n → n + m ≤ l / rowWords → k * rowWords ≤ l
+first-room n m l {k} e h = let d : l / rowWords * rowWords + l % rowWords ≡ l = div-add-mod' l rowWords in rw e (omega arith)
+
+pub row-room : (n m l : ℕ) → n + m ≤ l / rowWords → n * rowWords + m * rowWords ≤ l
+row-room n m l h = let d : l / rowWords * rowWords + l % rowWords ≡ l = div-add-mod' l rowWords in omega arith
+
+-- ---- the emission, by what the code has at hand
+module _ (st store : List ℕ) (saved : savedCheck st store ≡ 0) (axes : List ℕ) (tol : Float) (ea : axes ≡ codesOf st) (et : tol ≡ tolerance st) where
+  pub holds-at : Holds axes (startOf st) store (held st)
+  holds-at = rw ea (holds st store saved)
+
+  rows-of : flatten (splineGroups (splineOf (motionNow st) (degree st) tol axes (getD st wStart 0) (startOf st) store (held st))) ≡ emission st store
+  rows-of = rw (ea, et) (emission-is st store (saved-ok st store saved))
+
+  pub counted-at : (n : ℕ) → n ≡ length (flatten (splineGroups (splineOf (motionNow st) (degree st) tol axes (getD st wStart 0) (startOf st) store (held st))))
+      → (n ≡ length (emission st store)) × (n ≤ mostEmitted)
+  counted-at n e =
+      let q : n ≡ length (emission st store) = e ∙ ap length rows-of in
+      (q, omega (arith, emission-few st store (good-few st (good st (saved-ok st store saved)))))
+
+  pub room-at : (rows : List ℕ) → length (emission st store) * rowWords ≤ length rows
+      → length (flatten (splineGroups (splineOf (motionNow st) (degree st) tol axes (getD st wStart 0) (startOf st) store (held st)))) * rowWords ≤ length rows
+  room-at rows h = rw rows-of h
+
+  pub emitted-at : (rows u : List ℕ) → u ≡ spliced rows 0 (flatten (flatten (splineGroups (splineOf (motionNow st) (degree st) tol axes (getD st wStart 0) (startOf st) store (held st)))))
+      → u ≡ spliced rows 0 (flatten (emission st store))
+  emitted-at rows u e = e ∙ ap (λ (o : List (List ℕ)). spliced rows 0 (flatten o)) rows-of

@@ -1,0 +1,120 @@
+-- `flattener::call::flat_push` meets its contract. Assumes nothing.
+use mathlib.Core.Path.{refl, sym, ap, _∙_}
+use mathlib.Core.Bool.{Bool, cond}
+use native.Mathlib.Omega.{arith}
+use Prim.Native.Nat.{ℕ, _+_}
+use lib.ListN.{length}
+use Rattle.flattener.specs.Start.{plain}
+use Rattle.flattener.specs.StateLaws.{good, good-few}
+use Rattle.flattener.specs.Push.{untouched}
+use Rattle.flattener.specs.PushLaws.{answers, doneReply}
+use Rattle.flattener.specs.Keeps.{saved-ok}
+use Rattle.flattener.proofs.Calls.{passes, passes-ready, turned-is, few-is, done-is, both-written}
+use Rattle.flattener.specs.Emitted.{few-own}
+use Rattle.flattener.proofs.Calls.{row-room, first-room}
+use borrow.Author.Needs.{needs}
+use Rattle.flattener.proofs.call.flat_push.Statement.{statement}
+use Rattle.flattener.proofs.call.flat_push.Tie as tie
+
+push-check-requires : tie.Need-push-check-requires
+push-check-requires c κs = search needs
+
+plain-reply-requires : tie.Need-plain-reply-requires
+plain-reply-requires c κs = search needs
+
+same-length : tie.Need-same-length
+same-length c = search needs
+
+same-length-2 : tie.Need-same-length-2
+same-length-2 c = search needs
+
+returns : tie.Need-returns
+unfolding untouched
+returns c = answers (turned-is _ _ _ _ (λ e. (c .before .if1 .taken) ((c .before .before .push-check .ensures) ∙ e))) ((c .plain-reply .ensures) ∙ ap plain (c .before .before .push-check .ensures)) refl refl refl
+
+plan-own-requires : tie.Need-plan-own-requires
+plan-own-requires c κs = passes-ready (passes _ _ _ (sym (c .before .before .push-check .ensures) ∙ (c .before .if1 .left)))
+
+count-before-requires : tie.Need-count-before-requires
+count-before-requires c κs = (passes _ _ _ (sym (c .before .before .before .before .before .push-check .ensures) ∙ (c .before .before .before .before .if1 .left)) .saved, passes-ready (passes _ _ _ (sym (c .before .before .before .before .before .push-check .ensures) ∙ (c .before .before .before .before .if1 .left))) .block)
+
+add-needed : tie.Need-add-needed
+add-needed c = omega (arith, (c .before .before .before .before .plan-own .ensures) .count, few-own (c .before .before .before .before .before .before .before .before .before .before .before .before .before .before .args .state .now) (c .before .before .before .before .before .before .before .before .before .before .before .before .before .before .args .row .now), (c .before .count-before .ensures) .1)
+
+too-few-requires : tie.Need-too-few-requires
+too-few-requires c κs = search needs
+
+same-length-3 : tie.Need-same-length-3
+same-length-3 c = search needs
+
+same-length-4 : tie.Need-same-length-4
+same-length-4 c = search needs
+
+returns-2 : tie.Need-returns-2
+unfolding untouched
+returns-2 c = answers (few-is (c .before .before .before .before .before .before .before .before .before .before .before .before .before .before .before .before .args .state .now) (c .before .before .before .before .before .before .before .before .before .before .before .before .before .before .before .before .args .store .now) (c .before .before .before .before .before .before .before .before .before .before .before .before .before .before .before .before .args .rows .now) (c .before .before .before .before .before .before .before .before .before .before .before .before .before .before .before .before .args .row .now) (sym (c .before .before .before .before .before .before .before .before .before .push-check .ensures) ∙ (c .before .before .before .before .before .before .before .before .if1 .left)) (c .before .before .before .before .before .before .plan-own .result) (c .before .before .before .before .before .before .plan-own .ensures) (c .before .before .before .count-before .result) ((c .before .before .before .count-before .ensures) .0) (c .before .if2 .taken)) (c .too-few .ensures) refl refl refl
+
+is-news-requires : tie.Need-is-news-requires
+is-news-requires c κs = passes-ready (passes _ _ _ (sym (c .before .before .before .before .before .before .before .before .before .push-check .ensures) ∙ (c .before .before .before .before .before .before .before .before .if1 .left))) .block
+
+warning-of-requires : tie.Need-warning-of-requires
+warning-of-requires c κs = search needs
+
+write-before-requires : tie.Need-write-before-requires
+write-before-requires c κs = (passes _ _ _ (sym (c .before .before .before .before .before .before .before .before .before .before .before .before .before .before .push-check .ensures) ∙ (c .before .before .before .before .before .before .before .before .before .before .before .before .before .if1 .left)) .saved, (passes-ready (passes _ _ _ (sym (c .before .before .before .before .before .before .before .before .before .before .before .before .before .before .push-check .ensures) ∙ (c .before .before .before .before .before .before .before .before .before .before .before .before .before .if1 .left))) .block, first-room _ _ _ (sym ((c .before .before .before .before .before .before .before .before .count-before .ensures) .0)) (c .before .before .before .before .before .before .if2 .left)))
+
+mul-write-own : tie.Need-mul-write-own
+mul-write-own c = omega (arith, (c .before .before .before .before .before .before .before .before .before .before .before .before .count-before .ensures) .1)
+
+write-own-requires : tie.Need-write-own-requires
+write-own-requires c κs = (passes-ready (passes _ _ _ (sym (c .before .before .before .before .before .before .before .before .before .before .before .before .before .before .before .before .before .before .before .push-check .ensures) ∙ (c .before .before .before .before .before .before .before .before .before .before .before .before .before .before .before .before .before .before .if1 .left))), ((c .before .before .before .before .before .before .before .before .before .before .before .before .before .before .before .before .plan-own .ensures), omega (arith, row-room (c .before .before .before .before .before .before .before .before .before .before .before .before .before .count-before .result) ((c .before .before .before .before .before .before .before .before .before .before .before .before .before .before .before .before .plan-own .result) .count) (length (c .before .before .before .before .before .before .before .before .before .before .before .before .before .before .before .before .before .before .before .before .before .before .before .before .before .before .args .rows .now)) (c .before .before .before .before .before .before .before .before .before .before .before .if2 .left))))
+
+push-store-requires : tie.Need-push-store-requires
+push-store-requires c κs = (passes-ready (passes _ _ _ (sym (c .before .before .before .before .before .before .before .before .before .before .before .before .before .before .before .before .before .before .before .before .before .before .before .before .push-check .ensures) ∙ (c .before .before .before .before .before .before .before .before .before .before .before .before .before .before .before .before .before .before .before .before .before .before .before .if1 .left))) .block, passes _ _ _ (sym (c .before .before .before .before .before .before .before .before .before .before .before .before .before .before .before .before .before .before .before .before .before .before .before .before .push-check .ensures) ∙ (c .before .before .before .before .before .before .before .before .before .before .before .before .before .before .before .before .before .before .before .before .before .before .before .if1 .left)) .space)
+
+push-state-requires : tie.Need-push-state-requires
+push-state-requires c κs = (passes-ready (passes _ _ _ (sym (c .before .before .before .before .before .before .before .before .before .before .before .before .before .before .before .before .before .before .before .before .before .before .before .before .before .before .before .before .push-check .ensures) ∙ (c .before .before .before .before .before .before .before .before .before .before .before .before .before .before .before .before .before .before .before .before .before .before .before .before .before .before .before .if1 .left))) .block, good-few _ (good _ (saved-ok _ _ (passes _ _ _ (sym (c .before .before .before .before .before .before .before .before .before .before .before .before .before .before .before .before .before .before .before .before .before .before .before .before .before .before .before .before .push-check .ensures) ∙ (c .before .before .before .before .before .before .before .before .before .before .before .before .before .before .before .before .before .before .before .before .before .before .before .before .before .before .before .if1 .left)) .saved))))
+
+done-reply-requires : tie.Need-done-reply-requires
+done-reply-requires c κs = search needs
+
+same-length-5 : tie.Need-same-length-5
+same-length-5 c = search needs
+
+same-length-6 : tie.Need-same-length-6
+same-length-6 c = search needs
+
+same-length-7 : tie.Need-same-length-7
+same-length-7 c = search needs
+
+returns-3 : tie.Need-returns-3
+returns-3 c = answers (done-is (c .before .before .before .before .before .before .before .before .before .before .before .before .before .before .before .before .before .before .before .before .before .before .before .before .before .before .before .before .before .before .before .before .before .before .before .before .before .before .before .args .state .now) (c .before .before .before .before .before .before .before .before .before .before .before .before .before .before .before .before .before .before .before .before .before .before .before .before .before .before .before .before .before .before .before .before .before .before .before .before .before .before .before .args .store .now) (c .before .before .before .before .before .before .before .before .before .before .before .before .before .before .before .before .before .before .before .before .before .before .before .before .before .before .before .before .before .before .before .before .before .before .before .before .before .before .before .args .rows .now) (c .before .before .before .before .before .before .before .before .before .before .before .before .before .before .before .before .before .before .before .before .before .before .before .before .before .before .before .before .before .before .before .before .before .before .before .before .before .before .before .args .row .now) (sym (c .before .before .before .before .before .before .before .before .before .before .before .before .before .before .before .before .before .before .before .before .before .before .before .before .before .before .before .before .before .before .before .before .push-check .ensures) ∙ (c .before .before .before .before .before .before .before .before .before .before .before .before .before .before .before .before .before .before .before .before .before .before .before .before .before .before .before .before .before .before .before .if1 .left)) (c .before .before .before .before .before .before .before .before .before .before .before .before .before .before .before .before .before .before .before .before .before .before .before .before .before .before .before .before .before .plan-own .result) (c .before .before .before .before .before .before .before .before .before .before .before .before .before .before .before .before .before .before .before .before .before .before .before .before .before .before .before .before .before .plan-own .ensures) (c .before .before .before .before .before .before .before .before .before .before .before .before .before .before .before .before .before .before .before .before .before .before .before .before .before .before .count-before .result) ((c .before .before .before .before .before .before .before .before .before .before .before .before .before .before .before .before .before .before .before .before .before .before .before .before .before .before .count-before .ensures) .0) (c .before .before .before .before .before .before .before .before .before .before .before .before .before .before .before .before .before .before .before .before .before .before .before .before .if2 .left)) ((c .done-reply .ensures) ∙ ap (λ (n : ℕ). doneReply ((c .before .before .before .before .before .before .before .before .before .before .before .before .before .before .before .before .before .before .before .before .before .before .before .before .before .before .count-before .result) + (c .before .before .before .before .before .before .before .before .before .before .before .before .before .before .before .before .before .before .before .before .before .before .before .before .before .before .before .before .before .plan-own .result) .count) n ((c .before .before .before .before .before .before .before .before .before .before .before .before .before .before .before .before .before .before .before .before .before .before .before .before .before .before .before .before .before .plan-own .result) .wanted) ((c .before .before .before .before .before .before .before .before .before .before .before .before .before .before .before .before .before .before .before .before .before .before .before .before .before .before .before .before .before .plan-own .result) .held)) ((c .before .before .before .before .before .before .before .before .before .before .before .before .before .before .before .before .before .before .before .before .before .warning-of .ensures) ∙ ap (λ (b : Bool). cond b 7 ((c .before .before .before .before .before .before .before .before .before .before .before .before .before .before .before .before .before .before .before .before .before .before .before .before .before .before .before .before .before .plan-own .result) .warning)) (c .before .before .before .before .before .before .before .before .before .before .before .before .before .before .before .before .before .before .before .before .before .before .is-news .ensures))) (c .before .before .before .push-state .ensures) (c .before .before .before .before .before .before .before .push-store .ensures) (both-written (c .before .before .before .before .before .before .before .before .before .before .before .before .before .before .before .before .before .before .before .before .before .before .before .before .before .before .before .before .before .before .before .before .before .before .before .before .before .before .before .args .state .now) (c .before .before .before .before .before .before .before .before .before .before .before .before .before .before .before .before .before .before .before .before .before .before .before .before .before .before .before .before .before .before .before .before .before .before .before .before .before .before .before .args .store .now) (c .before .before .before .before .before .before .before .before .before .before .before .before .before .before .before .before .before .before .before .before .before .before .before .before .before .before .before .before .before .before .before .before .before .before .before .before .before .before .before .args .rows .now) (c .before .before .before .before .before .before .before .before .before .before .before .before .before .before .before .before .before .before .before .before .before .before .before .before .before .before .before .before .before .before .before .before .before .before .before .before .before .before .before .args .row .now) (sym (c .before .before .before .before .before .before .before .before .before .before .before .before .before .before .before .before .before .before .before .before .before .before .before .before .before .before .before .before .before .before .before .before .push-check .ensures) ∙ (c .before .before .before .before .before .before .before .before .before .before .before .before .before .before .before .before .before .before .before .before .before .before .before .before .before .before .before .before .before .before .before .if1 .left)) (c .before .before .before .before .before .before .before .before .before .before .before .before .before .before .before .before .before .before .before .before .before .before .before .before .before .before .before .before .before .plan-own .result) (c .before .before .before .before .before .before .before .before .before .before .before .before .before .before .before .before .before .before .before .before .before .before .before .before .before .before .before .before .before .plan-own .ensures) (c .before .before .before .before .before .before .before .before .before .before .before .before .before .before .before .before .before .before .before .before .before .before .before .before .before .before .count-before .result) ((c .before .before .before .before .before .before .before .before .before .before .before .before .before .before .before .before .before .before .before .before .before .before .before .before .before .before .count-before .ensures) .0) (c .before .before .before .before .before .before .before .before .before .before .before .before .before .before .before .before .before .before .before .before .before .before .before .before .if2 .left) _ _ (c .before .before .before .before .before .before .before .before .before .before .before .before .before .before .before .before .before .write-before .ensures) (c .before .before .before .before .before .before .before .before .before .before .before .before .write-own .ensures))
+
+pub flat-push-spec : {M : Type 1} → statement M
+flat-push-spec =
+    tie.close
+    (tie.spec
+    push-check-requires
+    plain-reply-requires
+    same-length
+    same-length-2
+    returns
+    plan-own-requires
+    count-before-requires
+    add-needed
+    too-few-requires
+    same-length-3
+    same-length-4
+    returns-2
+    is-news-requires
+    warning-of-requires
+    write-before-requires
+    mul-write-own
+    write-own-requires
+    push-store-requires
+    push-state-requires
+    done-reply-requires
+    same-length-5
+    same-length-6
+    same-length-7
+    returns-3)

@@ -1,0 +1,54 @@
+-- `flattener::own::geometric_mask` meets its contract. Assumes nothing.
+use mathlib.Core.Path.{_≡_, refl, sym, ap₂, _∙_, subst}
+use mathlib.Core.Bool.{Bool, cond}
+use native.Mathlib.Omega.{arith}
+use Prim.Native.Nat.{ℕ, _+_, _-_, _≤_, _<_, _^_}
+use Rattle.floats.specs.Lists.{member}
+use Rattle.rows.specs.Codes.{axisCodes}
+use Rattle.flattener.specs.State.{geometric}
+use Rattle.rows.specs.Masks.{maskSum, mask-more, mask-lt}
+use borrow.Author.Needs.{needs}
+use Rattle.flattener.proofs.own.geometric_mask.Statement.{statement}
+use Rattle.flattener.proofs.own.geometric_mask.Tie as tie
+
+abbrev Inv-loop : tie.InvT-loop
+Inv-loop state m₀ k₀ m k = (k ≤ axisCodes) × (m ≡ maskSum (λ (j : ℕ). member j (geometric state)) k)
+
+abbrev μ-loop : tie.MeasureT-loop
+μ-loop state m₀ k₀ m k = axisCodes - k
+
+loop-holds : tie.Need-loop-holds Inv-loop μ-loop
+unfolding maskSum
+loop-holds c = (omega arith, refl)
+
+is-geometric-requires : tie.Need-is-geometric-requires Inv-loop μ-loop
+is-geometric-requires c κs = search needs
+
+mask-with-requires : tie.Need-mask-with-requires Inv-loop μ-loop
+mask-with-requires c κs = (subst (λ (n : ℕ). n < 2 ^ (c .before .before .loop .k)) (sym ((c .before .before .loop .inv) .1)) (mask-lt _ (c .before .before .loop .k)), omega arith)
+
+add-k : tie.Need-add-k Inv-loop μ-loop
+add-k c = search needs
+
+loop-less : tie.Need-loop-less Inv-loop μ-loop
+loop-less c = search needs
+
+loop-again : tie.Need-loop-again Inv-loop μ-loop
+loop-again c = (omega arith, (c .mask-with .ensures) ∙ ap₂ (λ (n : ℕ) (b : Bool). n + cond b (2 ^ (c .before .before .before .loop .k)) 0) ((c .before .before .before .loop .inv) .1) (c .before .is-geometric .ensures) ∙ sym (mask-more _ (c .before .before .before .loop .k)))
+
+returns : tie.Need-returns Inv-loop μ-loop
+returns c = let e : (c .before .loop .k) ≡ axisCodes = omega arith in rw e at ((c .before .loop .inv) .1)
+
+pub geometric-mask-spec : {M : Type 1} → statement M
+geometric-mask-spec =
+    tie.close
+    (tie.spec
+    Inv-loop
+    μ-loop
+    loop-holds
+    is-geometric-requires
+    mask-with-requires
+    add-k
+    loop-less
+    loop-again
+    returns)

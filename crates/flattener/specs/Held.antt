@@ -1,0 +1,17 @@
+-- Document 01, "Spline": the spline that a state and its store hold. Assumes nothing.
+use Prim.Native.Nat.{ℕ}
+use mathlib.Core.List.{List}
+use Rattle.splines.specs.Emission.{Spline}
+use Rattle.flattener.specs.State.{tolerance, geometric, motionNow, degree, curveStart, heldRows}
+
+-- the spline that a state and its store hold
+unfoldable pub heldSpline : List ℕ → List ℕ → Spline
+heldSpline st store =
+    record {
+      motion = motionNow st;
+      power = degree st;
+      tol = tolerance st;
+      axes = geometric st;
+      start = curveStart st;
+      blocks = heldRows st store;
+    }

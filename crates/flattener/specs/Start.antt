@@ -1,0 +1,45 @@
+-- Document 01, "Fresh state" and "Start: 9 (length only), 1, 2": what a start answers and leaves. Assumes nothing.
+use Prim.Native.Nat.{ℕ, _-_}
+use mathlib.Core.Bool.{Bool, cond}
+use mathlib.Core.List.{List}
+use lib.ListN.{length, getD}
+use lib.Dec.{ltb, eqb}
+use Rattle.flattener.specs.declared.Reply.{Reply}
+use Rattle.floats.specs.Lists.{upto}
+use Rattle.rows.specs.Codes.{gOne, wAxes, wMotion, wPlane, wDegree, stateWords}
+use Rattle.flattener.specs.State.{tolOk, codesOk}
+
+-- "Every refusal .. gives warning 0 and no held axes and, 7 apart, has count 0": a reply that has its number alone
+abbrev pub plain : ℕ → Reply
+plain n = record { code = n; count = 0; warning = 0; wanted = 0; held = 0 }
+
+-- what a call answers, and what it leaves in each slice
+pub record After : Type 0 where
+  pub reply : Reply
+  pub state : List ℕ
+  pub store : List ℕ
+  pub rows : List ℕ
+
+-- a call on the state alone
+pub record AfterState : Type 0 where
+  pub reply : Reply
+  pub state : List ℕ
+
+-- "Fresh state: linear, plane 17, no position known": word i
+unfoldable pub freshWord : ℕ → List ℕ → ℕ → ℕ
+freshWord tol axes i =
+    cond (eqb i 0) tol
+    (cond (eqb i 1) (length axes)
+    (cond (ltb i wMotion) (getD axes (i - wAxes) 0)
+    (cond (eqb i wMotion) gOne (cond (eqb i wPlane) 17 (cond (eqb i wDegree) 3 0)))))
+
+unfoldable pub fresh : ℕ → List ℕ → List ℕ
+fresh tol axes = upto (freshWord tol axes) stateWords
+
+unfoldable pub startSpec : List ℕ → ℕ → List ℕ → AfterState
+startSpec st tol axes =
+    cond (eqb (length st) stateWords)
+    (cond (tolOk tol)
+    (cond (codesOk axes) (record { reply = plain 0; state = fresh tol axes }) (record { reply = plain 2; state = st }))
+    (record { reply = plain 1; state = st }))
+    (record { reply = plain 9; state = st })

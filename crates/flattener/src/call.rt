@@ -1,0 +1,174 @@
+// Pushing a block, and closing.
+use crate::Reply;
+use crate::W_AXES;
+use crate::W_DEGREE;
+use crate::W_HELD;
+use crate::W_MOTION;
+use crate::W_START;
+use crate::own::plan_own;
+use crate::own::write_own;
+use crate::push::emits;
+use crate::push::forget;
+use crate::push::is_news;
+use crate::push::push_check;
+use crate::push::push_state;
+use crate::push::push_store;
+use crate::start::plain_reply;
+use crate::state::saved_check;
+use floats::of_bits;
+use rows::AXIS_CODES;
+use rows::ROW_WORDS;
+use splines::emission_count;
+use splines::emit;
+ghost use mathlib.Core.Path.{_≡_};
+ghost use mathlib.Core.Bool.{cond};
+ghost use Prim.Native.Nat.{_*_, _≤_};
+ghost use lib.ListN.{length};
+ghost use Rattle.floats.specs.Lists.{flatten, spliced};
+ghost use Rattle.rows.specs.Codes.{rowWords};
+ghost use Rattle.flattener.specs.Push.{emission, tooFew, pushSpec, PushIs};
+ghost use Rattle.flattener.specs.State.{savedCheck};
+ghost use Rattle.flattener.specs.PushLaws.{Block, doneReply};
+ghost use Rattle.flattener.specs.Emitted.{before, mostEmitted};
+ghost use Rattle.flattener.specs.Close.{closeSpec};
+
+// The words of the curve start.
+const START: usize = W_START + 1;
+
+const START_END: usize = START + AXIS_CODES;
+
+fn too_few(needed: u64) -> Reply
+    ensures { λ r. ⌜ r ≡ tooFew needed ⌝ }
+{
+    Reply {
+        code: 7,
+        count: needed,
+        warning: 0,
+        wanted: 0,
+        held: 0,
+    }
+}
+
+fn done_reply(count: u64, warning: u64, wanted: u64, held: u64) -> Reply
+    ensures { λ r. ⌜ r ≡ doneReply count warning wanted held ⌝ }
+{
+    Reply {
+        code: 0,
+        count,
+        warning,
+        wanted,
+        held,
+    }
+}
+
+fn warning_of(new: bool, warning: u64) -> u64
+    ensures { λ r. ⌜ r ≡ cond new 7 warning ⌝ }
+{
+    if new { 7 } else { warning }
+}
+
+// How many rows the emission of the held spline has.
+fn count_emission(state: &[u64], store: &[u64]) -> usize
+    requires { ⌜ savedCheck (now state) (now store) ≡ 0 ⌝ }
+    ensures { λ r. ⌜ (r ≡ length (emission (now (state .entry)) (now (store .entry)))) × (r ≤ mostEmitted) ⌝ }
+{
+    let e = W_AXES + state[1] as usize;
+    emission_count(
+        state[W_MOTION],
+        state[W_DEGREE],
+        of_bits(state[0]),
+        &state[W_AXES..e],
+        state[W_START],
+        &state[START..START_END],
+        store,
+        state[W_HELD] as usize,
+    ) as usize
+}
+
+// Writes the emission of the held spline to the front of `rows`.
+fn write_emission(state: &[u64], store: &[u64], rows: &mut [u64])
+    requires { ⌜ (savedCheck (now state) (now store) ≡ 0) × (length (emission (now state) (now store)) * rowWords ≤ length (now rows)) ⌝ }
+    ensures { λ _. ⌜ now (rows .exit) ≡ spliced (now (rows .entry)) 0 (flatten (emission (now (state .entry)) (now (store .entry)))) ⌝ }
+{
+    let e = W_AXES + state[1] as usize;
+    emit(
+        state[W_MOTION],
+        state[W_DEGREE],
+        of_bits(state[0]),
+        &state[W_AXES..e],
+        state[W_START],
+        &state[START..START_END],
+        store,
+        state[W_HELD] as usize,
+        rows,
+    );
+}
+
+// How many rows go out before the block's own.
+fn count_before(state: &[u64], store: &[u64], row: &[u64]) -> usize
+    requires { ⌜ (savedCheck (now state) (now store) ≡ 0) × (Block (now state) (now row)) ⌝ }
+    ensures { λ r. ⌜ (r ≡ length (before (now (state .entry)) (now (store .entry)) (now (row .entry)))) × (r ≤ mostEmitted) ⌝ }
+{
+    if emits(state, row) {
+        return count_emission(state, store);
+    }
+    0
+}
+
+fn write_before(state: &[u64], store: &[u64], rows: &mut [u64], row: &[u64])
+    requires { ⌜ (savedCheck (now state) (now store) ≡ 0) × ((Block (now state) (now row)) × (length (before (now state) (now store) (now row)) * rowWords ≤ length (now rows))) ⌝ }
+    ensures { λ _. ⌜ now (rows .exit) ≡ spliced (now (rows .entry)) 0 (flatten (before (now (state .entry)) (now (store .entry)) (now (row .entry)))) ⌝ }
+{
+    if emits(state, row) {
+        write_emission(state, store, rows);
+    }
+}
+
+// Pushes a block: its rows go to the front of `rows`.
+#[no_mangle]
+pub extern "C" fn flat_push(
+    state: &mut [u64],
+    store: &mut [u64],
+    rows: &mut [u64],
+    row: &[u64],
+) -> Reply
+    ensures { λ r. ⌜ PushIs (pushSpec (now (state .entry)) (now (store .entry)) (now (rows .entry)) (now (row .entry))) r (now (state .exit)) (now (store .exit)) (now (rows .exit)) ⌝ }
+{
+    let code = push_check(state, store, row);
+    if code != 0 {
+        return plain_reply(code);
+    }
+    let plan = plan_own(state, row);
+    let first = count_before(state, store, row);
+    let needed = first + plan.count;
+    if rows.len() / ROW_WORDS < needed {
+        return too_few(needed as u64);
+    }
+    let warning = warning_of(is_news(state, row), plan.warning);
+    write_before(state, store, rows, row);
+    write_own(rows, first * ROW_WORDS, state, row, plan);
+    push_store(state, store, row);
+    push_state(state, row);
+    done_reply(needed as u64, warning, plan.wanted, plan.held)
+}
+
+// Ends the run: a held spline is emitted.
+#[no_mangle]
+pub extern "C" fn flat_close(state: &mut [u64], store: &[u64], rows: &mut [u64]) -> Reply
+    ensures { λ r. ⌜ PushIs (closeSpec (now (state .entry)) (now (store .entry)) (now (rows .entry))) r (now (state .exit)) (now (store .exit)) (now (rows .exit)) ⌝ }
+{
+    let code = saved_check(state, store);
+    if code != 0 {
+        return plain_reply(code);
+    }
+    if state[W_HELD] == 0 {
+        return plain_reply(0);
+    }
+    let needed = count_emission(state, store);
+    if rows.len() / ROW_WORDS < needed {
+        return too_few(needed as u64);
+    }
+    write_emission(state, store, rows);
+    forget(state);
+    done_reply(needed as u64, 0, 0, 0)
+}
