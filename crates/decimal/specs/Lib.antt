@@ -1,0 +1,4 @@
+pub mod Decimal
+pub mod Near
+pub mod Values
+pub mod Quotients

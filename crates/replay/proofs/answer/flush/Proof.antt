@@ -1,0 +1,29 @@
+use mathlib.Core.Path.{sym}
+use lib.Seq.{length-take-le}
+use borrow.Author.Needs.{needs}
+use Rattle.replay.proofs.answer.flush.Statement.{statement}
+use Rattle.replay.proofs.answer.flush.Tie as tie
+use Rattle.replay.proofs.answer.flush.Reads as reads
+use Rattle.replay.proofs.answer.flush.Lts as lts
+use Rattle.io.proofs.write_all.Reads as write-all-reads
+use Rattle.replay.proofs.memory.least.Reads as least-reads
+
+-- src/answer.rt:27:9
+least-requires : tie.Need-least-requires
+least-requires c κs = search needs
+
+-- src/answer.rt:28:34
+slice-aggregate-write-all : tie.Need-slice-aggregate-write-all
+slice-aggregate-write-all c = sym (length-take-le _ _ (c .before .least .ensures .1))
+
+-- src/answer.rt:28:5
+write-all-requires : tie.Need-write-all-requires
+write-all-requires c κs = search needs
+
+-- src/answer.rt:26:1
+returns : tie.Need-returns
+returns c = search needs
+
+pub flush-spec : {M : Type 1} → statement M
+flush-spec =
+    tie.close (tie.spec least-requires slice-aggregate-write-all write-all-requires returns)

@@ -1,0 +1,6 @@
+pub mod Text
+pub mod Words
+pub mod Chars
+pub mod Table
+pub mod Seeks
+pub mod Codes
