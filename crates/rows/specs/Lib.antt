@@ -3,4 +3,5 @@ pub mod Row
 pub mod KindCase
 pub mod Truth
 pub mod Masks
+pub mod BitWalk
 pub mod RowLaws

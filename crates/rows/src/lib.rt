@@ -7,10 +7,11 @@ ghost use Prim.Native.Nat.{_+_, _<_, _≤_, _^_};
 ghost use lib.ListN.{length};
 ghost use Rattle.floats.specs.Lists.{upto, spliced};
 ghost use Rattle.rows.specs.Codes.{axisCodes, cells, wCells, rowWords, planeOk, kindOf};
-ghost use Rattle.rows.specs.Row.{has, within, above1000, shapeOk, cellOk, numbersOk, turnOk, rowCheck, cell, shown, axesOf, outRow, rides, madeRow};
+ghost use Rattle.rows.specs.Row.{has, within, above1000, shapeOk, numbersOk, turnOk, rowCheck, cell, shown, axesOf, outRow, rides, madeRow};
 ghost use Rattle.rows.specs.KindCase.{kindCase};
 ghost use Rattle.rows.specs.RowLaws.{cellWord, madeHas, madeWord, MadeOf};
 ghost use Rattle.rows.specs.Masks.{maskSum};
+ghost use Rattle.rows.specs.BitWalk.{lowest, others};
 
 pub const AXIS_CODES: usize = 10;
 
@@ -76,28 +77,32 @@ pub fn shape_ok(row: &[u64]) -> bool
     row[5] < 0x80_0000
 }
 
-// Whether cell k is absent or in range. An absent cell is not read.
-fn cell_ok(row: &[u64], k: usize) -> bool
-    requires { ⌜ (length (now row) ≡ rowWords) × (k < cells) ⌝ }
-    ensures { λ r. ⌜ r ≡ cellOk (now (row .entry)) k ⌝ }
+// The lowest bit that p has, 64 where it has none.
+pub fn lowest_bit(p: u64) -> usize
+    ensures { λ r. ⌜ r ≡ lowest p ⌝ }
 {
-    if has_bit(row[5], k as u64) {
-        within_range(row[W_CELLS + k])
-    } else {
-        true
-    }
+    u64::trailing_zeros(p) as usize
 }
 
+// p without its lowest bit.
+pub fn other_bits(p: u64) -> u64
+    requires { ⌜ 0 < p ⌝ }
+    ensures { λ r. ⌜ r ≡ others p ⌝ }
+{
+    p & (p - 1)
+}
+
+// Whether the cells that are there are in range. An absent cell is not read.
 pub fn numbers_ok(row: &[u64]) -> bool
     requires { ⌜ length (now row) ≡ rowWords ⌝ }
     ensures { λ r. ⌜ r ≡ numbersOk (now (row .entry)) ⌝ }
 {
-    let mut k: usize = 0;
-    while k < CELLS {
-        if !cell_ok(row, k) {
+    let mut rest = row[5] % 0x80_0000;
+    while rest != 0 {
+        if !within_range(row[W_CELLS + lowest_bit(rest)]) {
             return false;
         }
-        k += 1;
+        rest = other_bits(rest);
     }
     true
 }

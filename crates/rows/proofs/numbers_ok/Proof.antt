@@ -1,44 +1,70 @@
 -- `rows::numbers_ok` meets its contract. Assumes nothing.
-use mathlib.Core.Path.{_≡_, refl, sym, _∙_}
-use mathlib.Core.Bool.{true}
+use mathlib.Core.Path.{_≡_, sym, ap, _∙_}
+use mathlib.Core.Bool.{true, false, not}
+use mathlib.Core.List.{List}
 use native.Mathlib.Omega.{arith}
-use Prim.Native.Nat.{_-_, _≤_}
+use Prim.Native.Nat.{ℕ, _+_}
+use lib.ListN.{getD}
 use borrow.Author.Tests.{not-true, not-false}
-use Rattle.rows.specs.Row.{all, cellOk, numbersOk}
-use Rattle.rows.specs.Truth.{all-more, all-fails}
+use Rattle.rows.specs.Codes.{cells, wCells}
+use Rattle.rows.specs.Row.{has, presentOf, within, cellOk, numbersOk}
+use Rattle.rows.specs.Truth.{or-t, or-f, all-intro, all-fails}
+use Rattle.rows.specs.BitWalk.{Walking, AtBit, walking-first, walking-at, walking-more, walked}
 use borrow.Author.Needs.{needs}
 use Rattle.rows.proofs.numbers_ok.Statement.{statement}
 use Rattle.rows.proofs.numbers_ok.Tie as tie
 
+absent-ok : (r : List ℕ) (k : ℕ) → has (presentOf r) k ≡ false → cellOk r k ≡ true
+unfolding cellOk
+absent-ok r k h = or-t _ (ap not h)
+
+there-ok : (r : List ℕ) (k : ℕ) → has (presentOf r) k ≡ true → cellOk r k ≡ within (getD r (wCells + k) 0)
+unfolding cellOk
+there-ok r k h = or-f _ (ap not h)
+
 abbrev Inv-loop : tie.InvT-loop
-Inv-loop row k₀ k = (k ≤ 23) × (all k (cellOk row) ≡ true)
+Inv-loop row rest₀ rest = Walking (presentOf row) cells (λ (k : ℕ). cellOk row k ≡ true) rest
 
 abbrev μ-loop : tie.MeasureT-loop
-μ-loop row k₀ k = 23 - k
+μ-loop row rest₀ rest = rest
+
+shared-slice-read-rest : tie.Need-shared-slice-read-rest Inv-loop μ-loop
+shared-slice-read-rest c = search needs
 
 loop-holds : tie.Need-loop-holds Inv-loop μ-loop
-unfolding all
-loop-holds c = (omega arith, refl)
+loop-holds c = walking-first (omega arith) (λ k l h. absent-ok _ k h)
 
-cell-ok-requires : tie.Need-cell-ok-requires Inv-loop μ-loop
-cell-ok-requires c κs = search needs
+lowest-bit-requires : tie.Need-lowest-bit-requires Inv-loop μ-loop
+lowest-bit-requires c κs = search needs
+
+add-within-range : tie.Need-add-within-range Inv-loop μ-loop
+add-within-range c = omega (arith, (walking-at (c .before .before .loop .inv) (omega arith) (c .lowest-bit .ensures)) .below)
+
+mul-within-range : tie.Need-mul-within-range Inv-loop μ-loop
+mul-within-range c = omega (arith, (walking-at (c .before .before .loop .inv) (omega arith) (c .lowest-bit .ensures)) .below)
+
+shared-slice-read-within-range : tie.Need-shared-slice-read-within-range Inv-loop μ-loop
+shared-slice-read-within-range c = omega (arith, (walking-at (c .before .before .before .loop .inv) (omega arith) (c .before .lowest-bit .ensures)) .below)
+
+within-range-requires : tie.Need-within-range-requires Inv-loop μ-loop
+within-range-requires c κs = search needs
 
 returns : tie.Need-returns Inv-loop μ-loop
 unfolding numbersOk
-returns c = sym (all-fails 23 (cellOk _) (c .before .before .before .loop .k) (c .before .before .loop-test .taken) (sym (c .before .cell-ok .ensures) ∙ not-true (c .before .cell-ok .result) (c .if1 .taken)))
+returns c = let a : AtBit _ cells _ _ = walking-at (c .before .before .before .before .before .loop .inv) (omega arith) (c .before .before .before .lowest-bit .ensures) in sym (all-fails cells (cellOk _) (c .before .before .before .lowest-bit .result) (a .below) (there-ok _ _ (a .there) ∙ sym (c .before .within-range .ensures) ∙ not-true (c .before .within-range .result) (c .if1 .taken)))
 
-add-k : tie.Need-add-k Inv-loop μ-loop
-add-k c = search needs
+other-bits-requires : tie.Need-other-bits-requires Inv-loop μ-loop
+other-bits-requires c κs = search needs
 
 loop-less : tie.Need-loop-less Inv-loop μ-loop
-loop-less c = search needs
+loop-less c = omega (arith, (walking-at (c .before .before .before .before .before .before .loop .inv) (omega arith) (c .before .before .before .before .lowest-bit .ensures)) .fewer)
 
 loop-again : tie.Need-loop-again Inv-loop μ-loop
-loop-again c = (omega arith, all-more (c .before .before .before .loop .k) (cellOk _) ((c .before .before .before .loop .inv) .1) (sym (c .before .cell-ok .ensures) ∙ not-false (c .before .cell-ok .result) (c .if1 .left)))
+loop-again c = walking-more (c .before .before .before .before .before .before .loop .inv) (omega arith) (c .before .before .before .before .lowest-bit .ensures) (c .other-bits .ensures) (there-ok _ _ ((walking-at (c .before .before .before .before .before .before .loop .inv) (omega arith) (c .before .before .before .before .lowest-bit .ensures)) .there) ∙ sym (c .before .before .within-range .ensures) ∙ not-false (c .before .before .within-range .result) (c .before .if1 .left))
 
 returns-2 : tie.Need-returns-2 Inv-loop μ-loop
 unfolding numbersOk
-returns-2 c = let e : (c .before .loop .k) ≡ 23 = omega arith in sym (rw e at ((c .before .loop .inv) .1))
+returns-2 c = sym (all-intro cells (cellOk _) (walked (c .before .loop .inv) (omega arith)))
 
 pub numbers-ok-spec : {M : Type 1} → statement M
 numbers-ok-spec =
@@ -46,10 +72,15 @@ numbers-ok-spec =
     (tie.spec
     Inv-loop
     μ-loop
+    shared-slice-read-rest
     loop-holds
-    cell-ok-requires
+    lowest-bit-requires
+    add-within-range
+    mul-within-range
+    shared-slice-read-within-range
+    within-range-requires
     returns
-    add-k
+    other-bits-requires
     loop-less
     loop-again
     returns-2)

@@ -1,0 +1,15 @@
+-- `rows::lowest_bit` meets its contract. Assumes nothing.
+use native.Mathlib.Omega.{arith}
+use lib.Count.{trailing-le}
+use borrow.Author.Needs.{needs}
+use Rattle.rows.proofs.lowest_bit.Statement.{statement}
+use Rattle.rows.proofs.lowest_bit.Tie as tie
+
+cast-result : tie.Need-cast-result
+cast-result c = omega (arith, trailing-le 64 (c .args .p))
+
+returns : tie.Need-returns
+returns c = search needs
+
+pub lowest-bit-spec : {M : Type 1} → statement M
+lowest-bit-spec = tie.close (tie.spec cast-result returns)
