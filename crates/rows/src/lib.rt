@@ -11,7 +11,7 @@ ghost use Rattle.rows.specs.Row.{has, within, above1000, shapeOk, number
 ghost use Rattle.rows.specs.KindCase.{kindCase};
 ghost use Rattle.rows.specs.RowLaws.{cellWord, madeHas, madeWord, MadeOf};
 ghost use Rattle.rows.specs.Masks.{maskSum};
-ghost use Rattle.rows.specs.BitWalk.{lowest, others};
+ghost use Rattle.rows.specs.BitWalk.{lowest, others, zeros};
 
 pub const AXIS_CODES: usize = 10;
 
@@ -196,14 +196,28 @@ fn put_head(
     rows[at + 5] = present;
 }
 
+fn clear_cells(rows: &mut [u64], at: usize)
+    requires { ⌜ at + cells ≤ length (now rows) ⌝ }
+    ensures { λ _. ⌜ now (rows .exit) ≡ spliced (now (rows .entry)) at (upto zeros cells) ⌝ }
+{
+    let mut k: usize = 0;
+    while k < CELLS {
+        rows[at + k] = 0;
+        k += 1;
+    }
+}
+
+// An absent cell is not read.
 fn put_cells(rows: &mut [u64], at: usize, row: &[u64])
     requires { ⌜ (length (now row) ≡ rowWords) × (at + cells ≤ length (now rows)) ⌝ }
     ensures { λ _. ⌜ now (rows .exit) ≡ spliced (now (rows .entry)) at (upto (cellWord (now (row .entry))) cells) ⌝ }
 {
-    let mut k: usize = 0;
-    while k < CELLS {
-        rows[at + k] = cell_word(row, k);
-        k += 1;
+    clear_cells(rows, at);
+    let mut rest = row[5] % 0x80_0000;
+    while rest != 0 {
+        let k = lowest_bit(rest);
+        rows[at + k] = row[W_CELLS + k];
+        rest = other_bits(rest);
     }
 }
 

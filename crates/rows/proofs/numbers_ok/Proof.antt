@@ -9,7 +9,7 @@ use borrow.Author.Tests.{not-true, not-false}
 use Rattle.rows.specs.Codes.{cells, wCells}
 use Rattle.rows.specs.Row.{has, presentOf, within, cellOk, numbersOk}
 use Rattle.rows.specs.Truth.{or-t, or-f, all-intro, all-fails}
-use Rattle.rows.specs.BitWalk.{Walking, AtBit, walking-first, walking-at, walking-more, walked}
+use Rattle.rows.specs.BitWalk.{Walking, AtBit, at-bit, walking-first, walking-more, walked}
 use borrow.Author.Needs.{needs}
 use Rattle.rows.proofs.numbers_ok.Statement.{statement}
 use Rattle.rows.proofs.numbers_ok.Tie as tie
@@ -38,29 +38,29 @@ lowest-bit-requires : tie.Need-lowest-bit-requires Inv-loop μ-loop
 lowest-bit-requires c κs = search needs
 
 add-within-range : tie.Need-add-within-range Inv-loop μ-loop
-add-within-range c = omega (arith, (walking-at (c .before .before .loop .inv) (omega arith) (c .lowest-bit .ensures)) .below)
+add-within-range c = omega (arith, (at-bit (c .before .before .loop .inv .bits) (omega arith) (c .lowest-bit .ensures)) .below)
 
 mul-within-range : tie.Need-mul-within-range Inv-loop μ-loop
-mul-within-range c = omega (arith, (walking-at (c .before .before .loop .inv) (omega arith) (c .lowest-bit .ensures)) .below)
+mul-within-range c = omega (arith, (at-bit (c .before .before .loop .inv .bits) (omega arith) (c .lowest-bit .ensures)) .below)
 
 shared-slice-read-within-range : tie.Need-shared-slice-read-within-range Inv-loop μ-loop
-shared-slice-read-within-range c = omega (arith, (walking-at (c .before .before .before .loop .inv) (omega arith) (c .before .lowest-bit .ensures)) .below)
+shared-slice-read-within-range c = omega (arith, (at-bit (c .before .before .before .loop .inv .bits) (omega arith) (c .before .lowest-bit .ensures)) .below)
 
 within-range-requires : tie.Need-within-range-requires Inv-loop μ-loop
 within-range-requires c κs = search needs
 
 returns : tie.Need-returns Inv-loop μ-loop
 unfolding numbersOk
-returns c = let a : AtBit _ cells _ _ = walking-at (c .before .before .before .before .before .loop .inv) (omega arith) (c .before .before .before .lowest-bit .ensures) in sym (all-fails cells (cellOk _) (c .before .before .before .lowest-bit .result) (a .below) (there-ok _ _ (a .there) ∙ sym (c .before .within-range .ensures) ∙ not-true (c .before .within-range .result) (c .if1 .taken)))
+returns c = let a : AtBit _ cells _ _ = at-bit (c .before .before .before .before .before .loop .inv .bits) (omega arith) (c .before .before .before .lowest-bit .ensures) in sym (all-fails cells (cellOk _) (c .before .before .before .lowest-bit .result) (a .below) (there-ok _ _ (a .there) ∙ sym (c .before .within-range .ensures) ∙ not-true (c .before .within-range .result) (c .if1 .taken)))
 
 other-bits-requires : tie.Need-other-bits-requires Inv-loop μ-loop
 other-bits-requires c κs = search needs
 
 loop-less : tie.Need-loop-less Inv-loop μ-loop
-loop-less c = omega (arith, (walking-at (c .before .before .before .before .before .before .loop .inv) (omega arith) (c .before .before .before .before .lowest-bit .ensures)) .fewer)
+loop-less c = omega (arith, (at-bit (c .before .before .before .before .before .before .loop .inv .bits) (omega arith) (c .before .before .before .before .lowest-bit .ensures)) .fewer)
 
 loop-again : tie.Need-loop-again Inv-loop μ-loop
-loop-again c = walking-more (c .before .before .before .before .before .before .loop .inv) (omega arith) (c .before .before .before .before .lowest-bit .ensures) (c .other-bits .ensures) (there-ok _ _ ((walking-at (c .before .before .before .before .before .before .loop .inv) (omega arith) (c .before .before .before .before .lowest-bit .ensures)) .there) ∙ sym (c .before .before .within-range .ensures) ∙ not-false (c .before .before .within-range .result) (c .before .if1 .left))
+loop-again c = walking-more (c .before .before .before .before .before .before .loop .inv) (omega arith) (c .before .before .before .before .lowest-bit .ensures) (c .other-bits .ensures) (there-ok _ _ ((at-bit (c .before .before .before .before .before .before .loop .inv .bits) (omega arith) (c .before .before .before .before .lowest-bit .ensures)) .there) ∙ sym (c .before .before .within-range .ensures) ∙ not-false (c .before .before .within-range .result) (c .before .if1 .left))
 
 returns-2 : tie.Need-returns-2 Inv-loop μ-loop
 unfolding numbersOk

@@ -1,49 +1,78 @@
 -- `rows::put_cells` meets its contract. Assumes nothing.
-use mathlib.Core.Path.{_≡_}
+use mathlib.Core.Path.{_≡_, sym, ap, _∙_}
+use mathlib.Core.Bool.{true, false}
+use mathlib.Core.List.{List}
+use mathlib.Core.Option.{Option, Option·getD}
 use native.Mathlib.Omega.{arith}
-use Prim.Native.Nat.{_-_, _≤_}
-use Rattle.floats.specs.Splice.{Splicing, splicing-none, splicing-more}
-use Rattle.rows.specs.Codes.{cells}
+use Prim.Native.Nat.{ℕ, _+_}
+use lib.ListN.{getD}
+use Rattle.rows.specs.Codes.{cells, wCells}
+use Rattle.rows.specs.Row.{has, presentOf, cell}
 use Rattle.rows.specs.RowLaws.{cellWord}
+use Rattle.rows.specs.Truth.{cond-t, cond-f}
+use Rattle.rows.specs.BitWalk.{at-bit, Storing, storing-first, storing-more, stored}
 use borrow.Author.Needs.{needs}
 use Rattle.rows.proofs.put_cells.Statement.{statement}
 use Rattle.rows.proofs.put_cells.Tie as tie
 
+absent-word : (r : List ℕ) (k : ℕ) → has (presentOf r) k ≡ false → cellWord r k ≡ 0
+unfolding cell
+absent-word r k h = ap (λ (o : Option ℕ). Option·getD o 0) (cond-f _ _ h)
+
+there-word : (r : List ℕ) (k : ℕ) → has (presentOf r) k ≡ true → getD r (wCells + k) 0 ≡ cellWord r k
+unfolding cell
+there-word r k h = sym (ap (λ (o : Option ℕ). Option·getD o 0) (cond-t _ _ h))
+
 abbrev Inv-loop : tie.InvT-loop
-Inv-loop rows₀ at row k₀ rows k = (k ≤ cells) × Splicing (cellWord row) at k rows₀ rows
+Inv-loop rows₀ at row rest₀ rows rest = Storing (presentOf row) cells (cellWord row) at rest rows₀ rows
 
 abbrev μ-loop : tie.MeasureT-loop
-μ-loop rows₀ at row k₀ rows k = cells - k
+μ-loop rows₀ at row rest₀ rows rest = rest
+
+clear-cells-requires : tie.Need-clear-cells-requires Inv-loop μ-loop
+clear-cells-requires c κs = search needs
+
+shared-slice-read-rest : tie.Need-shared-slice-read-rest Inv-loop μ-loop
+shared-slice-read-rest c = search needs
 
 loop-holds : tie.Need-loop-holds Inv-loop μ-loop
-loop-holds c = (omega arith, splicing-none)
+loop-holds c = storing-first _ (omega arith) (omega arith) (c .before .before .before .clear-cells .ensures) (λ k l h. absent-word _ k h)
 
-cell-word-requires : tie.Need-cell-word-requires Inv-loop μ-loop
-cell-word-requires c κs = search needs
+lowest-bit-requires : tie.Need-lowest-bit-requires Inv-loop μ-loop
+lowest-bit-requires c κs = search needs
 
 add-rows : tie.Need-add-rows Inv-loop μ-loop
-add-rows c = search needs
+add-rows c = omega (arith, (at-bit (c .before .before .loop .inv .bits) (omega arith) (c .lowest-bit .ensures)) .below)
 
 mul-rows : tie.Need-mul-rows Inv-loop μ-loop
-mul-rows c = search needs
+mul-rows c = omega (arith, (at-bit (c .before .before .loop .inv .bits) (omega arith) (c .lowest-bit .ensures)) .below)
+
+shared-slice-read-rows : tie.Need-shared-slice-read-rows Inv-loop μ-loop
+shared-slice-read-rows c = omega (arith, (at-bit (c .before .before .before .loop .inv .bits) (omega arith) (c .before .lowest-bit .ensures)) .below)
+
+add-rows-2 : tie.Need-add-rows-2 Inv-loop μ-loop
+add-rows-2 c = omega (arith, (at-bit (c .before .before .before .loop .inv .bits) (omega arith) (c .before .lowest-bit .ensures)) .below, c .before .before .before .loop .inv .room, c .before .before .before .loop .inv .same)
+
+mul-rows-2 : tie.Need-mul-rows-2 Inv-loop μ-loop
+mul-rows-2 c = omega (arith, (at-bit (c .before .before .before .loop .inv .bits) (omega arith) (c .before .lowest-bit .ensures)) .below, c .before .before .before .loop .inv .room, c .before .before .before .loop .inv .same)
 
 slice-write-rows : tie.Need-slice-write-rows Inv-loop μ-loop
-slice-write-rows c = search needs
+slice-write-rows c = omega (arith, (at-bit (c .before .before .before .loop .inv .bits) (omega arith) (c .before .lowest-bit .ensures)) .below, c .before .before .before .loop .inv .room, c .before .before .before .loop .inv .same)
 
-add-k : tie.Need-add-k Inv-loop μ-loop
-add-k c = search needs
+other-bits-requires : tie.Need-other-bits-requires Inv-loop μ-loop
+other-bits-requires c κs = search needs
 
 loop-less : tie.Need-loop-less Inv-loop μ-loop
-loop-less c = search needs
+loop-less c = omega (arith, (at-bit (c .before .before .before .before .loop .inv .bits) (omega arith) (c .before .before .lowest-bit .ensures)) .fewer)
 
 loop-again : tie.Need-loop-again Inv-loop μ-loop
-loop-again c = (omega arith, splicing-more ((c .before .before .loop .inv) .1) (omega arith) (c .cell-word .ensures))
+loop-again c = storing-more (c .before .before .before .before .loop .inv) (omega arith) (c .before .before .lowest-bit .ensures) (c .other-bits .ensures) (there-word _ _ ((at-bit (c .before .before .before .before .loop .inv .bits) (omega arith) (c .before .before .lowest-bit .ensures)) .there))
 
 same-length : tie.Need-same-length Inv-loop μ-loop
-same-length c = (c .before .loop .inv) .1 .same
+same-length c = omega (arith, c .before .loop .inv .same)
 
 returns : tie.Need-returns Inv-loop μ-loop
-returns c = let e : (c .before .loop .k) ≡ cells = omega arith in rw e at ((c .before .loop .inv) .1 .is)
+returns c = stored _ (c .before .loop .inv) (omega arith) (omega arith) (c .before .before .before .before .before .clear-cells .ensures)
 
 pub put-cells-spec : {M : Type 1} → statement M
 put-cells-spec =
@@ -51,12 +80,17 @@ put-cells-spec =
     (tie.spec
     Inv-loop
     μ-loop
+    clear-cells-requires
+    shared-slice-read-rest
     loop-holds
-    cell-word-requires
+    lowest-bit-requires
     add-rows
     mul-rows
+    shared-slice-read-rows
+    add-rows-2
+    mul-rows-2
     slice-write-rows
-    add-k
+    other-bits-requires
     loop-less
     loop-again
     same-length
