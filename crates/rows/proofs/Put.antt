@@ -1,42 +1,46 @@
 -- What the writing of a row leans on. Assumes nothing.
-use Prim.Native.Nat.{ℕ, _+_, _≤_}
-use mathlib.Core.Path.{_≡_, sym, _∙_, ap}
-use mathlib.Core.Bool.{Bool, true, false}
+use Prim.Native.Nat.{ℕ, _+_, _%_, _^_, _≤_}
+use mathlib.Core.Path.{_≡_, refl, sym, _∙_, ap}
+use mathlib.Core.Bool.{true, false}
 use mathlib.Core.List.{List, [], _∷_, _++_, append-assoc}
-use mathlib.Core.Option.{Option}
+use mathlib.Core.Option.{Option, Option·getD}
 use native.Mathlib.Numerals.{add-one, add-two, add-three, add-four, add-five}
 use lib.ListN.{length, set, take, drop}
 use lib.Seq.{sets-eq}
 use Rattle.floats.specs.Lists.{upto, spliced}
 use Rattle.floats.specs.Splice.{spliced-spliced}
-use Rattle.rows.specs.Codes.{wCells}
-use Rattle.rows.specs.Row.{has, cell, rides, withRiders, presentOf}
-use Rattle.rows.specs.RowLaws.{madeHas, madeCell}
+use Rattle.rows.specs.Codes.{wCells, cells}
+use Rattle.rows.specs.Row.{has, rides, withRiders, presentOf}
+use Rattle.rows.specs.RowLaws.{cellWord, madeHas, madeCell, madeWord}
+use Rattle.rows.specs.Masks.{maskSum, mask-same, mask-has}
 
-module _ (gs r : List ℕ) (first : Bool) (mask : ℕ) (f : ℕ → Option ℕ) (k : ℕ) where
-  pub later-has : first ≡ false → madeHas gs r first mask k ≡ has mask k
+-- the first row of a group: what rides along, and the point's own
+module _ (gs r : List ℕ) (k : ℕ) where
+  pub rider-has : (mask : ℕ) → rides gs k ≡ true → madeHas gs r true mask k ≡ has (presentOf r) k
   unfolding madeHas
-  later-has e = rw e
+  rider-has mask d = rw d
 
-  pub rider-has : first ≡ true → rides gs k ≡ true → madeHas gs r first mask k ≡ has (presentOf r) k
+  pub own-has : (mask : ℕ) → rides gs k ≡ false → madeHas gs r true mask k ≡ has mask k
   unfolding madeHas
-  rider-has e d = rw (e, d)
+  own-has mask d = rw d
 
-  pub own-has : first ≡ true → rides gs k ≡ false → madeHas gs r first mask k ≡ has mask k
+  pub rider-word : (f : ℕ → Option ℕ) → rides gs k ≡ true → madeWord gs r true f k ≡ cellWord r k
+  unfolding madeCell withRiders
+  rider-word f d = rw d
+
+  pub own-word : (f : ℕ → Option ℕ) → rides gs k ≡ false → madeWord gs r true f k ≡ Option·getD (f k) 0
+  unfolding madeCell withRiders
+  own-word f d = rw d
+
+-- the rows after it: the point alone
+module _ (gs r : List ℕ) where
+  pub later-mask : (mask : ℕ) → maskSum (madeHas gs r false mask) cells ≡ mask % 2 ^ cells
   unfolding madeHas
-  own-has e d = rw (e, d)
+  later-mask mask = mask-same _ (has mask) cells (λ k h. refl) ∙ mask-has mask cells
 
-  pub later-cell : first ≡ false → madeCell gs r first f k ≡ f k
+  pub later-words : (f : ℕ → Option ℕ) → upto (madeWord gs r false f) cells ≡ upto (λ (k : ℕ). Option·getD (f k) 0) cells
   unfolding madeCell
-  later-cell e = rw e
-
-  pub rider-cell : first ≡ true → rides gs k ≡ true → madeCell gs r first f k ≡ cell r k
-  unfolding madeCell withRiders
-  rider-cell e d = rw (e, d)
-
-  pub own-cell : first ≡ true → rides gs k ≡ false → madeCell gs r first f k ≡ f k
-  unfolding madeCell withRiders
-  own-cell e d = rw (e, d)
+  later-words f = refl
 
 -- six words stored one after the other
 pub head-set : (l : List ℕ) (i a b c d e f : ℕ) → i + wCells ≤ length l

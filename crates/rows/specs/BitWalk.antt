@@ -116,7 +116,7 @@ out-other p k j h d =
 has-mod : (p n k : ℕ) → k < n → has (p % 2 ^ n) k ≡ has p k
 has-mod p n k l = ap (λ (m : ℕ). has m k) (sym (mask-has p n)) ∙ has-mask (has p) n k l
 
-below-bits : (p n k : ℕ) → p < 2 ^ n → has p k ≡ true → k < n
+pub below-bits : (p n k : ℕ) → p < 2 ^ n → has p k ≡ true → k < n
 below-bits p n k l h =
     by-bit (ltb k n)
     (λ b. ltb-true k n b)
@@ -242,18 +242,18 @@ pub record Storing (p n : ℕ) (f : ℕ → ℕ) (i rest : ℕ) (l xs : List ℕ
   pub is : xs ≡ spliced l i (upto (λ (k : ℕ). cond (has rest k) 0 (f k)) n)
 
 module _ {p n : ℕ} {f : ℕ → ℕ} {i : ℕ} {l : List ℕ} where
-  pub storing-first : (m : List ℕ) → n ≤ 64 → i + n ≤ length m → l ≡ spliced m i (upto zeros n) → ((k : ℕ) → k < n → has p k ≡ false → f k ≡ 0) → Storing p n f i (p % 2 ^ n) l l
-  storing-first m b r e z =
+  pub storing-first : {rest : ℕ} (m : List ℕ) → rest ≡ p % 2 ^ n → n ≤ 64 → i + n ≤ length m → l ≡ spliced m i (upto zeros n) → ((k : ℕ) → k < n → has p k ≡ false → f k ≡ 0) → Storing p n f i rest l l
+  storing-first {rest} m x b r e z =
       let u : length (upto zeros n) ≡ n = length-upto zeros n in
       let s : length l ≡ length m = ap length e ∙ length-spliced m i (upto zeros n) (omega (arith, u)) in
-      record {
+      rw x (record {
         bits = bits-first b;
         room = omega (arith, s);
         same = refl;
         is = e ∙ sym (ap (λ (a : List ℕ). spliced a i (upto (λ (k : ℕ). cond (has (p % 2 ^ n) k) 0 (f k)) n)) e
             ∙ spliced-again m i _ _ (u ∙ sym (length-upto _ n)) (omega (arith, u))
             ∙ ap (spliced m i) (upto-below _ zeros n (λ k h. rw (has-mod p n k h) (by-bit (has p k) (λ t. rw t) (λ t. rw t (z k h t))))));
-      }
+      })
 
   pub storing-more : {rest k next v : ℕ} {xs : List ℕ} → Storing p n f i rest l xs → 0 < rest → k ≡ lowest rest → next ≡ others rest → v ≡ f k → Storing p n f i next l (set xs (i + k) v)
   storing-more {rest} {k} {next} {v} {xs} s h e d q = record {

@@ -20,6 +20,10 @@ use Rattle.rows.specs.Masks.{maskSum, mask-upto, mask-same, mask-has, ha
 abbrev pub cellWord : List ℕ → ℕ → ℕ
 cellWord r k = Option·getD (cell r k) 0
 
+-- the word of a point's axis k, zero where the mask has it not
+abbrev pub shownWord : ℕ → List ℕ → ℕ → ℕ
+shownWord mask ws k = Option·getD (shown mask ws k) 0
+
 -- cell k of a made row: there or not, and its word
 unfoldable pub madeCell : List ℕ → List ℕ → Bool → (ℕ → Option ℕ) → ℕ → Option ℕ
 madeCell gs r first f k = cond first (withRiders gs r f k) (f k)

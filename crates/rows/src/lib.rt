@@ -1,15 +1,14 @@
 // Rows as words: what an incoming row is refused for, what a motion cell says, and rows that go out.
 ghost use mathlib.Core.Path.{_≡_};
-ghost use mathlib.Core.Bool.{cond};
+ghost use mathlib.Core.Bool.{true, cond};
 ghost use mathlib.Core.List.{[], _∷_};
-ghost use mathlib.Core.Option.{Option·getD};
 ghost use Prim.Native.Nat.{_+_, _<_, _≤_, _^_};
 ghost use lib.ListN.{length};
 ghost use Rattle.floats.specs.Lists.{upto, spliced};
 ghost use Rattle.rows.specs.Codes.{axisCodes, cells, wCells, rowWords, planeOk, kindOf};
 ghost use Rattle.rows.specs.Row.{has, within, above1000, shapeOk, numbersOk, turnOk, rowCheck, cell, shown, axesOf, outRow, rides, madeRow};
 ghost use Rattle.rows.specs.KindCase.{kindCase};
-ghost use Rattle.rows.specs.RowLaws.{cellWord, madeHas, madeWord, MadeOf};
+ghost use Rattle.rows.specs.RowLaws.{cellWord, shownWord, madeHas, madeWord, MadeOf};
 ghost use Rattle.rows.specs.Masks.{maskSum};
 ghost use Rattle.rows.specs.BitWalk.{lowest, others, zeros};
 
@@ -250,14 +249,11 @@ fn is_rider(gs: u64, k: usize) -> bool
     !has_bit(gs, k as u64)
 }
 
-// Whether a made row has cell k.
-fn has_made(row: &[u64], gs: u64, first: bool, mask: u64, k: usize) -> bool
+// Whether the first row of a group has cell k.
+fn first_has(row: &[u64], gs: u64, mask: u64, k: usize) -> bool
     requires { ⌜ (length (now row) ≡ rowWords) × ((gs < 2 ^ axisCodes) × (k < cells)) ⌝ }
-    ensures { λ r. ⌜ r ≡ madeHas (axesOf gs) (now (row .entry)) first mask k ⌝ }
+    ensures { λ r. ⌜ r ≡ madeHas (axesOf gs) (now (row .entry)) true mask k ⌝ }
 {
-    if !first {
-        return has_bit(mask, k as u64);
-    }
     if is_rider(gs, k) {
         return has_bit(row[5], k as u64);
     }
@@ -275,24 +271,35 @@ pub fn mask_with(m: u64, k: usize, present: bool) -> u64
     m
 }
 
-// The presence mask of a made row.
-fn made_mask(row: &[u64], gs: u64, first: bool, mask: u64) -> u64
+// The presence mask of the first row of a group.
+fn first_mask(row: &[u64], gs: u64, mask: u64) -> u64
     requires { ⌜ (length (now row) ≡ rowWords) × (gs < 2 ^ axisCodes) ⌝ }
-    ensures { λ r. ⌜ r ≡ maskSum (madeHas (axesOf gs) (now (row .entry)) first mask) cells ⌝ }
+    ensures { λ r. ⌜ r ≡ maskSum (madeHas (axesOf gs) (now (row .entry)) true mask) cells ⌝ }
 {
     let mut m: u64 = 0;
     let mut k: usize = 0;
     while k < CELLS {
-        m = mask_with(m, k, has_made(row, gs, first, mask, k));
+        m = mask_with(m, k, first_has(row, gs, mask, k));
         k += 1;
     }
     m
 }
 
+// The presence mask of a made row.
+fn made_mask(row: &[u64], gs: u64, first: bool, mask: u64) -> u64
+    requires { ⌜ (length (now row) ≡ rowWords) × (gs < 2 ^ axisCodes) ⌝ }
+    ensures { λ r. ⌜ r ≡ maskSum (madeHas (axesOf gs) (now (row .entry)) first mask) cells ⌝ }
+{
+    if first {
+        return first_mask(row, gs, mask);
+    }
+    mask % 0x80_0000
+}
+
 // The word of a point's axis k, zero where the mask has it not.
 fn shown_word(mask: u64, words: &[u64], k: usize) -> u64
     requires { ⌜ (mask < 2 ^ axisCodes) × ((axisCodes ≤ length (now words)) × (k < cells)) ⌝ }
-    ensures { λ r. ⌜ r ≡ Option·getD (shown mask (now (words .entry)) k) 0 ⌝ }
+    ensures { λ r. ⌜ r ≡ shownWord mask (now (words .entry)) k ⌝ }
 {
     if k >= AXIS_CODES {
         return 0;
@@ -303,18 +310,40 @@ fn shown_word(mask: u64, words: &[u64], k: usize) -> u64
     0
 }
 
-// The word of cell k of a made row.
-fn made_word(row: &[u64], gs: u64, first: bool, mask: u64, words: &[u64], k: usize) -> u64
+// The word of cell k of the first row of a group.
+fn first_word(row: &[u64], gs: u64, mask: u64, words: &[u64], k: usize) -> u64
     requires { ⌜ MadeOf (now row) gs mask (now words) × (k < cells) ⌝ }
-    ensures { λ r. ⌜ r ≡ madeWord (axesOf gs) (now (row .entry)) first (shown mask (now (words .entry))) k ⌝ }
+    ensures { λ r. ⌜ r ≡ madeWord (axesOf gs) (now (row .entry)) true (shown mask (now (words .entry))) k ⌝ }
 {
-    if !first {
-        return shown_word(mask, words, k);
-    }
     if is_rider(gs, k) {
         return cell_word(row, k);
     }
     shown_word(mask, words, k)
+}
+
+fn put_first_cells(rows: &mut [u64], at: usize, row: &[u64], gs: u64, mask: u64, words: &[u64])
+    requires { ⌜ MadeOf (now row) gs mask (now words) × (at + cells ≤ length (now rows)) ⌝ }
+    ensures { λ _. ⌜ now (rows .exit) ≡ spliced (now (rows .entry)) at (upto (madeWord (axesOf gs) (now (row .entry)) true (shown mask (now (words .entry)))) cells) ⌝ }
+{
+    let mut k: usize = 0;
+    while k < CELLS {
+        rows[at + k] = first_word(row, gs, mask, words, k);
+        k += 1;
+    }
+}
+
+// The cells of a row after the first: the point alone.
+fn put_point(rows: &mut [u64], at: usize, mask: u64, words: &[u64])
+    requires { ⌜ (mask < 2 ^ axisCodes) × ((axisCodes ≤ length (now words)) × (at + cells ≤ length (now rows))) ⌝ }
+    ensures { λ _. ⌜ now (rows .exit) ≡ spliced (now (rows .entry)) at (upto (shownWord mask (now (words .entry))) cells) ⌝ }
+{
+    clear_cells(rows, at);
+    let mut rest = mask;
+    while rest != 0 {
+        let k = lowest_bit(rest);
+        rows[at + k] = words[k];
+        rest = other_bits(rest);
+    }
 }
 
 fn put_made_cells(
@@ -329,10 +358,10 @@ fn put_made_cells(
     requires { ⌜ MadeOf (now row) gs mask (now words) × (at + cells ≤ length (now rows)) ⌝ }
     ensures { λ _. ⌜ now (rows .exit) ≡ spliced (now (rows .entry)) at (upto (madeWord (axesOf gs) (now (row .entry)) first (shown mask (now (words .entry)))) cells) ⌝ }
 {
-    let mut k: usize = 0;
-    while k < CELLS {
-        rows[at + k] = made_word(row, gs, first, mask, words, k);
-        k += 1;
+    if first {
+        put_first_cells(rows, at, row, gs, mask, words);
+    } else {
+        put_point(rows, at, mask, words);
     }
 }
 

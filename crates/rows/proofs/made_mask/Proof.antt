@@ -1,54 +1,18 @@
 -- `rows::made_mask` meets its contract. Assumes nothing.
-use mathlib.Core.Path.{_≡_, refl, sym, ap₂, _∙_, subst}
-use mathlib.Core.Bool.{Bool, cond}
-use native.Mathlib.Omega.{arith}
-use Prim.Native.Nat.{ℕ, _+_, _-_, _≤_, _<_, _^_}
-use Rattle.rows.specs.Codes.{cells}
-use Rattle.rows.specs.Row.{axesOf}
-use Rattle.rows.specs.RowLaws.{madeHas}
-use Rattle.rows.specs.Masks.{maskSum, mask-more, mask-lt}
+use mathlib.Core.Path.{sym}
+use Rattle.rows.proofs.Put.{later-mask}
 use borrow.Author.Needs.{needs}
 use Rattle.rows.proofs.made_mask.Statement.{statement}
 use Rattle.rows.proofs.made_mask.Tie as tie
 
-abbrev Inv-loop : tie.InvT-loop
-Inv-loop row gs first mask m₀ k₀ m k = (k ≤ cells) × (m ≡ maskSum (madeHas (axesOf gs) row first mask) k)
+first-mask-requires : tie.Need-first-mask-requires
+first-mask-requires c κs = search needs
 
-abbrev μ-loop : tie.MeasureT-loop
-μ-loop row gs first mask m₀ k₀ m k = cells - k
+returns : tie.Need-returns
+returns c = rw (c .before .if1 .taken) (c .first-mask .ensures)
 
-loop-holds : tie.Need-loop-holds Inv-loop μ-loop
-unfolding maskSum
-loop-holds c = (omega arith, refl)
-
-has-made-requires : tie.Need-has-made-requires Inv-loop μ-loop
-has-made-requires c κs = search needs
-
-mask-with-requires : tie.Need-mask-with-requires Inv-loop μ-loop
-mask-with-requires c κs = (subst (λ (n : ℕ). n < 2 ^ (c .before .before .loop .k)) (sym ((c .before .before .loop .inv) .1)) (mask-lt _ (c .before .before .loop .k)), omega arith)
-
-add-k : tie.Need-add-k Inv-loop μ-loop
-add-k c = search needs
-
-loop-less : tie.Need-loop-less Inv-loop μ-loop
-loop-less c = search needs
-
-loop-again : tie.Need-loop-again Inv-loop μ-loop
-loop-again c = (omega arith, (c .mask-with .ensures) ∙ ap₂ (λ (n : ℕ) (b : Bool). n + cond b (2 ^ (c .before .before .before .loop .k)) 0) ((c .before .before .before .loop .inv) .1) (c .before .has-made .ensures) ∙ sym (mask-more _ (c .before .before .before .loop .k)))
-
-returns : tie.Need-returns Inv-loop μ-loop
-returns c = let e : (c .before .loop .k) ≡ cells = omega arith in rw e at ((c .before .loop .inv) .1)
+returns-2 : tie.Need-returns-2
+returns-2 c = rw (c .if1 .left) (sym (later-mask _ _ _))
 
 pub made-mask-spec : {M : Type 1} → statement M
-made-mask-spec =
-    tie.close
-    (tie.spec
-    Inv-loop
-    μ-loop
-    loop-holds
-    has-made-requires
-    mask-with-requires
-    add-k
-    loop-less
-    loop-again
-    returns)
+made-mask-spec = tie.close (tie.spec first-mask-requires returns returns-2)

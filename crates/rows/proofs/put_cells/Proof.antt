@@ -1,5 +1,5 @@
 -- `rows::put_cells` meets its contract. Assumes nothing.
-use mathlib.Core.Path.{_≡_, sym, ap, _∙_}
+use mathlib.Core.Path.{_≡_, refl, sym, ap, _∙_}
 use mathlib.Core.Bool.{true, false}
 use mathlib.Core.List.{List}
 use mathlib.Core.Option.{Option, Option·getD}
@@ -36,7 +36,7 @@ shared-slice-read-rest : tie.Need-shared-slice-read-rest Inv-loop μ-loop
 shared-slice-read-rest c = search needs
 
 loop-holds : tie.Need-loop-holds Inv-loop μ-loop
-loop-holds c = storing-first _ (omega arith) (omega arith) (c .before .before .before .clear-cells .ensures) (λ k l h. absent-word _ k h)
+loop-holds c = storing-first _ refl (omega arith) (omega arith) (c .before .before .before .clear-cells .ensures) (λ k l h. absent-word _ k h)
 
 lowest-bit-requires : tie.Need-lowest-bit-requires Inv-loop μ-loop
 lowest-bit-requires c κs = search needs

@@ -1,64 +1,36 @@
 -- `rows::put_made_cells` meets its contract. Assumes nothing.
-use mathlib.Core.Path.{_≡_}
-use native.Mathlib.Omega.{arith}
-use Prim.Native.Nat.{_-_, _≤_}
-use Rattle.floats.specs.Splice.{Splicing, splicing-none, splicing-more}
-use Rattle.rows.specs.Codes.{cells}
-use Rattle.rows.specs.Row.{shown, axesOf}
-use Rattle.rows.specs.RowLaws.{madeWord}
+use mathlib.Core.Path.{sym, ap, _∙_}
+use Rattle.floats.specs.Lists.{spliced}
+use Rattle.rows.proofs.Put.{later-words}
 use borrow.Author.Needs.{needs}
 use Rattle.rows.proofs.put_made_cells.Statement.{statement}
 use Rattle.rows.proofs.put_made_cells.Tie as tie
 
-abbrev Inv-loop : tie.InvT-loop
-Inv-loop rows₀ at row gs first mask words k₀ rows k = (k ≤ cells) × Splicing (madeWord (axesOf gs) row first (shown mask words)) at k rows₀ rows
+put-first-cells-requires : tie.Need-put-first-cells-requires
+put-first-cells-requires c κs = search needs
 
-abbrev μ-loop : tie.MeasureT-loop
-μ-loop rows₀ at row gs first mask words k₀ rows k = cells - k
+put-point-requires : tie.Need-put-point-requires
+put-point-requires c κs = search needs
 
-loop-holds : tie.Need-loop-holds Inv-loop μ-loop
-loop-holds c = (omega arith, splicing-none)
+same-length : tie.Need-same-length
+same-length c = search needs
 
-made-word-requires : tie.Need-made-word-requires Inv-loop μ-loop
-made-word-requires c κs = search needs
+returns : tie.Need-returns
+returns c = rw (c .before .before .before .before .if1 .taken) (c .before .before .put-first-cells .ensures)
 
-add-rows : tie.Need-add-rows Inv-loop μ-loop
-add-rows c = search needs
+same-length-2 : tie.Need-same-length-2
+same-length-2 c = search needs
 
-mul-rows : tie.Need-mul-rows Inv-loop μ-loop
-mul-rows c = search needs
-
-slice-write-rows : tie.Need-slice-write-rows Inv-loop μ-loop
-slice-write-rows c = search needs
-
-add-k : tie.Need-add-k Inv-loop μ-loop
-add-k c = search needs
-
-loop-less : tie.Need-loop-less Inv-loop μ-loop
-loop-less c = search needs
-
-loop-again : tie.Need-loop-again Inv-loop μ-loop
-loop-again c = (omega arith, splicing-more ((c .before .before .loop .inv) .1) (omega arith) (c .made-word .ensures))
-
-same-length : tie.Need-same-length Inv-loop μ-loop
-same-length c = (c .before .loop .inv) .1 .same
-
-returns : tie.Need-returns Inv-loop μ-loop
-returns c = let e : (c .before .loop .k) ≡ cells = omega arith in rw e at ((c .before .loop .inv) .1 .is)
+returns-2 : tie.Need-returns-2
+returns-2 c = rw (c .before .before .before .before .if1 .left) ((c .before .before .put-point .ensures) ∙ sym (ap (spliced _ _) (later-words _ _ _)))
 
 pub put-made-cells-spec : {M : Type 1} → statement M
 put-made-cells-spec =
     tie.close
     (tie.spec
-    Inv-loop
-    μ-loop
-    loop-holds
-    made-word-requires
-    add-rows
-    mul-rows
-    slice-write-rows
-    add-k
-    loop-less
-    loop-again
+    put-first-cells-requires
+    put-point-requires
     same-length
-    returns)
+    returns
+    same-length-2
+    returns-2)

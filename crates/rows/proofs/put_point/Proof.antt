@@ -1,0 +1,90 @@
+-- `rows::put_point` meets its contract. Assumes nothing.
+use mathlib.Core.Path.{_≡_, sym, ap, _∙_}
+use mathlib.Core.Bool.{true, false}
+use mathlib.Core.List.{List}
+use mathlib.Core.Option.{Option, Option·getD}
+use native.Mathlib.Omega.{arith}
+use native.Mathlib.Nat.{mod-eq-of-lt}
+use Prim.Native.Nat.{ℕ, _^_, _<_}
+use lib.ListN.{getD}
+use Rattle.rows.specs.Codes.{axisCodes, cells}
+use Rattle.rows.specs.Row.{has, shown}
+use Rattle.rows.specs.RowLaws.{shownWord}
+use Rattle.rows.specs.Truth.{cond-t, cond-f}
+use Rattle.rows.specs.BitWalk.{below-bits, at-bit, Storing, storing-first, storing-more, stored}
+use borrow.Author.Needs.{needs}
+use Rattle.rows.proofs.put_point.Statement.{statement}
+use Rattle.rows.proofs.put_point.Tie as tie
+
+not-shown : (mask : ℕ) (ws : List ℕ) (k : ℕ) → has mask k ≡ false → shownWord mask ws k ≡ 0
+unfolding shown
+not-shown mask ws k h = ap (λ (o : Option ℕ). Option·getD o 0) (cond-f _ _ h)
+
+is-shown : (mask : ℕ) (ws : List ℕ) (k : ℕ) → has mask k ≡ true → getD ws k 0 ≡ shownWord mask ws k
+unfolding shown
+is-shown mask ws k h = sym (ap (λ (o : Option ℕ). Option·getD o 0) (cond-t _ _ h))
+
+abbrev Inv-loop : tie.InvT-loop
+Inv-loop rows₀ at mask words rest₀ rows rest = Storing mask cells (shownWord mask words) at rest rows₀ rows
+
+abbrev μ-loop : tie.MeasureT-loop
+μ-loop rows₀ at mask words rest₀ rows rest = rest
+
+clear-cells-requires : tie.Need-clear-cells-requires Inv-loop μ-loop
+clear-cells-requires c κs = search needs
+
+loop-holds : tie.Need-loop-holds Inv-loop μ-loop
+loop-holds c = storing-first _ (sym (mod-eq-of-lt (omega arith))) (omega arith) (omega arith) (c .before .before .clear-cells .ensures) (λ k l h. not-shown _ _ k h)
+
+lowest-bit-requires : tie.Need-lowest-bit-requires Inv-loop μ-loop
+lowest-bit-requires c κs = search needs
+
+mul-rows : tie.Need-mul-rows Inv-loop μ-loop
+mul-rows c = omega (arith, (at-bit (c .before .before .loop .inv .bits) (omega arith) (c .lowest-bit .ensures)) .below)
+
+shared-slice-read-rows : tie.Need-shared-slice-read-rows Inv-loop μ-loop
+shared-slice-read-rows c = omega (arith, below-bits _ axisCodes _ (c .before .before .before .before .before .before .before .before .before .before .pre .0) ((at-bit (c .before .before .before .loop .inv .bits) (omega arith) (c .before .lowest-bit .ensures)) .there))
+
+add-rows : tie.Need-add-rows Inv-loop μ-loop
+add-rows c = omega (arith, (at-bit (c .before .before .before .loop .inv .bits) (omega arith) (c .before .lowest-bit .ensures)) .below, c .before .before .before .loop .inv .room, c .before .before .before .loop .inv .same)
+
+mul-rows-2 : tie.Need-mul-rows-2 Inv-loop μ-loop
+mul-rows-2 c = omega (arith, (at-bit (c .before .before .before .loop .inv .bits) (omega arith) (c .before .lowest-bit .ensures)) .below, c .before .before .before .loop .inv .room, c .before .before .before .loop .inv .same)
+
+slice-write-rows : tie.Need-slice-write-rows Inv-loop μ-loop
+slice-write-rows c = omega (arith, (at-bit (c .before .before .before .loop .inv .bits) (omega arith) (c .before .lowest-bit .ensures)) .below, c .before .before .before .loop .inv .room, c .before .before .before .loop .inv .same)
+
+other-bits-requires : tie.Need-other-bits-requires Inv-loop μ-loop
+other-bits-requires c κs = search needs
+
+loop-less : tie.Need-loop-less Inv-loop μ-loop
+loop-less c = omega (arith, (at-bit (c .before .before .before .before .loop .inv .bits) (omega arith) (c .before .before .lowest-bit .ensures)) .fewer)
+
+loop-again : tie.Need-loop-again Inv-loop μ-loop
+loop-again c = storing-more (c .before .before .before .before .loop .inv) (omega arith) (c .before .before .lowest-bit .ensures) (c .other-bits .ensures) (is-shown _ _ _ ((at-bit (c .before .before .before .before .loop .inv .bits) (omega arith) (c .before .before .lowest-bit .ensures)) .there))
+
+same-length : tie.Need-same-length Inv-loop μ-loop
+same-length c = omega (arith, c .before .loop .inv .same)
+
+returns : tie.Need-returns Inv-loop μ-loop
+returns c = stored _ (c .before .loop .inv) (omega arith) (omega arith) (c .before .before .before .before .clear-cells .ensures)
+
+pub put-point-spec : {M : Type 1} → statement M
+put-point-spec =
+    tie.close
+    (tie.spec
+    Inv-loop
+    μ-loop
+    clear-cells-requires
+    loop-holds
+    lowest-bit-requires
+    mul-rows
+    shared-slice-read-rows
+    add-rows
+    mul-rows-2
+    slice-write-rows
+    other-bits-requires
+    loop-less
+    loop-again
+    same-length
+    returns)
