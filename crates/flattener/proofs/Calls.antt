@@ -11,8 +11,10 @@ use borrow.Author.Tests.{eqb-true, eqb-false, eq-eqb, ne-eqb, le-leb, lt-leb}
 use Rattle.floats.specs.Lists.{flatten, spliced}
 use Rattle.floats.specs.Splice.{spliced-none, spliced-spliced}
 use Rattle.rows.specs.Codes.{rowWords, wStart}
-use Rattle.rows.specs.Row.{axesOf, rowCheck}
-use Rattle.arcs.specs.Plan.{planRows, WriteOf}
+use Rattle.rows.specs.Row.{axesOf, outRow, rowCheck}
+use Rattle.arcs.specs.Plan.{planRows, wayRows, WriteOf}
+use Rattle.arcs.specs.declared.Way.the-variants.{Pass}
+use Rattle.samples.specs.Rowing.{flatten-one}
 use mathlib.Core.Option.{Option}
 use Rattle.rows.specs.Truth.{by-bit, cond-t, cond-f}
 use Rattle.arcs.specs.declared.Plan.{Plan}
@@ -150,6 +152,13 @@ module _ (st r : List ℕ) (p : Plan) (gs plane : ℕ) (pos : ℕ → Option ℕ
   pub written : (rows : List ℕ) (from : ℕ) (u : List ℕ) → 0 < p .count → u ≡ spliced rows from (flatten (planRows (axesOf gs) plane pos r p)) → u ≡ spliced rows from (flatten (ownRows st r p))
   written rows from u l e =
       e ∙ ap (λ (o : List (List ℕ)). spliced rows from (flatten o)) (rw (eg, ep, es) (own-rows st r p (λ z. omega arith)))
+
+-- a row that passes
+pub passed-on : (st r : List ℕ) (p : Plan) (rows : List ℕ) (from : ℕ) (u : List ℕ) → 0 < p .count → p .way ≡ Pass → u ≡ spliced rows from (outRow r) → u ≡ spliced rows from (flatten (ownRows st r p))
+unfolding wayRows
+passed-on st r p rows from u l w e =
+    let o : ownRows st r p ≡ outRow r ∷ [] = sym (own-rows st r p (λ z. omega arith)) ∙ rw w in
+    e ∙ ap (spliced rows from) (sym (ap flatten o ∙ flatten-one (outRow r)))
 
 pub unwritten : (st r : List ℕ) (p : Plan) (rows : List ℕ) (from : ℕ) → p .count ≤ 0 → rows ≡ spliced rows from (flatten (ownRows st r p))
 unfolding flatten

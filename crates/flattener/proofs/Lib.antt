@@ -1,3 +1,5 @@
 pub mod Calls
 pub mod Steps
 pub mod Walk
+pub mod Marks
+pub mod Tracks

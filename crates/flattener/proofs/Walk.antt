@@ -15,7 +15,7 @@ use Rattle.rows.specs.Codes.{wAxes, rowWords}
 use Rattle.flattener.specs.State.{axisCount, heldRow}
 
 module _ (k : ℕ) (l : List ℕ) (i : ℕ) where
-  from-here : i < length l → member k (drop i l) ≡ (eqb (getD l i 0) k || member k (drop (i + 1) l))
+  pub from-here : i < length l → member k (drop i l) ≡ (eqb (getD l i 0) k || member k (drop (i + 1) l))
   unfolding member
   from-here h = rw (add-one, drop-cons l i 0 h)
 

@@ -11,7 +11,7 @@ use lib.Dec.{eqb, ltb}
 use lib.Ieee.{Float}
 use borrow.Author.Tests.{ltb-true, ltb-false, eq-eqb, ne-eqb}
 use Rattle.floats.specs.Lists.{member}
-use Rattle.rows.specs.Codes.{axisCodes, rowWords, wKnown, same, linear, clockwise, counter, akima, basis, cubic, other, refused, kindOf}
+use Rattle.rows.specs.Codes.{axisCodes, rowWords, wKnown, wStart, stateWords, same, linear, clockwise, counter, akima, basis, cubic, other, refused, kindOf}
 use Rattle.rows.specs.Row.{has, shown, axesOf, rowCheck}
 use Rattle.rows.specs.Truth.{by-bit, cond-t, cond-f}
 use Rattle.rows.specs.Masks.{maskSum, mask-lt, has-mask, has-past, member-small}
@@ -29,6 +29,12 @@ use Rattle.flattener.specs.ArcSame.{arc-same}
 abbrev pub geometricMask : List ℕ → ℕ
 geometricMask st = maskSum (λ (k : ℕ). member k (geometric st)) axisCodes
 
+-- what reading a point asks: word w is a point's mask, gs that of the geometric axes
+pub record PointOf (st : List ℕ) (w gs : ℕ) : Type 0 where
+  pub long : length st ≡ stateWords
+  pub place : w ≤ wStart
+  pub axes : gs ≡ geometricMask st
+
 pub geometric-mask-small : (st : List ℕ) → geometricMask st < 2 ^ axisCodes
 geometric-mask-small st = mask-lt (λ (k : ℕ). member k (geometric st)) axisCodes
 
@@ -42,6 +48,9 @@ mask-members st k =
     ∙ by-bit (ltb k axisCodes)
     (λ b. has-mask f axisCodes k (ltb-true k axisCodes b))
     (λ b. has-past (geometricMask st) axisCodes k (geometric-mask-small st) (ltb-false k axisCodes b) ∙ sym (beyond st k (ltb-false k axisCodes b)))
+
+pub mask-has-axis : (st : List ℕ) (k : ℕ) → has (geometricMask st) k ≡ member k (geometric st)
+mask-has-axis st k = sym (member-small (geometricMask st) k (geometric-mask-small st)) ∙ mask-members st k
 
 -- the positions, as a mask and the ten words after it
 pub place-is : (st : List ℕ) → getD st wKnown 0 < 2 ^ axisCodes → shown (getD st wKnown 0) (take axisCodes (drop (wKnown + 1) st)) ≡ position st

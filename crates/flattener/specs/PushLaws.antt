@@ -118,21 +118,10 @@ same-cond false p q = q
 pub same-spliced : (st : List ℕ) (i : ℕ) (ws : List ℕ) → wMotion ≤ i → i + length ws ≤ length st → SameAxes st (spliced st i ws)
 same-spliced st i ws h l = record { long = length-spliced st i ws l; low = λ j k. below-spliced st i ws j (omega arith) (omega arith) }
 
--- ---- tracking: axis k takes its cell, where it is geometric and the cell is there
-unfoldable pub trackOne : List ℕ → List ℕ → ℕ → List ℕ
-trackOne st r k = cond (has (presentOf r) k && member k (geometric st)) (placed st k (getD r (wCells + k) 0)) st
-
 pub same-to : (k : ℕ) (st r : List ℕ) → SameAxes st (trackTo k st r)
 unfolding trackTo
 same-to zero st r = same-refl st
 same-to (suc k) st r = same-cond (has (presentOf r) k && member k (geometric st)) (same-trans (same-to k st r) (same-placed (trackTo k st r) k (getD r (wCells + k) 0))) (same-to k st r)
-
-pub track-more : (k : ℕ) (st r : List ℕ) → axisCount st ≤ 15 → length st ≡ stateWords → trackOne (trackTo k st r) r k ≡ trackTo (k + 1) st r
-unfolding trackTo trackOne
-track-more k st r few long =
-    rw (add-one)
-    (ap (λ (gs : List ℕ). cond (has (presentOf r) k && member k gs) (placed (trackTo k st r) k (getD r (wCells + k) 0)) (trackTo k st r))
-    (same-geometric st (trackTo k st r) (same-to k st r) few long))
 
 -- what tracking keeps of what the next step reads: every word but the positions
 pub placed-keeps : (st : List ℕ) (k x j : ℕ) → (j ≡ wKnown → ⊥) → (j ≡ wKnown + 1 + k → ⊥) → getD (placed st k x) j 0 ≡ getD st j 0

@@ -2,7 +2,7 @@
 use crate::W_KNOWN;
 use crate::push::motion_then;
 use crate::push::plane_then;
-use crate::state::is_geometric;
+use crate::state::geometric_mask;
 use arcs::Plan;
 use arcs::Way;
 use arcs::plan_arc;
@@ -11,33 +11,19 @@ use floats::of_bits;
 use rows::AXIS_CODES;
 use rows::Kind;
 use rows::kind_of;
-use rows::mask_with;
+use rows::put_row;
 ghost use mathlib.Core.Path.{_≡_};
-ghost use Prim.Native.Nat.{_+_, _*_, _≤_};
+ghost use Prim.Native.Nat.{_+_, _*_, _<_, _≤_};
 ghost use lib.ListN.{length};
 ghost use Rattle.floats.specs.Lists.{flatten, spliced};
 ghost use Rattle.rows.specs.Codes.{rowWords};
 ghost use Rattle.arcs.specs.Plan.{passPlan};
-ghost use Rattle.flattener.specs.StateLaws.{Listed};
-ghost use Rattle.flattener.specs.Own.{geometricMask, Ready, nonePlan, ownRows, OwnPlanned, TurnPlanned};
+ghost use Rattle.flattener.specs.Own.{Ready, nonePlan, ownRows, OwnPlanned, TurnPlanned};
 
 // The words of the positions.
 const POSITIONS: usize = W_KNOWN + 1;
 
 const POSITIONS_END: usize = POSITIONS + AXIS_CODES;
-
-fn geometric_mask(state: &[u64]) -> u64
-    requires { ⌜ Listed (now state) ⌝ }
-    ensures { λ r. ⌜ r ≡ geometricMask (now (state .entry)) ⌝ }
-{
-    let mut m: u64 = 0;
-    let mut k: usize = 0;
-    while k < AXIS_CODES {
-        m = mask_with(m, k, is_geometric(state, k as u64));
-        k += 1;
-    }
-    m
-}
 
 fn pass_plan() -> Plan
     ensures { λ p. ⌜ p ≡ passPlan 0 ⌝ }
@@ -100,23 +86,42 @@ pub fn plan_own(state: &[u64], row: &[u64]) -> Plan
     }
 }
 
+fn write_turn(rows: &mut [u64], from: usize, state: &[u64], row: &[u64], plan: Plan)
+    requires { ⌜ (Ready (now state) (now row)) × ((OwnPlanned (now state) (now row) plan) × ((0 < plan .count) × (from + plan .count * rowWords ≤ length (now rows)))) ⌝ }
+    ensures { λ _. ⌜ now (rows .exit) ≡ spliced (now (rows .entry)) from (flatten (ownRows (now (state .entry)) (now (row .entry)) plan)) ⌝ }
+{
+    let gs = geometric_mask(state);
+    let plane = plane_then(state, row);
+    write_arc(
+        rows,
+        from,
+        row,
+        gs,
+        plane,
+        state[W_KNOWN],
+        &state[POSITIONS..POSITIONS_END],
+        plan,
+    );
+}
+
+// A row that passes is written without asking what an arc needs.
+fn write_some(rows: &mut [u64], from: usize, state: &[u64], row: &[u64], plan: Plan)
+    requires { ⌜ (Ready (now state) (now row)) × ((OwnPlanned (now state) (now row) plan) × ((0 < plan .count) × (from + plan .count * rowWords ≤ length (now rows)))) ⌝ }
+    ensures { λ _. ⌜ now (rows .exit) ≡ spliced (now (rows .entry)) from (flatten (ownRows (now (state .entry)) (now (row .entry)) plan)) ⌝ }
+{
+    let way = plan.way;
+    match way {
+        Way::Pass => put_row(rows, from, row),
+        Way::Along(_, _) => write_turn(rows, from, state, row, plan),
+    }
+}
+
 // Writes a planned block's rows from word `from` on.
 pub fn write_own(rows: &mut [u64], from: usize, state: &[u64], row: &[u64], plan: Plan)
     requires { ⌜ (Ready (now state) (now row)) × ((OwnPlanned (now state) (now row) plan) × (from + plan .count * rowWords ≤ length (now rows))) ⌝ }
     ensures { λ _. ⌜ now (rows .exit) ≡ spliced (now (rows .entry)) from (flatten (ownRows (now (state .entry)) (now (row .entry)) plan)) ⌝ }
 {
     if plan.count > 0 {
-        let gs = geometric_mask(state);
-        let plane = plane_then(state, row);
-        write_arc(
-            rows,
-            from,
-            row,
-            gs,
-            plane,
-            state[W_KNOWN],
-            &state[POSITIONS..POSITIONS_END],
-            plan,
-        );
+        write_some(rows, from, state, row, plan);
     }
 }

@@ -8,7 +8,7 @@ use crate::W_MOTION;
 use crate::W_PLANE;
 use crate::W_START;
 use crate::W_WARNED;
-use crate::state::is_geometric;
+use crate::state::geometric_mask;
 use crate::state::is_spline;
 use crate::state::place;
 use crate::state::saved_check;
@@ -20,6 +20,8 @@ use rows::ROW_WORDS;
 use rows::W_CELLS;
 use rows::check_row;
 use rows::has_bit;
+use rows::lowest_bit;
+use rows::other_bits;
 use rows::put_row;
 use whole::trunc_count;
 ghost use mathlib.Core.Path.{_≡_};
@@ -36,7 +38,7 @@ ghost use Rattle.rows.specs.Row.{number};
 ghost use Rattle.flattener.specs.State.{held, position, withBit};
 ghost use Rattle.flattener.specs.Push as Push;
 ghost use Rattle.flattener.specs.Push.{orNow, motionThen, planeThen, isFull, pushCheck, news, forgotten, opened, degreeWith, buffered, pushState, pushStore, trackTo};
-ghost use Rattle.flattener.specs.PushLaws.{Block, trackOne};
+ghost use Rattle.flattener.specs.PushLaws.{Block};
 
 // A motion or plane cell, or what is in force where there is none.
 fn or_now(v: u64, now: u64) -> u64
@@ -262,26 +264,16 @@ fn warn_if(state: &mut [u64], word: u64, new: bool)
     }
 }
 
-// Axis k takes its cell, where it is geometric and the cell is there.
-fn track_one(state: &mut [u64], row: &[u64], k: usize)
-    requires { ⌜ (Block (now state) (now row)) × (k < axisCodes) ⌝ }
-    ensures { λ _. ⌜ now (state .exit) ≡ trackOne (now (state .entry)) (now (row .entry)) k ⌝ }
-{
-    if has_bit(row[5], k as u64) {
-        if is_geometric(state, k as u64) {
-            place(state, k, row[W_CELLS + k]);
-        }
-    }
-}
-
+// The geometric axes take their cells that are there.
 fn track(state: &mut [u64], row: &[u64])
     requires { ⌜ Block (now state) (now row) ⌝ }
     ensures { λ _. ⌜ now (state .exit) ≡ trackTo axisCodes (now (state .entry)) (now (row .entry)) ⌝ }
 {
-    let mut k: usize = 0;
-    while k < AXIS_CODES {
-        track_one(state, row, k);
-        k += 1;
+    let mut rest = row[5] & geometric_mask(state);
+    while rest != 0 {
+        let k = lowest_bit(rest);
+        place(state, k, row[W_CELLS + k]);
+        rest = other_bits(rest);
     }
 }
 

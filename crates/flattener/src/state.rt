@@ -14,17 +14,21 @@ use rows::LAST_CODE;
 use rows::ROW_WORDS;
 use rows::check_row;
 use rows::has_bit;
+use rows::lowest_bit;
+use rows::other_bits;
 use rows::within_range;
 ghost use mathlib.Core.Path.{_≡_};
-ghost use mathlib.Core.Bool.{_&&_};
-ghost use Prim.Native.Nat.{_+_, _*_, _<_, _≤_};
-ghost use lib.ListN.{length};
-ghost use lib.Dec.{leb};
+ghost use mathlib.Core.Bool.{true, _&&_, not, cond};
+ghost use Prim.Native.Nat.{ℕ, _+_, _*_, _^_, _<_, _≤_};
+ghost use lib.ListN.{length, getD};
+ghost use lib.Dec.{leb, ltb};
 ghost use Rattle.floats.specs.Lists.{member};
-ghost use Rattle.rows.specs.Codes.{axisCodes, rowWords, wStart, stateWords, isSpline};
-ghost use Rattle.rows.specs.Row.{all};
-ghost use Rattle.flattener.specs.State.{tolOk, codeOk, codesOk, axesOk, geometric, pointAtOk, pointOk, heldOk, stateOk, heldRowOk, savedCheck, withBit, placed};
+ghost use Rattle.rows.specs.Codes.{axisCodes, lastCode, rowWords, wStart, stateWords, isSpline};
+ghost use Rattle.rows.specs.Row.{has, all};
+ghost use Rattle.rows.specs.Masks.{maskSum};
+ghost use Rattle.flattener.specs.State.{tolOk, codesOk, axesOk, geometric, pointAtOk, pointOk, heldOk, stateOk, heldRowOk, savedCheck, withBit, placed};
 ghost use Rattle.flattener.specs.StateLaws.{Listed, rowFits};
+ghost use Rattle.flattener.specs.Own.{geometricMask, PointOf};
 
 pub fn tol_ok(x: u64) -> bool
     ensures { λ r. ⌜ r ≡ tolOk x ⌝ }
@@ -32,23 +36,14 @@ pub fn tol_ok(x: u64) -> bool
     0 < x && x < 0x7FF0_0000_0000_0000
 }
 
-// Whether code i is one, and none before it is the same.
-fn code_ok(axes: &[u64], i: usize) -> bool
-    requires { ⌜ i < length (now axes) ⌝ }
-    ensures { λ r. ⌜ r ≡ codeOk (now (axes .entry)) i ⌝ }
+// Whether a code is one, and not among those seen.
+fn is_new(seen: u64, code: u64) -> bool
+    ensures { λ r. ⌜ r ≡ (leb code lastCode && not (has seen code)) ⌝ }
 {
-    let code = axes[i];
     if code > LAST_CODE as u64 {
         return false;
     }
-    let mut j: usize = 0;
-    while j < i {
-        if axes[j] == code {
-            return false;
-        }
-        j += 1;
-    }
-    true
+    !has_bit(seen, code)
 }
 
 pub fn codes_ok(axes: &[u64]) -> bool
@@ -57,11 +52,14 @@ pub fn codes_ok(axes: &[u64]) -> bool
     if axes.len() > 15 {
         return false;
     }
+    let mut seen: u64 = 0;
     let mut i: usize = 0;
     while i < axes.len() {
-        if !code_ok(axes, i) {
+        let code = axes[i];
+        if !is_new(seen, code) {
             return false;
         }
+        seen = set_bit(seen, code);
         i += 1;
     }
     true
@@ -104,35 +102,74 @@ pub fn is_geometric(state: &[u64], k: u64) -> bool
     is_in(&state[W_AXES..e], k)
 }
 
-// Whether axis k is not in the point at word w, or is geometric and its number in range.
-fn point_at_ok(state: &[u64], w: usize, k: usize) -> bool
-    requires { ⌜ (Listed (now state)) × ((w ≤ wStart) × (k < axisCodes)) ⌝ }
+// The mask m, with a code that is an axis.
+fn with_axis(m: u64, code: u64) -> u64
+    ensures { λ r. ⌜ r ≡ cond (ltb code axisCodes) (withBit m code) m ⌝ }
+{
+    if code >= AXIS_CODES as u64 {
+        return m;
+    }
+    set_bit(m, code)
+}
+
+fn axes_mask(codes: &[u64]) -> u64
+    ensures { λ r. ⌜ r ≡ maskSum (λ (k : ℕ). member k (now (codes .entry))) axisCodes ⌝ }
+{
+    let mut m: u64 = 0;
+    let mut i: usize = 0;
+    while i < codes.len() {
+        m = with_axis(m, codes[i]);
+        i += 1;
+    }
+    m
+}
+
+// The mask of the geometric axes.
+pub fn geometric_mask(state: &[u64]) -> u64
+    requires { ⌜ Listed (now state) ⌝ }
+    ensures { λ r. ⌜ r ≡ geometricMask (now (state .entry)) ⌝ }
+{
+    let e = W_AXES + state[1] as usize;
+    axes_mask(&state[W_AXES..e])
+}
+
+// Whether axis k of the point at word w is geometric, by their mask, and its number in range.
+fn point_at_ok(state: &[u64], w: usize, gs: u64, k: usize) -> bool
+    requires { ⌜ (PointOf (now state) w gs) × ((has (getD (now state) w 0) k ≡ true) × (k < axisCodes)) ⌝ }
     ensures { λ r. ⌜ r ≡ pointAtOk (now (state .entry)) w k ⌝ }
 {
-    if !has_bit(state[w], k as u64) {
-        return true;
-    }
-    if !is_geometric(state, k as u64) {
+    if !has_bit(gs, k as u64) {
         return false;
     }
     within_range(state[w + 1 + k])
+}
+
+// Whether the axes that the point at word w has are in order. The other words are not read.
+fn point_axes_ok(state: &[u64], w: usize, gs: u64) -> bool
+    requires { ⌜ (PointOf (now state) w gs) × (getD (now state) w 0 < 2 ^ axisCodes) ⌝ }
+    ensures { λ r. ⌜ r ≡ all axisCodes (pointAtOk (now (state .entry)) w) ⌝ }
+{
+    let mut rest = state[w];
+    while rest != 0 {
+        if !point_at_ok(state, w, gs, lowest_bit(rest)) {
+            return false;
+        }
+        rest = other_bits(rest);
+    }
+    true
 }
 
 fn point_ok(state: &[u64], w: usize) -> bool
     requires { ⌜ (Listed (now state)) × (w ≤ wStart) ⌝ }
     ensures { λ r. ⌜ r ≡ pointOk (now (state .entry)) w ⌝ }
 {
+    if state[w] == 0 {
+        return true;
+    }
     if state[w] >= 1024 {
         return false;
     }
-    let mut k: usize = 0;
-    while k < AXIS_CODES {
-        if !point_at_ok(state, w, k) {
-            return false;
-        }
-        k += 1;
-    }
-    true
+    point_axes_ok(state, w, geometric_mask(state))
 }
 
 pub fn is_spline(motion: u64) -> bool

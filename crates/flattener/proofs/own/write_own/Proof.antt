@@ -1,57 +1,20 @@
 -- `flattener::own::write_own` meets its contract. Assumes nothing.
-use mathlib.Core.Path.{sym, subst}
-use native.Mathlib.Omega.{arith}
-use Prim.Native.Nat.{ℕ, _<_, _^_}
-use lib.ListN.{length-take, length-drop}
-use Rattle.rows.specs.Codes.{axisCodes}
-use Rattle.flattener.specs.PushLaws.{block-listed}
-use Rattle.flattener.specs.Own.{geometric-mask-small, place-is}
-use Rattle.flattener.proofs.Calls.{write-at, written, unwritten}
+use Rattle.flattener.proofs.Calls.{unwritten}
 use borrow.Author.Needs.{needs}
 use Rattle.flattener.proofs.own.write_own.Statement.{statement}
 use Rattle.flattener.proofs.own.write_own.Tie as tie
 
-geometric-mask-requires : tie.Need-geometric-mask-requires
-geometric-mask-requires c κs = block-listed ((c .before .before .before .before .before .pre) .0 .block)
-
-plane-then-requires : tie.Need-plane-then-requires
-plane-then-requires c κs = (c .before .before .before .before .before .before .pre) .0 .block
-
-shared-slice-read-write-arc : tie.Need-shared-slice-read-write-arc
-shared-slice-read-write-arc c = search needs
-
-sub-write-arc : tie.Need-sub-write-arc
-sub-write-arc c = search needs
-
-part-write-arc-start : tie.Need-part-write-arc-start
-part-write-arc-start c = search needs
-
-part-write-arc-end : tie.Need-part-write-arc-end
-part-write-arc-end c = search needs
-
-write-arc-requires : tie.Need-write-arc-requires
-write-arc-requires c κs = (record { long = (c .before .before .before .before .before .before .before .before .before .before .pre) .0 .block .wide; axes = subst (λ (n : ℕ). n < 2 ^ axisCodes) (sym (c .before .before .before .before .geometric-mask .ensures)) (geometric-mask-small _); wide = simp (length-take, length-drop) (omega arith) }, write-at (c .before .before .before .before .before .before .before .before .before .before .args .state .now) (c .before .before .before .before .before .before .before .before .before .before .args .row .now) (c .before .before .before .before .before .before .before .before .before .before .args .plan) _ _ _ (c .before .before .before .before .geometric-mask .ensures) (c .before .before .before .plane-then .ensures) (place-is _ ((c .before .before .before .before .before .before .before .before .before .before .pre) .0 .known)) _ _ ((c .before .before .before .before .before .before .before .before .before .before .pre) .1 .0) (c .before .before .before .before .before .if1 .taken) ((c .before .before .before .before .before .before .before .before .before .before .pre) .1 .1))
+write-some-requires : tie.Need-write-some-requires
+write-some-requires c κs = search needs
 
 same-length : tie.Need-same-length
 same-length c = search needs
 
 returns : tie.Need-returns
-returns c = written (c .before .before .before .before .before .before .before .before .before .before .before .before .before .args .state .now) (c .before .before .before .before .before .before .before .before .before .before .before .before .before .args .row .now) (c .before .before .before .before .before .before .before .before .before .before .before .before .before .args .plan) _ _ _ (c .before .before .before .before .before .before .before .geometric-mask .ensures) (c .before .before .before .before .before .before .plane-then .ensures) (place-is _ ((c .before .before .before .before .before .before .before .before .before .before .before .before .before .pre) .0 .known)) _ _ _ (c .before .before .before .before .before .before .before .before .if1 .taken) (c .before .before .write-arc .ensures)
+returns c = search needs
 
 returns-2 : tie.Need-returns-2
 returns-2 c = unwritten _ _ _ _ _ (c .if1 .left)
 
 pub write-own-spec : {M : Type 1} → statement M
-write-own-spec =
-    tie.close
-    (tie.spec
-    geometric-mask-requires
-    plane-then-requires
-    shared-slice-read-write-arc
-    sub-write-arc
-    part-write-arc-start
-    part-write-arc-end
-    write-arc-requires
-    same-length
-    returns
-    returns-2)
+write-own-spec = tie.close (tie.spec write-some-requires same-length returns returns-2)

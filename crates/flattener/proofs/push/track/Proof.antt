@@ -1,43 +1,56 @@
 -- `flattener::push::track` meets its contract. Assumes nothing.
-use mathlib.Core.Path.{_≡_, refl, sym, ap, _∙_, subst}
-use mathlib.Core.List.{List}
+use mathlib.Core.Path.{_∙_}
 use native.Mathlib.Omega.{arith}
-use Prim.Native.Nat.{ℕ, _-_, _≤_}
-use lib.ListN.{length}
-use Rattle.rows.specs.Codes.{axisCodes}
-use Rattle.flattener.specs.Push.{trackTo}
-use Rattle.flattener.specs.PushLaws.{Block, block-same, same-to, trackOne, track-more}
+use Rattle.flattener.specs.PushLaws.{Block, block-listed}
+use Rattle.flattener.proofs.Tracks.{Tracked, tracked-long, tracked-none, tracked-axis, tracked-fewer, tracked-more, tracked}
 use borrow.Author.Needs.{needs}
 use Rattle.flattener.proofs.push.track.Statement.{statement}
 use Rattle.flattener.proofs.push.track.Tie as tie
 
 abbrev Inv-loop : tie.InvT-loop
-Inv-loop state₀ row k₀ state k = (k ≤ axisCodes) × ((state ≡ trackTo k state₀ row) × Block state₀ row)
+Inv-loop state₀ row rest₀ state rest = Tracked state₀ row rest state × Block state₀ row
 
 abbrev μ-loop : tie.MeasureT-loop
-μ-loop state₀ row k₀ state k = axisCodes - k
+μ-loop state₀ row rest₀ state rest = rest
+
+shared-slice-read-rest : tie.Need-shared-slice-read-rest Inv-loop μ-loop
+shared-slice-read-rest c = search needs
+
+geometric-mask-requires : tie.Need-geometric-mask-requires Inv-loop μ-loop
+geometric-mask-requires c κs = block-listed (c .before .before .before .before .pre)
 
 loop-holds : tie.Need-loop-holds Inv-loop μ-loop
-unfolding trackTo
-loop-holds c = (omega arith, (refl, (c .before .before .pre)))
+loop-holds c = (tracked-none _ _ (c .geometric-mask .ensures), c .before .before .before .before .before .pre)
 
-track-one-requires : tie.Need-track-one-requires Inv-loop μ-loop
-track-one-requires c κs = (subst (λ (l : List ℕ). Block l (c .before .before .before .before .before .args .row .now)) (sym ((c .before .before .loop .inv) .1 .0)) (block-same ((c .before .before .loop .inv) .1 .1) (same-to (c .before .before .loop .k) _ _)), omega arith)
+lowest-bit-requires : tie.Need-lowest-bit-requires Inv-loop μ-loop
+lowest-bit-requires c κs = search needs
 
-add-k : tie.Need-add-k Inv-loop μ-loop
-add-k c = search needs
+add-place : tie.Need-add-place Inv-loop μ-loop
+add-place c = omega (arith, tracked-axis _ _ ((c .before .before .before .loop .inv) .0) (omega arith) (c .before .lowest-bit .ensures))
+
+mul-place : tie.Need-mul-place Inv-loop μ-loop
+mul-place c = omega (arith, tracked-axis _ _ ((c .before .before .before .loop .inv) .0) (omega arith) (c .before .lowest-bit .ensures))
+
+shared-slice-read-place : tie.Need-shared-slice-read-place Inv-loop μ-loop
+shared-slice-read-place c = omega (arith, tracked-axis _ _ ((c .before .before .before .before .loop .inv) .0) (omega arith) (c .before .before .lowest-bit .ensures), (c .before .before .before .before .loop .inv) .1 .wide)
+
+place-requires : tie.Need-place-requires Inv-loop μ-loop
+place-requires c κs = (tracked-long _ _ ((c .before .before .before .before .loop .inv) .0) ∙ (c .before .before .before .before .loop .inv) .1 .long, tracked-axis _ _ ((c .before .before .before .before .loop .inv) .0) (omega arith) (c .before .before .lowest-bit .ensures))
+
+other-bits-requires : tie.Need-other-bits-requires Inv-loop μ-loop
+other-bits-requires c κs = search needs
 
 loop-less : tie.Need-loop-less Inv-loop μ-loop
-loop-less c = search needs
+loop-less c = omega (arith, tracked-fewer _ _ ((c .before .before .before .before .before .before .before .before .loop .inv) .0) (omega arith) (c .before .before .before .before .before .before .lowest-bit .ensures))
 
 loop-again : tie.Need-loop-again Inv-loop μ-loop
-loop-again c = (omega arith, ((c .before .before .track-one .ensures) ∙ ap (λ (l : List ℕ). trackOne l (c .before .before .before .before .before .before .before .before .args .row .now) (c .before .before .before .before .before .loop .k)) ((c .before .before .before .before .before .loop .inv) .1 .0) ∙ track-more (c .before .before .before .before .before .loop .k) _ _ ((c .before .before .before .before .before .loop .inv) .1 .1 .few) ((c .before .before .before .before .before .loop .inv) .1 .1 .long), (c .before .before .before .before .before .loop .inv) .1 .1))
+loop-again c = (tracked-more _ _ ((c .before .before .before .before .before .before .before .before .loop .inv) .0) (omega arith) (c .before .before .before .before .before .before .lowest-bit .ensures) (c .other-bits .ensures) (c .before .before .before .place .ensures), (c .before .before .before .before .before .before .before .before .loop .inv) .1)
 
 same-length : tie.Need-same-length Inv-loop μ-loop
-same-length c = ap length ((c .before .loop .inv) .1 .0) ∙ same-to (c .before .loop .k) _ _ .long
+same-length c = tracked-long _ _ ((c .before .loop .inv) .0)
 
 returns : tie.Need-returns Inv-loop μ-loop
-returns c = let e : (c .before .loop .k) ≡ axisCodes = omega arith in subst (λ (n : ℕ). (c .before .loop .state) ≡ trackTo n (c .before .before .before .before .args .state .now) (c .before .before .before .before .args .row .now)) e ((c .before .loop .inv) .1 .0)
+returns c = tracked _ _ ((c .before .loop .inv) .0) (omega arith)
 
 pub track-spec : {M : Type 1} → statement M
 track-spec =
@@ -45,9 +58,15 @@ track-spec =
     (tie.spec
     Inv-loop
     μ-loop
+    shared-slice-read-rest
+    geometric-mask-requires
     loop-holds
-    track-one-requires
-    add-k
+    lowest-bit-requires
+    add-place
+    mul-place
+    shared-slice-read-place
+    place-requires
+    other-bits-requires
     loop-less
     loop-again
     same-length
