@@ -1,7 +1,7 @@
 -- What a push and a close answer, by their cases. Assumes nothing.
 use Prim.Native.Nat.{ℕ, _+_, _*_, _/_, _%_, _≤_, _<_}
 use mathlib.Core.Path.{_≡_, refl, sym, _∙_, ap, ap₂}
-use mathlib.Core.Bool.{false, cond}
+use mathlib.Core.Bool.{true, false, cond}
 use mathlib.Core.List.{List, [], _∷_, _++_, append-assoc}
 use native.Mathlib.Omega.{arith}
 use native.Mathlib.Nat.{div-add-mod'}
@@ -10,7 +10,7 @@ use lib.Dec.{eqb, leb}
 use borrow.Author.Tests.{eqb-true, eqb-false, eq-eqb, ne-eqb, le-leb, lt-leb}
 use Rattle.floats.specs.Lists.{flatten, spliced}
 use Rattle.floats.specs.Splice.{spliced-none, spliced-spliced}
-use Rattle.rows.specs.Codes.{rowWords, wStart}
+use Rattle.rows.specs.Codes.{rowWords, wStart, stateWords}
 use Rattle.rows.specs.Row.{axesOf, outRow, rowCheck}
 use Rattle.arcs.specs.Plan.{planRows, wayRows, WriteOf}
 use Rattle.arcs.specs.declared.Way.the-variants.{Pass}
@@ -18,7 +18,7 @@ use Rattle.samples.specs.Rowing.{flatten-one}
 use mathlib.Core.Option.{Option}
 use Rattle.rows.specs.Truth.{by-bit, cond-t, cond-f}
 use Rattle.arcs.specs.declared.Plan.{Plan}
-use Rattle.flattener.specs.State.{held, motionNow, degree, tolerance, position, savedCheck}
+use Rattle.flattener.specs.State.{axisCount, held, motionNow, degree, tolerance, position, savedCheck}
 use Rattle.flattener.specs.Start.{plain, After}
 use Rattle.flattener.specs.Push.{emits, emission, planeThen, isFull, news, ownAnswer, pushRows, pushCheck, pushState, pushStore, pushDone, pushSpec, untouched, tooFew}
 use Rattle.flattener.specs.Close.{closeRows, closeState, closeSpec}
@@ -27,10 +27,10 @@ use Rattle.flattener.specs.Keeps.{saved-ok}
 use Rattle.flattener.specs.Own.{geometricMask, Ready, ready, OwnPlanned, ownRows, own-write, own-rows, own-no-rows}
 use lib.Ieee.{Float}
 use Rattle.gather.specs.Points.{splineOf}
-use Rattle.splines.specs.Emission.{splineGroups}
+use Rattle.splines.specs.Emission.{splineGroups, putWithin}
 use Rattle.splines.specs.Emits.{Holds}
-use Rattle.flattener.specs.StateLaws.{good, good-few}
-use Rattle.flattener.specs.Emitted.{before, before-words, codesOf, startOf, holds, emission-is, emission-few, mostEmitted}
+use Rattle.flattener.specs.StateLaws.{good, good-few, axes-few}
+use Rattle.flattener.specs.Emitted.{before, before-words, codesOf, startOf, holds, emission-is, emission-few, Put}
 
 -- what a push that passes its checks has
 pub record Passes (st store r : List ℕ) : Type 0 where
@@ -166,14 +166,52 @@ unwritten st r p rows from l =
     let e : p .count ≡ 0 = omega arith in
     spliced-none rows from ∙ ap (λ (o : List (List ℕ)). spliced rows from (flatten o)) (sym (own-no-rows st r p e))
 
--- n and m places are room for the first n rows, and for m rows after them
-pub first-room : (n m l : ℕ) {k : ℕ} → k ≡ n → n + m ≤ l / rowWords → k * rowWords ≤ l
-first-room n m l {k} e h = let d : l / rowWords * rowWords + l % rowWords ≡ l = div-add-mod' l rowWords in rw e (omega arith)
-
+-- n and m places are room for m rows after n rows
 pub row-room : (n m l : ℕ) → n + m ≤ l / rowWords → n * rowWords + m * rowWords ≤ l
 row-room n m l h = let d : l / rowWords * rowWords + l % rowWords ≡ l = div-add-mod' l rowWords in omega arith
 
+-- ---- rows that are put where they and `own` more, k together, have room
+none-put : (own : ℕ) (l : List ℕ) → Put own [] l 0 l
+unfolding putWithin flatten
+none-put own l = record {
+  count = refl;
+  few = omega arith;
+  rows = by-bit (leb (0 + own) (length l / rowWords)) (λ b. rw b (spliced-none l 0)) (λ b. rw b);
+}
+
+module _ (own : ℕ) (out : List (List ℕ)) (l : List ℕ) (n : ℕ) (l1 : List ℕ) (p : Put own out l n l1) (e : length l1 ≡ length l) (k : ℕ) (ek : k ≡ n + own) where
+  pub room-left : k ≤ length l1 / rowWords → k ≤ length l / rowWords
+  room-left h = rw e at h
+
+  pub room-short : length l1 / rowWords < k → length l / rowWords < k
+  room-short h = rw e at h
+
+  pub put-refused : length l1 / rowWords < k → l1 ≡ l
+  unfolding putWithin
+  put-refused h =
+      let s : length l / rowWords < length out + own = (let q : length l / rowWords < k = room-short h in omega (arith, p .count)) in
+      p .rows ∙ cond-f _ _ (lt-leb (length out + own) (length l / rowWords) s)
+
+  pub put-written : k ≤ length l1 / rowWords → l1 ≡ spliced l 0 (flatten out)
+  unfolding putWithin
+  put-written h =
+      let s : length out + own ≤ length l / rowWords = (let q : k ≤ length l / rowWords = room-left h in omega (arith, p .count)) in
+      p .rows ∙ cond-t _ _ (le-leb (length out + own) (length l / rowWords) s)
+
+module _ (st store r : List ℕ) where
+  pub put-before-some : {own n : ℕ} {l l1 : List ℕ} → emits st r ≡ true → Put own (emission st store) l n l1 → Put own (before st store r) l n l1
+  put-before-some e p = rw e p
+
+  pub put-before-none : (own : ℕ) (l : List ℕ) → emits st r ≡ false → Put own (before st store r) l 0 l
+  put-before-none own l e = rw e (none-put own l)
+
 -- ---- the emission, by what the code has at hand
+pub state-long : (st store : List ℕ) → savedCheck st store ≡ 0 → length st ≡ stateWords
+state-long st store p = good st (saved-ok st store p) .long
+
+pub state-axes : (st store : List ℕ) → savedCheck st store ≡ 0 → axisCount st ≤ 15
+state-axes st store p = axes-few st (good st (saved-ok st store p) .axes)
+
 module _ (st store : List ℕ) (saved : savedCheck st store ≡ 0) (axes : List ℕ) (tol : Float) (ea : axes ≡ codesOf st) (et : tol ≡ tolerance st) where
   pub holds-at : Holds axes (startOf st) store (held st)
   holds-at = rw ea (holds st store saved)
@@ -181,16 +219,13 @@ module _ (st store : List ℕ) (saved : savedCheck st store ≡ 0) (axes : List 
   rows-of : flatten (splineGroups (splineOf (motionNow st) (degree st) tol axes (getD st wStart 0) (startOf st) store (held st))) ≡ emission st store
   rows-of = rw (ea, et) (emission-is st store (saved-ok st store saved))
 
-  pub counted-at : (n : ℕ) → n ≡ length (flatten (splineGroups (splineOf (motionNow st) (degree st) tol axes (getD st wStart 0) (startOf st) store (held st))))
-      → (n ≡ length (emission st store)) × (n ≤ mostEmitted)
-  counted-at n e =
+  pub put-at : (own : ℕ) (rows : List ℕ) (n : ℕ) (u : List ℕ) → n ≡ length (flatten (splineGroups (splineOf (motionNow st) (degree st) tol axes (getD st wStart 0) (startOf st) store (held st))))
+      → u ≡ putWithin own (flatten (splineGroups (splineOf (motionNow st) (degree st) tol axes (getD st wStart 0) (startOf st) store (held st)))) rows
+      → Put own (emission st store) rows n u
+  put-at own rows n u e eu =
       let q : n ≡ length (emission st store) = e ∙ ap length rows-of in
-      (q, omega (arith, emission-few st store (good-few st (good st (saved-ok st store saved)))))
-
-  pub room-at : (rows : List ℕ) → length (emission st store) * rowWords ≤ length rows
-      → length (flatten (splineGroups (splineOf (motionNow st) (degree st) tol axes (getD st wStart 0) (startOf st) store (held st)))) * rowWords ≤ length rows
-  room-at rows h = rw rows-of h
-
-  pub emitted-at : (rows u : List ℕ) → u ≡ spliced rows 0 (flatten (flatten (splineGroups (splineOf (motionNow st) (degree st) tol axes (getD st wStart 0) (startOf st) store (held st)))))
-      → u ≡ spliced rows 0 (flatten (emission st store))
-  emitted-at rows u e = e ∙ ap (λ (o : List (List ℕ)). spliced rows 0 (flatten o)) rows-of
+      record {
+        count = q;
+        few = omega (arith, emission-few st store (good-few st (good st (saved-ok st store saved))));
+        rows = eu ∙ ap (λ (o : List (List ℕ)). putWithin own o rows) rows-of;
+      }

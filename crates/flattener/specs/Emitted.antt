@@ -22,7 +22,7 @@ use Rattle.gather.specs.Flat.{Sized, sized-append, sized-cons, flatten-append, 
 use Rattle.gather.specs.Curve.{points-length}
 use Rattle.gather.specs.Keeps.{keep-most}
 use Rattle.places.specs.Groups.{pointGroup, heldGroup}
-use Rattle.splines.specs.Emission.{runsOf, splineGroups}
+use Rattle.splines.specs.Emission.{runsOf, splineGroups, putWithin}
 use Rattle.splines.specs.Emits.{Holds}
 use Rattle.splines.specs.Laws.{shown-part, blocks-are}
 use Rattle.splines.specs.Widths.{runs-few}
@@ -161,6 +161,12 @@ emission-few st store h =
     let s : Spline = heldSpline st store in
     let n : length (heldRows st store) ≡ held st = length-upto _ (held st) in
     omega (arith, few-groups (heldGroup s (runsOf s)) (few-group s (runsOf s) (few-runs s (omega arith))) (length (heldRows st store)), n)
+
+-- n rows are counted, and written to the front of l where they and `own` more have room
+pub record Put (own : ℕ) (out : List (List ℕ)) (l : List ℕ) (n : ℕ) (l1 : List ℕ) : Type 0 where
+  pub count : n ≡ length out
+  pub few : n ≤ mostEmitted
+  pub rows : l1 ≡ putWithin own out l
 
 -- the rows before the block's own
 abbrev pub before : List ℕ → List ℕ → List ℕ → List (List ℕ)

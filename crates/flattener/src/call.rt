@@ -18,18 +18,15 @@ use crate::state::saved_check;
 use floats::of_bits;
 use rows::AXIS_CODES;
 use rows::ROW_WORDS;
-use splines::emission_count;
-use splines::emit;
+use splines::emit_within;
 ghost use mathlib.Core.Path.{_≡_};
 ghost use mathlib.Core.Bool.{cond};
-ghost use Prim.Native.Nat.{_*_, _≤_};
-ghost use lib.ListN.{length};
-ghost use Rattle.floats.specs.Lists.{flatten, spliced};
-ghost use Rattle.rows.specs.Codes.{rowWords};
+ghost use Prim.Native.Nat.{_≤_};
+ghost use Rattle.splines.specs.Emits.{mostOwn};
 ghost use Rattle.flattener.specs.Push.{emission, tooFew, pushSpec, PushIs};
 ghost use Rattle.flattener.specs.State.{savedCheck};
 ghost use Rattle.flattener.specs.PushLaws.{Block, doneReply};
-ghost use Rattle.flattener.specs.Emitted.{before, mostEmitted};
+ghost use Rattle.flattener.specs.Emitted.{before, Put};
 ghost use Rattle.flattener.specs.Close.{closeSpec};
 
 // The words of the curve start.
@@ -67,13 +64,14 @@ fn warning_of(new: bool, warning: u64) -> u64
     if new { 7 } else { warning }
 }
 
-// How many rows the emission of the held spline has.
-fn count_emission(state: &[u64], store: &[u64]) -> usize
-    requires { ⌜ savedCheck (now state) (now store) ≡ 0 ⌝ }
-    ensures { λ r. ⌜ (r ≡ length (emission (now (state .entry)) (now (store .entry)))) × (r ≤ mostEmitted) ⌝ }
+// Counts the rows of the emission of the held spline and, where they and `own` more have room, writes them to the front
+// of `rows`.
+fn put_emission(state: &[u64], store: &[u64], rows: &mut [u64], own: usize) -> usize
+    requires { ⌜ (savedCheck (now state) (now store) ≡ 0) × (own ≤ mostOwn) ⌝ }
+    ensures { λ r. ⌜ Put own (emission (now (state .entry)) (now (store .entry))) (now (rows .entry)) r (now (rows .exit)) ⌝ }
 {
     let e = W_AXES + state[1] as usize;
-    emission_count(
+    emit_within(
         state[W_MOTION],
         state[W_DEGREE],
         of_bits(state[0]),
@@ -82,46 +80,20 @@ fn count_emission(state: &[u64], store: &[u64]) -> usize
         &state[START..START_END],
         store,
         state[W_HELD] as usize,
+        own,
+        rows,
     ) as usize
 }
 
-// Writes the emission of the held spline to the front of `rows`.
-fn write_emission(state: &[u64], store: &[u64], rows: &mut [u64])
-    requires { ⌜ (savedCheck (now state) (now store) ≡ 0) × (length (emission (now state) (now store)) * rowWords ≤ length (now rows)) ⌝ }
-    ensures { λ _. ⌜ now (rows .exit) ≡ spliced (now (rows .entry)) 0 (flatten (emission (now (state .entry)) (now (store .entry)))) ⌝ }
-{
-    let e = W_AXES + state[1] as usize;
-    emit(
-        state[W_MOTION],
-        state[W_DEGREE],
-        of_bits(state[0]),
-        &state[W_AXES..e],
-        state[W_START],
-        &state[START..START_END],
-        store,
-        state[W_HELD] as usize,
-        rows,
-    );
-}
-
-// How many rows go out before the block's own.
-fn count_before(state: &[u64], store: &[u64], row: &[u64]) -> usize
-    requires { ⌜ (savedCheck (now state) (now store) ≡ 0) × (Block (now state) (now row)) ⌝ }
-    ensures { λ r. ⌜ (r ≡ length (before (now (state .entry)) (now (store .entry)) (now (row .entry)))) × (r ≤ mostEmitted) ⌝ }
+// The same with the rows that go out before the block's own.
+fn put_before(state: &[u64], store: &[u64], rows: &mut [u64], row: &[u64], own: usize) -> usize
+    requires { ⌜ (savedCheck (now state) (now store) ≡ 0) × ((Block (now state) (now row)) × (own ≤ mostOwn)) ⌝ }
+    ensures { λ r. ⌜ Put own (before (now (state .entry)) (now (store .entry)) (now (row .entry))) (now (rows .entry)) r (now (rows .exit)) ⌝ }
 {
     if emits(state, row) {
-        return count_emission(state, store);
+        return put_emission(state, store, rows, own);
     }
     0
-}
-
-fn write_before(state: &[u64], store: &[u64], rows: &mut [u64], row: &[u64])
-    requires { ⌜ (savedCheck (now state) (now store) ≡ 0) × ((Block (now state) (now row)) × (length (before (now state) (now store) (now row)) * rowWords ≤ length (now rows))) ⌝ }
-    ensures { λ _. ⌜ now (rows .exit) ≡ spliced (now (rows .entry)) 0 (flatten (before (now (state .entry)) (now (store .entry)) (now (row .entry)))) ⌝ }
-{
-    if emits(state, row) {
-        write_emission(state, store, rows);
-    }
 }
 
 // Pushes a block: its rows go to the front of `rows`.
@@ -139,13 +111,12 @@ pub extern "C" fn flat_push(
         return plain_reply(code);
     }
     let plan = plan_own(state, row);
-    let first = count_before(state, store, row);
+    let first = put_before(state, store, rows, row, plan.count);
     let needed = first + plan.count;
     if rows.len() / ROW_WORDS < needed {
         return too_few(needed as u64);
     }
     let warning = warning_of(is_news(state, row), plan.warning);
-    write_before(state, store, rows, row);
     write_own(rows, first * ROW_WORDS, state, row, plan);
     push_store(state, store, row);
     push_state(state, row);
@@ -164,11 +135,10 @@ pub extern "C" fn flat_close(state: &mut [u64], store: &[u64], rows: &mut [u64])
     if state[W_HELD] == 0 {
         return plain_reply(0);
     }
-    let needed = count_emission(state, store);
+    let needed = put_emission(state, store, rows, 0);
     if rows.len() / ROW_WORDS < needed {
         return too_few(needed as u64);
     }
-    write_emission(state, store, rows);
     forget(state);
     done_reply(needed as u64, 0, 0, 0)
 }

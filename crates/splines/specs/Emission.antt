@@ -1,10 +1,13 @@
 -- Document 01, "Spline": the group of each held block; an emission is their concatenation. Assumes nothing.
-use Prim.Native.Nat.{ℕ}
+use Prim.Native.Nat.{ℕ, _+_, _/_}
+use mathlib.Core.Bool.{cond}
 use mathlib.Core.List.{List, _∷_, map}
 use lib.ListN.{length}
+use lib.Dec.{leb}
 use lib.Ieee.{Float}
 use Rattle.floats.specs.Numbers.{f1}
-use Rattle.floats.specs.Lists.{upto}
+use Rattle.floats.specs.Lists.{upto, flatten, spliced}
+use Rattle.rows.specs.Codes.{rowWords}
 use Rattle.curves.specs.Runs.{curveRuns}
 pub use Rattle.gather.specs.Points.{Spline}
 pub use Rattle.places.specs.Groups.{isBasis}
@@ -22,3 +25,7 @@ runsOf s =
 
 unfoldable pub splineGroups : Spline → List (List (List ℕ))
 splineGroups s = let runs = runsOf s in upto (heldGroup s runs) (length (s .blocks))
+
+-- "Room is judged for both together": rows written to the front of l where they and `own` more have room
+unfoldable pub putWithin : ℕ → List (List ℕ) → List ℕ → List ℕ
+putWithin own out l = cond (leb (length out + own) (length l / rowWords)) (spliced l 0 (flatten out)) l

@@ -1,40 +1,44 @@
 -- What an emission asks and leaves, and the laws that its code cites. Assumes nothing.
-use Prim.Native.Nat.{ℕ, zero, suc, _+_, _*_, _-_, _^_, _≤_, _<_}
-use mathlib.Core.Path.{_≡_, refl, sym, _∙_, ap, ap₂, subst}
-use mathlib.Core.Bool.{Bool, true, false, cond, not, _&&_, false≢true, true≢false}
+use Prim.Native.Nat.{ℕ, zero, suc, _+_, _*_, _/_, _%_, _-_, _^_, _≤_, _<_}
+use mathlib.Core.Path.{_≡_, refl, sym, _∙_, ap, ap₂}
+use mathlib.Core.Bool.{Bool, true, false, cond, not, true≢false}
 use mathlib.Core.List.{List, [], _∷_, _++_, map, append-nil}
 use mathlib.Core.Option.{Option}
 use mathlib.Core.Logic.{⊎-elim}
-use native.Mathlib.Nat.{mul-le-mul, le-trans}
+use native.Mathlib.Nat.{mul-le-mul, le-trans, div-add-mod'}
 use native.Mathlib.Omega.{arith}
 use lib.Dec.{leb, eqb}
 use lib.ListN.{length, getD, take, drop, replicate, length-append, length-map, length-replicate, List·getD-eq-default, getD-replicate}
-use lib.Seq.{length-take-le, getD-take, drop-append-add, drop-drop, take-length}
+use lib.Seq.{drop-append-add, drop-drop, take-length}
 use lib.Ieee.{Float}
 use borrow.Author.Tests.{le-leb, lt-leb}
 use Rattle.floats.specs.Numbers.{bits, f1}
 use Rattle.floats.specs.Lists.{upto, keep, member, filled, flatten, rowsOf, spliced}
-use Rattle.floats.specs.Fill.{length-upto, at-upto, at-filled, past-filled, length-filled, lt-or-le}
+use Rattle.floats.specs.Fill.{length-upto, at-filled, past-filled, length-filled, lt-or-le}
 use Rattle.floats.specs.Splice.{spliced-none}
-use Rattle.rows.specs.Codes.{geometricOf}
+use Rattle.rows.specs.Codes.{rowWords, geometricOf}
 use Rattle.rows.specs.Row.{has, shown, hasPoint}
 use Rattle.rows.specs.Masks.{maskSum, has-mask, mask-lt, has-past, member-keep}
 use Rattle.metric.specs.Below.{Below}
+use Rattle.curves.specs.declared.Shape.{Shape}
+use Rattle.curves.specs.Walks.{knotRoom, controlRoom}
+use Rattle.curves.specs.Ready.{Ready}
 use Rattle.curves.specs.Runs.{curveRuns, encode}
 use Rattle.gather.specs.Points.{Spline, channels, channelsFrom, pointRows, startPoint, startValue, pointsFrom, metricOf, weightOf, blockAt, splineOf}
 use Rattle.gather.specs.Append.{Appended}
 use Rattle.gather.specs.Flat.{Sized, sized-cons, flat-row, flatten-append, length-flatten}
-use Rattle.gather.specs.Channels.{Once, Good, channels-good, channels-few, geometric-few, once-distinct, distinct-keep, none-good, isXyz}
+use Rattle.gather.specs.Channels.{Once, Good, channels-good, channels-few, geometric-few, once-distinct, distinct-keep, none-good}
 use Rattle.gather.specs.Curve.{Codes, PointsAre, points-sized, points-length}
 use Rattle.gather.specs.Keeps.{keep-upto-most, keep-most, member-at}
 use Rattle.places.specs.declared.layout.Layout.{Layout}
 use Rattle.places.specs.declared.place.Place.{Place}
 use Rattle.places.specs.Groups.{placeOf, isBasis}
-use Rattle.places.specs.Sizes.{Few, placeTo, place-points}
+use Rattle.places.specs.Sizes.{Few, placeTo, place-few, place-points}
 use Rattle.places.specs.Raw.{rawAt, rawHeld}
 use Rattle.places.specs.Puts.{Sound, Spreads, heldWords, place-order, block-long, moved-rows}
 use Rattle.splines.specs.declared.Curve.{Curve}
-use Rattle.splines.specs.Emission.{runsOf, splineGroups}
+use Rattle.splines.specs.declared.Plan.{Plan}
+use Rattle.splines.specs.Emission.{runsOf, splineGroups, putWithin}
 use Rattle.splines.specs.Widths.{runs-many, runs-wide, runs-few, getD-map}
 use Rattle.splines.specs.Words.{Lies, place-below, place-sum, same-words, same-count}
 
@@ -44,6 +48,13 @@ pub record Holds (axes words store : List ℕ) (held : ℕ) : Type 0 where
   pub start : 10 ≤ length words
   pub lent : held * 29 ≤ length store
   pub many : held ≤ 256
+
+-- an emission has at most so many rows, and the block after it
+abbrev pub mostRows : ℕ
+mostRows = 2 ^ 57
+
+abbrev pub mostOwn : ℕ
+mostOwn = 2 ^ 57
 
 -- the numbers of a curve, gathered: the channels, the metric's places, the points and the weights
 pub record Gathered (gs : List ℕ) (start : ℕ → Option ℕ) (blocks : List (List ℕ)) (g : Curve) (chans ms : List ℕ) (pts ws : List Float) : Type 0 where
@@ -65,13 +76,22 @@ pub record Curved (n ch : ℕ) (ms : List ℕ) (pts ws : List Float) : Type 0 wh
   pub points : 2570 ≤ length pts
   pub weights : 257 ≤ length ws
 
-pub record LaidOut (axes chans : List ℕ) (basis : Bool) (points : ℕ) (l places : List ℕ) (o : Layout) : Type 0 where
-  pub placed : places ≡ filled (λ (k : ℕ). placeOf k chans) 10 l
-  pub listed : o .axes ≡ maskSum (λ (k : ℕ). member k axes) 10
-  pub mask : o .mask ≡ maskSum (λ (k : ℕ). member k chans) 10
-  pub ch : o .ch ≡ length chans
-  pub kind : o .basis ≡ basis
-  pub count : o .points ≡ points
+-- where the channels lie in a sample, and what every row has to know
+abbrev pub placesOf : List ℕ → List ℕ
+placesOf chans = filled (λ (k : ℕ). placeOf k chans) 10 (replicate 10 0)
+
+abbrev pub layoutOf : List ℕ → List ℕ → Bool → ℕ → Layout
+layoutOf axes chans basis points = record {
+  axes = maskSum (λ (k : ℕ). member k axes) 10;
+  mask = maskSum (λ (k : ℕ). member k chans) 10;
+  ch = length chans;
+  basis = basis;
+  points = points;
+}
+
+-- the tables are those of the points, where there are two
+pub record Drawn (motion degree n ch : ℕ) (ms : List ℕ) (pts ws : List Float) (s : Shape) (ks cs : List Float) : Type 0 where
+  pub tables : 2 ≤ n → Ready motion degree n ch ms pts ws s ks cs
 
 -- the samples of each point block are counted, and with them the rows
 pub record Counted (s : Spline) (f : ℕ → List ℕ) (held : ℕ) (counts : List ℕ) (total : Place) : Type 0 where
@@ -79,6 +99,24 @@ pub record Counted (s : Spline) (f : ℕ → List ℕ) (held : ℕ) (counts : Li
   pub counted : (j : ℕ) → j < length (runsOf s) → getD counts j 0 ≡ length (getD (runsOf s) j [])
   pub place : total ≡ placeTo (s .axes) counts f held
   pub rows : total .rows ≡ length (flatten (splineGroups s))
+
+-- the arrays that an emission is planned in
+pub record Rooms (chans ms : List ℕ) (pts ws ks cs : List Float) (counts : List ℕ) : Type 0 where
+  pub axes : 10 ≤ length chans
+  pub metric : 10 ≤ length ms
+  pub points : 2570 ≤ length pts
+  pub weights : 257 ≤ length ws
+  pub knots : knotRoom ≤ length ks
+  pub controls : controlRoom ≤ length cs
+  pub blocks : 256 ≤ length counts
+  pub few : Few counts
+
+-- an emission is gathered, prepared and counted
+pub record Planned (motion degree : ℕ) (tol : Float) (axes : List ℕ) (start : ℕ) (words store : List ℕ) (held : ℕ) (chans ms : List ℕ) (pts ws ks cs : List Float) (counts : List ℕ) (p : Plan) : Type 0 where
+  pub gathered : Gathered (geometricOf axes) (shown start words) (upto (blockAt store) held) (p .curve) chans ms pts ws
+  pub drawn : Drawn motion degree (p .curve .n) (p .curve .ch) (take (p .curve .metric) ms) pts ws (p .shape) ks cs
+  pub counted : Counted (splineOf motion degree tol axes start words store held) (blockAt store) held counts (p .place)
+  pub few : p .place .rows ≤ mostRows
 
 -- ---- the channels of listed axes
 module _ (axes : List ℕ) (blocks : List (List ℕ)) (o : Once axes) where
@@ -253,34 +291,43 @@ mask-codes cs h k = ⊎-elim
     no false e g = refl
     no true e g = absurd (omega (arith, h k e))
 
-module _ (s : Spline) (axes chans : List ℕ) (basis : Bool) (points : ℕ) (l places : List ℕ) (o : Layout) (h : LaidOut axes chans basis points l places o)
-    (ea : s .axes ≡ geometricOf axes) (ec : chans ≡ channels s) (below : (k : ℕ) → member k (channels s) ≡ true → k < 10) (wide : 10 ≤ length l) where
-  mask-small : o .mask < 1024
-  mask-small = rw (h .mask) (mask-lt (λ (k : ℕ). member k chans) 10)
+module _ (s : Spline) (axes chans : List ℕ) (basis : Bool) (points : ℕ)
+    (ea : s .axes ≡ geometricOf axes) (ec : chans ≡ channels s) (below : (k : ℕ) → member k (channels s) ≡ true → k < 10) where
+  laid : Layout
+  laid = layoutOf axes chans basis points
 
-  mask-is : (k : ℕ) → has (o .mask) k ≡ member k (channels s)
-  mask-is k = rw (h .mask, ec) (mask-codes (channels s) below k)
+  mask-small : laid .mask < 1024
+  unfolding laid
+  mask-small = mask-lt (λ (k : ℕ). member k chans) 10
 
-  place-is : (k : ℕ) → has (o .mask) k ≡ true → getD places k 0 ≡ placeOf k (channels s)
-  place-is k e = rw (h .placed, ec) (at-filled (λ (k : ℕ). placeOf k (channels s)) l 10 k 0 (bit-below (o .mask) k mask-small e))
+  mask-is : (k : ℕ) → has (laid .mask) k ≡ member k (channels s)
+  unfolding laid
+  mask-is k = rw ec (mask-codes (channels s) below k)
 
-  pub laid-sound : length (channels s) ≤ 10 → Sound o places
+  place-is : (k : ℕ) → has (laid .mask) k ≡ true → getD (placesOf chans) k 0 ≡ placeOf k (channels s)
+  unfolding laid
+  place-is k e = rw ec (at-filled (λ (k : ℕ). placeOf k (channels s)) (replicate 10 0) 10 k 0 (bit-below (laid .mask) k mask-small e))
+
+  pub laid-sound : length (channels s) ≤ 10 → Sound (layoutOf axes chans basis points) (placesOf chans)
+  unfolding laid
   laid-sound few = record {
-    axes = rw (h .listed) (mask-lt (λ (k : ℕ). member k axes) 10);
+    axes = mask-lt (λ (k : ℕ). member k axes) 10;
     mask = mask-small;
-    wide = rw (h .placed, length-filled (λ (k : ℕ). placeOf k chans) l 10 wide) wide;
-    inside = λ k e. rw (place-is k e, h .ch, ec) (place-below k (channels s) (sym (mask-is k) ∙ e));
-    narrow = rw (h .ch, ec) few;
+    wide = rw (length-filled (λ (k : ℕ). placeOf k chans) (replicate 10 0) 10 (omega arith)) (omega arith);
+    inside = λ k e. rw (place-is k e, ec) (place-below k (channels s) (sym (mask-is k) ∙ e));
+    narrow = rw ec few;
   }
 
-  pub laid-lies : (counts : List ℕ) → basis ≡ isBasis s → points ≡ length (runsOf s) → ((j : ℕ) → j < length (runsOf s) → getD counts j 0 ≡ length (getD (runsOf s) j [])) → Lies s (runsOf s) o places counts
+  pub laid-lies : (counts : List ℕ) → basis ≡ isBasis s → points ≡ length (runsOf s) → ((j : ℕ) → j < length (runsOf s) → getD counts j 0 ≡ length (getD (runsOf s) j []))
+      → Lies s (runsOf s) (layoutOf axes chans basis points) (placesOf chans) counts
+  unfolding laid
   laid-lies counts eb ep ej = record {
-    small = rw (h .listed) (mask-lt (λ (k : ℕ). member k axes) 10);
-    axes = λ k. rw (h .listed, ea) (mask-axes axes k);
+    small = mask-lt (λ (k : ℕ). member k axes) 10;
+    axes = λ k. rw ea (mask-axes axes k);
     mask = mask-is;
     placed = place-is;
-    basis = h .kind ∙ eb;
-    points = h .count ∙ ep;
+    basis = eb;
+    points = ep;
     counted = ej;
   }
 
@@ -313,32 +360,20 @@ module _ (motion degree : ℕ) (tol : Float) (axes : List ℕ) (start : ℕ) (wo
   unfolding channels
   chans-few = channels-few axes (upto (blockAt store) held) (h .once)
 
-  -- a layout that is the spline's
-  ideal : Layout
-  ideal = record {
-    axes = maskSum (λ (k : ℕ). member k axes) 10;
-    mask = maskSum (λ (k : ℕ). member k (channels (splineOf motion degree tol axes start words store held))) 10;
-    ch = length (channels (splineOf motion degree tol axes start words store held));
-    basis = eqb motion 6;
-    points = length (runsOf (splineOf motion degree tol axes start words store held));
-  }
-
   pub counted-is : (counts : List ℕ) (total : Place) → 256 ≤ length counts
       → ((j : ℕ) → j < length (runsOf (splineOf motion degree tol axes start words store held)) → getD counts j 0 ≡ length (getD (runsOf (splineOf motion degree tol axes start words store held)) j []))
       → total ≡ placeTo (geometricOf axes) counts (blockAt store) held → Counted (splineOf motion degree tol axes start words store held) (blockAt store) held counts total
-  unfolding splineGroups ideal
+  unfolding splineGroups
   counted-is counts total k ej ep =
       let s : Spline = splineOf motion degree tol axes start words store held in
-      let g : ℕ → ℕ = λ k. placeOf k (channels s) in
-      let l : List ℕ = replicate 10 0 in
-      let laid : LaidOut axes (channels s) (eqb motion 6) (length (runsOf s)) l (filled g 10 l) ideal = record { placed = refl; listed = refl; mask = refl; ch = refl; kind = refl; count = refl } in
-      let lies : Lies s (runsOf s) ideal (filled g 10 l) counts = laid-lies s axes (channels s) (eqb motion 6) (length (runsOf s)) l (filled g 10 l) ideal laid refl refl chans-below (omega arith) counts refl refl ej in
+      let o : Layout = layoutOf axes (channels s) (eqb motion 6) (length (runsOf s)) in
+      let lies : Lies s (runsOf s) o (placesOf (channels s)) counts = laid-lies s axes (channels s) (eqb motion 6) (length (runsOf s)) refl refl chans-below counts refl refl ej in
       record {
         known = omega (arith, h .many);
         counted = ej;
         place = ep;
         rows = ap (λ (p : Place). p .rows) ep
-            ∙ sym (same-count s (runsOf s) ideal (filled g 10 l) counts lies (blockAt store) held refl many-runs wide-runs (λ (q : ℕ). map bits (getD (flatten (runsOf s)) q [])) (λ q l. refl));
+            ∙ sym (same-count s (runsOf s) o (placesOf (channels s)) counts lies (blockAt store) held refl many-runs wide-runs (λ (q : ℕ). map bits (getD (flatten (runsOf s)) q [])) (λ q l. refl));
       }
 
 -- ---- samples as words
@@ -391,33 +426,56 @@ module _ (motion degree : ℕ) (tol : Float) (axes : List ℕ) (start : ℕ) (wo
       let m : p .samples * length (channels s) ≤ p .rows * 29 = mul-le-mul {n₁ = p .samples} {m₁ = length (channels s)} {n₂ = p .rows} {m₂ = 29} (place-order (geometricOf axes) counts (blockAt store) held) (omega (arith, chans-few motion degree tol axes start words store held h)) in
       rw (n, ← q, c .place) m
 
-  module _ (chans l places : List ℕ) (points : ℕ) (o : Layout) (lo : LaidOut axes chans (eqb motion 6) points l places o) (wide : 10 ≤ length l)
-      (ec : chans ≡ channels (splineOf motion degree tol axes start words store held)) (ep : points ≡ length (runsOf (splineOf motion degree tol axes start words store held))) where
-    pub spreads-is : (rows rows1 : List ℕ) → total .rows * 29 ≤ length rows → length rows1 ≡ length rows → Spreads o (geometricOf axes) places counts (blockAt store) held total rows1
-    spreads-is rows rows1 room e =
+  module _ (chans : List ℕ) (points : ℕ) (ec : chans ≡ channels (splineOf motion degree tol axes start words store held)) (ep : points ≡ length (runsOf (splineOf motion degree tol axes start words store held))) where
+    pub spreads-is : (rows : List ℕ) → total .rows * 29 ≤ length rows → Spreads (layoutOf axes chans (eqb motion 6) points) (geometricOf axes) (placesOf chans) counts (blockAt store) held total rows
+    spreads-is rows room =
         let s : Spline = splineOf motion degree tol axes start words store held in
         record {
-          sound = laid-sound s axes chans (eqb motion 6) points l places o lo refl ec (chans-below motion degree tol axes start words store held h) wide (chans-few motion degree tol axes start words store held h);
+          sound = laid-sound s axes chans (eqb motion 6) points refl ec (chans-below motion degree tol axes start words store held h) (chans-few motion degree tol axes start words store held h);
           known = c .known;
           many = h .many;
           place = c .place;
-          room = rw e room;
+          room = room;
         }
 
     pub emitted-is : (rows rows1 rows2 : List ℕ) → rows1 ≡ spliced rows 0 (encode (flatten (runsOf (splineOf motion degree tol axes start words store held))))
-        → rows2 ≡ spliced rows1 0 (flatten (upto (heldWords o (geometricOf axes) places counts (blockAt store) rows1) held))
+        → rows2 ≡ spliced rows1 0 (flatten (upto (heldWords (layoutOf axes chans (eqb motion 6) points) (geometricOf axes) (placesOf chans) counts (blockAt store) rows1) held))
         → rows2 ≡ spliced rows 0 (flatten (flatten (splineGroups (splineOf motion degree tol axes start words store held))))
     unfolding splineGroups heldWords
     emitted-is rows rows1 rows2 e1 e2 =
         let s : Spline = splineOf motion degree tol axes start words store held in
-        let W : List ℕ = flatten (upto (heldWords o (geometricOf axes) places counts (blockAt store) rows1) held) in
-        let lies : Lies s (runsOf s) o places counts = laid-lies s axes chans (eqb motion 6) points l places o lo refl ec (chans-below motion degree tol axes start words store held h) wide counts refl ep (c .counted) in
-        let ech : o .ch ≡ length (channels s) = lo .ch ∙ ap length ec in
+        let o : Layout = layoutOf axes chans (eqb motion 6) points in
+        let W : List ℕ = flatten (upto (heldWords o (geometricOf axes) (placesOf chans) counts (blockAt store) rows1) held) in
+        let lies : Lies s (runsOf s) o (placesOf chans) counts = laid-lies s axes chans (eqb motion 6) points refl ec (chans-below motion degree tol axes start words store held h) counts refl ep (c .counted) in
         let raw : (q : ℕ) → q < length (flatten (runsOf s)) → rawAt (o .ch) rows1 q ≡ map bits (getD (flatten (runsOf s)) q []) =
-        λ q lt. rw ech (raw-is (length (channels s)) (flatten (runsOf s)) rows rows1 q (wide-runs motion degree tol axes start words store held h) e1 lt) in
-        let n : length W ≡ total .rows * 29 = words-long o (geometricOf axes) places counts (blockAt store) rows1 held ∙ ap (λ (p : Place). p .rows * 29) (sym (c .place)) in
+        λ q lt. rw (ap length ec) (raw-is (length (channels s)) (flatten (runsOf s)) rows rows1 q (wide-runs motion degree tol axes start words store held h) e1 lt) in
+        let n : length W ≡ total .rows * 29 = words-long o (geometricOf axes) (placesOf chans) counts (blockAt store) rows1 held ∙ ap (λ (p : Place). p .rows * 29) (sym (c .place)) in
         e2 ∙ ap (λ (x : List ℕ). spliced x 0 W) e1 ∙ spliced-over rows (encode (flatten (runsOf s))) W (rw n encoded-few)
-        ∙ ap (spliced rows 0) (sym (same-words s (runsOf s) o places counts lies (blockAt store) held refl (many-runs motion degree tol axes start words store held h) (wide-runs motion degree tol axes start words store held h) (rawAt (o .ch) rows1) raw))
+        ∙ ap (spliced rows 0) (sym (same-words s (runsOf s) o (placesOf chans) counts lies (blockAt store) held refl (many-runs motion degree tol axes start words store held h) (wide-runs motion degree tol axes start words store held h) (rawAt (o .ch) rows1) raw))
+
+-- the layout and the places as the code has them
+module _ (axes chans : List ℕ) (basis : Bool) (points : ℕ) (counts : List ℕ) (f : ℕ → List ℕ) (held : ℕ) (rows places : List ℕ) (a m : ℕ)
+    (ea : a ≡ maskSum (λ (k : ℕ). member k axes) 10) (em : m ≡ maskSum (λ (k : ℕ). member k chans) 10) (ep : places ≡ placesOf chans) where
+  pub spreads-at : (total : Place) → Spreads (layoutOf axes chans basis points) (geometricOf axes) (placesOf chans) counts f held total rows
+      → Spreads (record { axes = a; mask = m; ch = length chans; basis = basis; points = points }) (geometricOf axes) places counts f held total rows
+  spreads-at total s = rw (ea, em, ep) s
+
+  pub spread-at : (u : List ℕ) → u ≡ spliced rows 0 (flatten (upto (heldWords (record { axes = a; mask = m; ch = length chans; basis = basis; points = points }) (geometricOf axes) places counts f rows) held))
+      → u ≡ spliced rows 0 (flatten (upto (heldWords (layoutOf axes chans basis points) (geometricOf axes) (placesOf chans) counts f rows) held))
+  spread-at u e = rw (ea, em, ep) at e
+
+-- ---- rows that are written where they and `own` more have room
+rooms : (n own l : ℕ) → n + own ≤ l / rowWords → n * rowWords ≤ l
+rooms n own l h = let d : l / rowWords * rowWords + l % rowWords ≡ l = div-add-mod' l rowWords in omega arith
+
+module _ (own : ℕ) (out : List (List ℕ)) (n : ℕ) (l : List ℕ) (e : n ≡ length out) where
+  pub put-none : length l / rowWords < n + own → l ≡ putWithin own out l
+  unfolding putWithin
+  put-none h = rw (lt-leb (length out + own) (length l / rowWords) (rw e at h))
+
+  pub put-some : (l1 : List ℕ) → n + own ≤ length l / rowWords → l1 ≡ spliced l 0 (flatten out) → l1 ≡ putWithin own out l
+  unfolding putWithin
+  put-some l1 h q = q ∙ rw (le-leb (length out + own) (length l / rowWords) (rw e at h))
 
 -- ---- what was gathered, counted and laid out, together
 module _ (motion degree : ℕ) (tol : Float) (axes : List ℕ) (start : ℕ) (words store : List ℕ) (held : ℕ) (h : Holds axes words store held)
@@ -438,17 +496,28 @@ module _ (motion degree : ℕ) (tol : Float) (axes : List ℕ) (start : ℕ) (wo
       ∙ ap (λ (x : List (List (List Float))). length (getD x j [])) (runs-are motion degree tol axes start words store held g chans ms pts ws ga))
       ep
 
-  module _ (counts : List ℕ) (total : Place) (c : Counted (splineOf motion degree tol axes start words store held) (blockAt store) held counts total) (rows : List ℕ) (room : total .rows * 29 ≤ length rows) where
+  pub planned-of : (ks cs : List Float) (shape : Shape) (l counts : List ℕ) (total : Place) → Drawn motion degree (g .n) (g .ch) (take (g .metric) ms) pts ws shape ks cs → 256 ≤ length counts → Few counts
+      → counts ≡ filled (λ (i : ℕ). length (getD (curveRuns motion degree (take (g .metric) ms) tol (rowsOf pts (g .ch) (g .n)) (take (g .n) ws)) i [])) (g .n - 1) l
+      → total ≡ placeTo (geometricOf axes) counts (blockAt store) held
+      → Planned motion degree tol axes start words store held chans ms pts ws ks cs counts (record { curve = g; shape = shape; place = total })
+  planned-of ks cs shape l counts total d k few e ep = record {
+    gathered = ga;
+    drawn = d;
+    counted = counted-of l counts total k e ep;
+    few = rw ep (omega (arith, h .many, place-few counts few (geometricOf axes) (blockAt store) held .0));
+  }
+
+  module _ (counts : List ℕ) (total : Place) (c : Counted (splineOf motion degree tol axes start words store held) (blockAt store) held counts total) (own : ℕ) (rows : List ℕ) (room : total .rows + own ≤ length rows / rowWords) where
     pub samples-room : length (encode (flatten (curveRuns motion degree (take (g .metric) ms) tol (rowsOf pts (g .ch) (g .n)) (take (g .n) ws)))) ≤ length rows
-    samples-room = rw (runs-are motion degree tol axes start words store held g chans ms pts ws ga) (le-trans (encoded-few motion degree tol axes start words store held h counts total c) room)
+    samples-room = rw (runs-are motion degree tol axes start words store held g chans ms pts ws ga) (le-trans (encoded-few motion degree tol axes start words store held h counts total c) (rooms (total .rows) own (length rows) room))
 
-    module _ (l places : List ℕ) (o : Layout) (lo : LaidOut axes (take (g .ch) chans) (eqb motion 6) (g .n - 1) l places o) (wide : 10 ≤ length l) where
-      pub spreads-of : (rows1 : List ℕ) → length rows1 ≡ length rows → Spreads o (geometricOf axes) places counts (blockAt store) held total rows1
-      spreads-of rows1 e = spreads-is motion degree tol axes start words store held h counts total c (take (g .ch) chans) l places (g .n - 1) o lo wide listed-is points-is rows rows1 room e
+    pub spreads-of : (rows1 : List ℕ) → length rows1 ≡ length rows → Spreads (layoutOf axes (take (g .ch) chans) (eqb motion 6) (g .n - 1)) (geometricOf axes) (placesOf (take (g .ch) chans)) counts (blockAt store) held total rows1
+    spreads-of rows1 e = spreads-is motion degree tol axes start words store held h counts total c (take (g .ch) chans) (g .n - 1) listed-is points-is rows1 (rw e (rooms (total .rows) own (length rows) room))
 
-      pub emitted-of : (rows1 rows2 : List ℕ) → rows1 ≡ spliced rows 0 (encode (flatten (curveRuns motion degree (take (g .metric) ms) tol (rowsOf pts (g .ch) (g .n)) (take (g .n) ws))))
-          → rows2 ≡ spliced rows1 0 (flatten (upto (heldWords o (geometricOf axes) places counts (blockAt store) rows1) held))
-          → rows2 ≡ spliced rows 0 (flatten (flatten (splineGroups (splineOf motion degree tol axes start words store held))))
-      emitted-of rows1 rows2 e1 e2 =
-          emitted-is motion degree tol axes start words store held h counts total c (take (g .ch) chans) l places (g .n - 1) o lo wide listed-is points-is rows rows1 rows2
-          (e1 ∙ ap (λ (x : List (List (List Float))). spliced rows 0 (encode (flatten x))) (runs-are motion degree tol axes start words store held g chans ms pts ws ga)) e2
+    pub emitted-of : (rows1 rows2 : List ℕ) → rows1 ≡ spliced rows 0 (encode (flatten (curveRuns motion degree (take (g .metric) ms) tol (rowsOf pts (g .ch) (g .n)) (take (g .n) ws))))
+        → rows2 ≡ spliced rows1 0 (flatten (upto (heldWords (layoutOf axes (take (g .ch) chans) (eqb motion 6) (g .n - 1)) (geometricOf axes) (placesOf (take (g .ch) chans)) counts (blockAt store) rows1) held))
+        → rows2 ≡ putWithin own (flatten (splineGroups (splineOf motion degree tol axes start words store held))) rows
+    emitted-of rows1 rows2 e1 e2 =
+        put-some own (flatten (splineGroups (splineOf motion degree tol axes start words store held))) (total .rows) rows (c .rows) rows2 room
+        (emitted-is motion degree tol axes start words store held h counts total c (take (g .ch) chans) (g .n - 1) listed-is points-is rows rows1 rows2
+        (e1 ∙ ap (λ (x : List (List (List Float))). spliced rows 0 (encode (flatten x))) (runs-are motion degree tol axes start words store held g chans ms pts ws ga)) e2)

@@ -1,4 +1,5 @@
 // The emission of a held spline: its rows, counted and written.
+use curves::Shape;
 use curves::runs::count_runs;
 use curves::runs::prepare;
 use curves::runs::write_runs;
@@ -10,25 +11,34 @@ use places::layout::mask_of;
 use places::layout::places_of;
 use places::place::Place;
 use places::place::total;
+use rows::ROW_WORDS;
 use spread::spread;
 ghost use mathlib.Core.Path.{_≡_};
 ghost use mathlib.Core.List.{[]};
-ghost use Prim.Native.Nat.{ℕ, _+_, _*_, _-_, _≤_};
+ghost use Prim.Native.Nat.{ℕ, _*_, _-_, _≤_};
 ghost use lib.ListN.{length, getD, take};
 ghost use Rattle.floats.specs.Lists.{upto, filled, flatten, rowsOf, spliced};
 ghost use Rattle.rows.specs.Codes.{rowWords, geometricOf};
 ghost use Rattle.rows.specs.Row.{shown};
 ghost use Rattle.gather.specs.Points.{blockAt, splineOf};
-ghost use Rattle.places.specs.Sizes.{Few};
+ghost use Rattle.places.specs.Puts.{Spreads, heldWords};
+ghost use Rattle.curves.specs.Walks.{knotRoom, controlRoom};
 ghost use Rattle.curves.specs.Runs.{curveRuns, encode};
-ghost use Rattle.splines.specs.Emission.{splineGroups};
-ghost use Rattle.splines.specs.Emits.{Holds, Gathered, Curved, LaidOut, Counted};
+ghost use Rattle.splines.specs.Emission.{splineGroups, putWithin};
+ghost use Rattle.splines.specs.Emits.{Holds, Gathered, Curved, Drawn, Rooms, Planned, placesOf, layoutOf, mostOwn};
 
 // The channels, the metric's places and the points of a gathered curve, by their number.
 pub struct Curve {
     pub ch: usize,
     pub metric: usize,
     pub n: usize,
+}
+
+// What is known of an emission before its first row is written: the curve, its tables in short, and all rows.
+pub struct Plan {
+    pub curve: Curve,
+    pub shape: Shape,
+    pub place: Place,
 }
 
 // Gathers the channels, the metric's places, the points and the weights of the held blocks.
@@ -54,8 +64,36 @@ fn gather_curve(
     Curve { ch, metric, n }
 }
 
+// Fills the tables of a curve, where there are two points for one.
+fn prepare_curve(
+    motion: u64,
+    degree: usize,
+    n: usize,
+    ch: usize,
+    ms: &[usize],
+    pts: &[f64],
+    ws: &[f64],
+    ks: &mut [f64],
+    cs: &mut [f64],
+) -> Shape
+    requires { ⌜ Curved n ch (now ms) (now pts) (now ws) ⌝ }
+    requires { ⌜ (knotRoom ≤ length (now ks)) × (controlRoom ≤ length (now cs)) ⌝ }
+    ensures { λ r. ⌜ Drawn motion degree n ch (now (ms .entry)) (now (pts .entry)) (now (ws .entry)) r (now (ks .exit)) (now (cs .exit)) ⌝ }
+{
+    if n < 2 {
+        return Shape {
+            basis: false,
+            n: n,
+            ch: ch,
+            size: 0,
+        };
+    }
+    prepare(motion, degree, n, ch, ms, pts, ws, ks, cs)
+}
+
 // Counts the samples of each point after the start.
 fn count_curve(
+    s: Shape,
     motion: u64,
     degree: usize,
     tol: f64,
@@ -64,36 +102,23 @@ fn count_curve(
     ms: &[usize],
     pts: &[f64],
     ws: &[f64],
+    ks: &[f64],
+    cs: &[f64],
     counts: &mut [usize],
 )
-    requires { ⌜ Curved n ch (now ms) (now pts) (now ws) ⌝ }
-    requires { ⌜ 256 ≤ length (now counts) ⌝ }
+    requires { ⌜ Drawn motion degree n ch (now ms) (now pts) (now ws) s (now ks) (now cs) ⌝ }
+    requires { ⌜ n - 1 ≤ length (now counts) ⌝ }
     ensures { λ _. ⌜ now (counts .exit) ≡ filled (λ (i : ℕ). length (getD (curveRuns motion degree (now (ms .entry)) tol (rowsOf (now (pts .entry)) ch n) (take n (now (ws .entry)))) i [])) (n - 1) (now (counts .entry)) ⌝ }
 {
     if n < 2 {
         return;
     }
-    let mut ks = [0.0f64; 514];
-    let mut cs = [0.0f64; 5140];
-    let shape = prepare(motion, degree, n, ch, ms, pts, ws, &mut ks, &mut cs);
-    count_runs(
-        shape,
-        motion,
-        degree,
-        tol,
-        n,
-        ch,
-        ms,
-        pts,
-        ws,
-        &ks,
-        &cs,
-        counts,
-    );
+    count_runs(s, motion, degree, tol, n, ch, ms, pts, ws, ks, cs, counts);
 }
 
 // Writes the samples of the curve, one after another.
 fn write_curve(
+    s: Shape,
     motion: u64,
     degree: usize,
     tol: f64,
@@ -102,51 +127,98 @@ fn write_curve(
     ms: &[usize],
     pts: &[f64],
     ws: &[f64],
+    ks: &[f64],
+    cs: &[f64],
     out: &mut [u64],
 )
-    requires { ⌜ Curved n ch (now ms) (now pts) (now ws) ⌝ }
+    requires { ⌜ Drawn motion degree n ch (now ms) (now pts) (now ws) s (now ks) (now cs) ⌝ }
     requires { ⌜ length (encode (flatten (curveRuns motion degree (now ms) tol (rowsOf (now pts) ch n) (take n (now ws))))) ≤ length (now out) ⌝ }
     ensures { λ _. ⌜ now (out .exit) ≡ spliced (now (out .entry)) 0 (encode (flatten (curveRuns motion degree (now (ms .entry)) tol (rowsOf (now (pts .entry)) ch n) (take n (now (ws .entry)))))) ⌝ }
 {
     if n < 2 {
         return;
     }
-    let mut ks = [0.0f64; 514];
-    let mut cs = [0.0f64; 5140];
-    let shape = prepare(motion, degree, n, ch, ms, pts, ws, &mut ks, &mut cs);
-    write_runs(
-        shape,
-        motion,
-        degree,
-        tol,
-        n,
-        ch,
-        ms,
-        pts,
-        ws,
-        &ks,
-        &cs,
-        out,
-    );
+    write_runs(s, motion, degree, tol, n, ch, ms, pts, ws, ks, cs, out);
 }
 
-// Where the channels lie in a sample, and what every row has to know.
-fn lay_out(axes: &[u64], chans: &[u64], basis: bool, points: usize, places: &mut [usize]) -> Layout
-    requires { ⌜ 10 ≤ length (now places) ⌝ }
-    ensures { λ r. ⌜ LaidOut (now (axes .entry)) (now (chans .entry)) basis points (now (places .entry)) (now (places .exit)) r ⌝ }
+// Spreads the samples, which stand from the first word of `rows` on, to the rows of the held blocks.
+fn spread_curve(
+    axes: &[u64],
+    chans: &[u64],
+    basis: bool,
+    points: usize,
+    counts: &[usize],
+    store: &[u64],
+    held: usize,
+    place: Place,
+    rows: &mut [u64],
+)
+    requires { ⌜ Spreads (layoutOf (now axes) (now chans) basis points) (geometricOf (now axes)) (placesOf (now chans)) (now counts) (blockAt (now store)) held place (now rows) ⌝ }
+    requires { ⌜ held * rowWords ≤ length (now store) ⌝ }
+    ensures { λ _. ⌜ now (rows .exit) ≡ spliced (now (rows .entry)) 0 (flatten (upto (heldWords (layoutOf (now (axes .entry)) (now (chans .entry)) basis points) (geometricOf (now (axes .entry))) (placesOf (now (chans .entry))) (now (counts .entry)) (blockAt (now (store .entry))) (now (rows .entry))) held)) ⌝ }
 {
-    places_of(chans, places);
-    Layout {
+    let mut places = [0usize; 10];
+    places_of(chans, &mut places);
+    let layout = Layout {
         axes: mask_of(axes),
         mask: mask_of(chans),
         ch: chans.len(),
         basis,
         points,
+    };
+    spread(layout, axes, &places, counts, store, held, place, rows);
+}
+
+// Gathers the held blocks, prepares their curve and counts: the samples of each point block go to `counts`.
+fn plan_emission(
+    motion: u64,
+    degree: usize,
+    tol: f64,
+    axes: &[u64],
+    start: u64,
+    words: &[u64],
+    store: &[u64],
+    held: usize,
+    chans: &mut [u64],
+    ms: &mut [usize],
+    pts: &mut [f64],
+    ws: &mut [f64],
+    ks: &mut [f64],
+    cs: &mut [f64],
+    counts: &mut [usize],
+) -> Plan
+    requires { ⌜ Holds (now axes) (now words) (now store) held ⌝ }
+    requires { ⌜ Rooms (now chans) (now ms) (now pts) (now ws) (now ks) (now cs) (now counts) ⌝ }
+    ensures { λ r. ⌜ Planned motion degree tol (now (axes .entry)) start (now (words .entry)) (now (store .entry)) held (now (chans .exit)) (now (ms .exit)) (now (pts .exit)) (now (ws .exit)) (now (ks .exit)) (now (cs .exit)) (now (counts .exit)) r ⌝ }
+{
+    let curve = gather_curve(axes, start, words, store, held, chans, ms, pts, ws);
+    let m = curve.metric;
+    let shape = prepare_curve(motion, degree, curve.n, curve.ch, &ms[..m], pts, ws, ks, cs);
+    count_curve(
+        shape,
+        motion,
+        degree,
+        tol,
+        curve.n,
+        curve.ch,
+        &ms[..m],
+        pts,
+        ws,
+        ks,
+        cs,
+        counts,
+    );
+    let place = total(axes, store, held, counts);
+    Plan {
+        curve,
+        shape,
+        place,
     }
 }
 
-// Counts the rows of the emission: the samples of each point block go to `counts`, the rows are those of the place.
-pub fn count_emission(
+// Counts the rows of the emission of a held spline and, where they and `own` more have room, writes them from the first
+// word of `rows` on.
+pub fn emit_within(
     motion: u64,
     degree: u64,
     tol: f64,
@@ -155,67 +227,26 @@ pub fn count_emission(
     words: &[u64],
     store: &[u64],
     held: usize,
-    counts: &mut [usize],
-) -> Place
-    requires { ⌜ Holds (now axes) (now words) (now store) held ⌝ }
-    requires { ⌜ (256 ≤ length (now counts)) × (Few (now counts)) ⌝ }
-    ensures { λ r. ⌜ Counted (splineOf motion degree tol (now (axes .entry)) start (now (words .entry)) (now (store .entry)) held) (blockAt (now (store .entry))) held (now (counts .exit)) r ⌝ }
-{
-    let mut chans = [0u64; 10];
-    let mut ms = [0usize; 10];
-    let mut pts = [0.0f64; 2570];
-    let mut ws = [0.0f64; 257];
-    let g = gather_curve(
-        axes,
-        start,
-        words,
-        store,
-        held,
-        &mut chans,
-        &mut ms,
-        &mut pts,
-        &mut ws,
-    );
-    let m = g.metric;
-    count_curve(
-        motion,
-        degree as usize,
-        tol,
-        g.n,
-        g.ch,
-        &ms[..m],
-        &pts,
-        &ws,
-        counts,
-    );
-    total(axes, store, held, counts)
-}
-
-// Writes the rows of the emission from the first word of `rows` on; `counts` and `total` are what count_emission said.
-pub fn write_emission(
-    motion: u64,
-    degree: u64,
-    tol: f64,
-    axes: &[u64],
-    start: u64,
-    words: &[u64],
-    store: &[u64],
-    held: usize,
-    counts: &[usize],
-    total: Place,
+    own: usize,
     rows: &mut [u64],
-)
+) -> u64
     requires { ⌜ Holds (now axes) (now words) (now store) held ⌝ }
-    requires { ⌜ Counted (splineOf motion degree tol (now axes) start (now words) (now store) held) (blockAt (now store)) held (now counts) total ⌝ }
-    requires { ⌜ total .rows * rowWords ≤ length (now rows) ⌝ }
-    ensures { λ _. ⌜ now (rows .exit) ≡ spliced (now (rows .entry)) 0 (flatten (flatten (splineGroups (splineOf motion degree tol (now (axes .entry)) start (now (words .entry)) (now (store .entry)) held)))) ⌝ }
+    requires { ⌜ own ≤ mostOwn ⌝ }
+    ensures { λ r. ⌜ r ≡ length (flatten (splineGroups (splineOf motion degree tol (now (axes .entry)) start (now (words .entry)) (now (store .entry)) held))) ⌝ }
+    ensures { λ _. ⌜ now (rows .exit) ≡ putWithin own (flatten (splineGroups (splineOf motion degree tol (now (axes .entry)) start (now (words .entry)) (now (store .entry)) held))) (now (rows .entry)) ⌝ }
 {
     let mut chans = [0u64; 10];
     let mut ms = [0usize; 10];
     let mut pts = [0.0f64; 2570];
     let mut ws = [0.0f64; 257];
-    let mut places = [0usize; 10];
-    let g = gather_curve(
+    let mut ks = [0.0f64; 514];
+    let mut cs = [0.0f64; 5140];
+    let mut counts = [0usize; 256];
+    let power = degree as usize;
+    let plan = plan_emission(
+        motion,
+        power,
+        tol,
         axes,
         start,
         words,
@@ -225,93 +256,43 @@ pub fn write_emission(
         &mut ms,
         &mut pts,
         &mut ws,
+        &mut ks,
+        &mut cs,
+        &mut counts,
     );
-    let m = g.metric;
-    let ch = g.ch;
-    let n = g.n;
-    let layout = lay_out(axes, &chans[..ch], motion == 6, n - 1, &mut places);
+    let curve = plan.curve;
+    let place = plan.place;
+    let count = place.rows;
+    if rows.len() / ROW_WORDS < count + own {
+        return count as u64;
+    }
+    let m = curve.metric;
+    let ch = curve.ch;
+    let n = curve.n;
     write_curve(
+        plan.shape,
         motion,
-        degree as usize,
+        power,
         tol,
         n,
         ch,
         &ms[..m],
         &pts,
         &ws,
+        &ks,
+        &cs,
         rows,
     );
-    spread(layout, axes, &places, counts, store, held, total, rows);
-}
-
-// The rows of the emission of a held spline.
-pub fn emission_count(
-    motion: u64,
-    degree: u64,
-    tol: f64,
-    axes: &[u64],
-    start: u64,
-    words: &[u64],
-    store: &[u64],
-    held: usize,
-) -> u64
-    requires { ⌜ Holds (now axes) (now words) (now store) held ⌝ }
-    ensures { λ r. ⌜ r ≡ length (flatten (splineGroups (splineOf motion degree tol (now (axes .entry)) start (now (words .entry)) (now (store .entry)) held))) ⌝ }
-{
-    let mut counts = [0usize; 256];
-    let place = count_emission(
-        motion,
-        degree,
-        tol,
+    spread_curve(
         axes,
-        start,
-        words,
-        store,
-        held,
-        &mut counts,
-    );
-    place.rows as u64
-}
-
-// Writes them from the first word of `rows` on.
-pub fn emit(
-    motion: u64,
-    degree: u64,
-    tol: f64,
-    axes: &[u64],
-    start: u64,
-    words: &[u64],
-    store: &[u64],
-    held: usize,
-    rows: &mut [u64],
-)
-    requires { ⌜ Holds (now axes) (now words) (now store) held ⌝ }
-    requires { ⌜ length (flatten (splineGroups (splineOf motion degree tol (now axes) start (now words) (now store) held))) * rowWords ≤ length (now rows) ⌝ }
-    ensures { λ _. ⌜ now (rows .exit) ≡ spliced (now (rows .entry)) 0 (flatten (flatten (splineGroups (splineOf motion degree tol (now (axes .entry)) start (now (words .entry)) (now (store .entry)) held)))) ⌝ }
-{
-    let mut counts = [0usize; 256];
-    let place = count_emission(
-        motion,
-        degree,
-        tol,
-        axes,
-        start,
-        words,
-        store,
-        held,
-        &mut counts,
-    );
-    write_emission(
-        motion,
-        degree,
-        tol,
-        axes,
-        start,
-        words,
-        store,
-        held,
+        &chans[..ch],
+        motion == 6,
+        n - 1,
         &counts,
+        store,
+        held,
         place,
         rows,
     );
+    count as u64
 }

@@ -6,57 +6,40 @@ use Rattle.splines.specs.Emits.{chan-long, chan-short, chan-codes, gathe
 use borrow.Author.Needs.{needs}
 use Rattle.splines.proofs.gather_curve.Statement.{statement}
 use Rattle.splines.proofs.gather_curve.Tie as tie
-use Rattle.splines.proofs.gather_curve.Reads as reads
-use Rattle.splines.proofs.gather_curve.Lts as lts
-use Rattle.gather.proofs.channels.channels_of.Reads as channels-of-reads
-use Rattle.gather.proofs.metric.metric_of.Reads as metric-of-reads
-use Rattle.gather.proofs.points.points_of.Reads as points-of-reads
 
--- src/lib.rt:51:9
 channels-of-requires : tie.Need-channels-of-requires
 channels-of-requires c κs = search needs
 
--- src/lib.rt:52:28
 slice-reshare-prefix-metric-of : tie.Need-slice-reshare-prefix-metric-of
 slice-reshare-prefix-metric-of c = chan-long _ _ _ _ _ ((c .before .before .before .before .before .before .before .before .before .before .before .pre) .0 .once) (c .before .before .channels-of .ensures) ((c .before .before .before .before .before .before .before .before .before .before .before .pre) .1 .0 .0)
 
--- src/lib.rt:52:28
 slice-aggregate-metric-of : tie.Need-slice-aggregate-metric-of
 slice-aggregate-metric-of c = sym (length-take-le _ _ (chan-long _ _ _ _ _ ((c .before .before .before .before .before .before .before .before .before .before .before .before .pre) .0 .once) (c .before .before .before .channels-of .ensures) ((c .before .before .before .before .before .before .before .before .before .before .before .before .pre) .1 .0 .0)))
 
--- src/lib.rt:52:9
 metric-of-requires : tie.Need-metric-of-requires
 metric-of-requires c κs = omega (arith, chan-short _ _ _ _ _ ((c .before .before .before .before .before .before .before .before .before .before .before .before .before .pre) .0 .once) (c .before .before .before .before .channels-of .ensures), (c .before .before .before .before .before .before .before .before .before .before .before .before .before .pre) .1 .0 .1)
 
--- src/lib.rt:53:56
 slice-reshare-prefix-points-of : tie.Need-slice-reshare-prefix-points-of
 slice-reshare-prefix-points-of c = chan-long _ _ _ _ _ ((c .before .before .before .before .before .before .before .before .before .before .before .before .before .before .before .before .pre) .0 .once) (c .before .before .before .before .before .before .before .channels-of .ensures) ((c .before .before .before .before .before .before .before .before .before .before .before .before .before .before .before .before .pre) .1 .0 .0)
 
--- src/lib.rt:53:56
 slice-aggregate-points-of : tie.Need-slice-aggregate-points-of
 slice-aggregate-points-of c = sym (length-take-le _ _ (chan-long _ _ _ _ _ ((c .before .before .before .before .before .before .before .before .before .before .before .before .before .before .before .before .before .pre) .0 .once) (c .before .before .before .before .before .before .before .before .channels-of .ensures) ((c .before .before .before .before .before .before .before .before .before .before .before .before .before .before .before .before .before .pre) .1 .0 .0)))
 
--- src/lib.rt:53:9
 points-of-requires : tie.Need-points-of-requires
 points-of-requires c κs = (((c .before .before .before .before .before .before .before .before .before .before .before .before .before .before .before .before .before .before .before .pre) .0 .lent, ((c .before .before .before .before .before .before .before .before .before .before .before .before .before .before .before .before .before .before .before .pre) .0 .many, chan-codes _ _ ((c .before .before .before .before .before .before .before .before .before .before .before .before .before .before .before .before .before .before .before .pre) .0 .once) _ ((c .before .before .before .before .before .before .before .before .before .before .channels-of .ensures) .is))), ((chan-short _ _ _ _ _ ((c .before .before .before .before .before .before .before .before .before .before .before .before .before .before .before .before .before .before .before .pre) .0 .once) (c .before .before .before .before .before .before .before .before .before .before .channels-of .ensures), (c .before .before .before .before .before .before .before .before .before .before .before .before .before .before .before .before .before .before .before .pre) .1 .1), (c .before .before .before .before .before .before .before .before .before .before .before .before .before .before .before .before .before .before .before .pre) .0 .start))
 
--- src/lib.rt:35:1
 same-length : tie.Need-same-length
 same-length c = search needs
 
--- src/lib.rt:35:1
 same-length-2 : tie.Need-same-length-2
 same-length-2 c = search needs
 
--- src/lib.rt:35:1
 same-length-3 : tie.Need-same-length-3
 same-length-3 c = search needs
 
--- src/lib.rt:35:1
 same-length-4 : tie.Need-same-length-4
 same-length-4 c = search needs
 
--- src/lib.rt:35:1
 returns : tie.Need-returns
 returns c = gathered-is _ _ _ _ _ _ _ _ _ _ _ _ ((c .before .before .before .before .before .before .before .before .before .before .before .before .before .before .before .before .before .before .before .before .before .before .before .before .pre) .0 .once) ((c .before .before .before .before .before .before .before .before .before .before .before .before .before .before .before .before .before .before .before .before .before .before .before .before .pre) .1 .0 .1) (c .before .before .before .before .before .before .before .before .before .before .before .before .before .before .before .channels-of .ensures) (c .before .before .before .before .before .before .before .before .before .before .metric-of .ensures) (c .before .before .before .before .points-of .ensures)
 

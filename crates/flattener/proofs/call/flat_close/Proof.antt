@@ -12,8 +12,7 @@ use Rattle.flattener.specs.Push.{untouched, tooFew}
 use Rattle.flattener.specs.PushLaws.{answers, doneReply}
 use Rattle.flattener.specs.Keeps.{saved-ok}
 use Rattle.flattener.specs.Close.{closeState}
-use Rattle.flattener.proofs.Calls.{close-turned-is, close-none-is, close-few-is, close-done-is, no-rows}
-use Rattle.flattener.proofs.Calls.{first-room}
+use Rattle.flattener.proofs.Calls.{close-turned-is, close-none-is, close-few-is, close-done-is, no-rows, room-left, room-short, put-refused, put-written}
 use borrow.Author.Needs.{needs}
 use Rattle.flattener.proofs.call.flat_close.Statement.{statement}
 use Rattle.flattener.proofs.call.flat_close.Tie as tie
@@ -44,8 +43,8 @@ returns-2 : tie.Need-returns-2
 unfolding closeState
 returns-2 c = answers (close-none-is _ _ _ (sym (c .before .before .before .before .saved-check .ensures) ∙ (c .before .before .before .if1 .left)) (c .before .if2 .taken)) (c .plain-reply2 .ensures) (sym (cond-t _ _ (eq-eqb _ _ (c .before .if2 .taken)))) refl (no-rows _)
 
-count-emission-requires : tie.Need-count-emission-requires
-count-emission-requires c κs = sym (c .before .before .before .before .saved-check .ensures) ∙ (c .before .before .before .if1 .left)
+put-emission-requires : tie.Need-put-emission-requires
+put-emission-requires c κs = ((sym (c .before .before .before .before .before .saved-check .ensures) ∙ (c .before .before .before .before .if1 .left)), omega arith)
 
 too-few-requires : tie.Need-too-few-requires
 too-few-requires c κs = search needs
@@ -53,28 +52,28 @@ too-few-requires c κs = search needs
 same-length-3 : tie.Need-same-length-3
 same-length-3 c = search needs
 
+same-length-4 : tie.Need-same-length-4
+same-length-4 c = search needs
+
 returns-3 : tie.Need-returns-3
 unfolding untouched
-returns-3 c = answers (close-few-is _ _ _ (sym (c .before .before .before .before .before .before .before .saved-check .ensures) ∙ (c .before .before .before .before .before .before .if1 .left)) (c .before .before .before .before .if2 .left) (subst (λ (n : ℕ). length (c .before .before .before .before .before .before .before .before .before .before .before .before .args .rows .now) / rowWords < n) ((c .before .before .count-emission .ensures) .0) (c .before .if3 .taken))) ((c .too-few .ensures) ∙ ap tooFew ((c .before .before .count-emission .ensures) .0)) refl refl refl
-
-write-emission-requires : tie.Need-write-emission-requires
-write-emission-requires c κs = (sym (c .before .before .before .before .before .before .before .before .saved-check .ensures) ∙ (c .before .before .before .before .before .before .before .if1 .left), first-room _ _ _ (sym ((c .before .before .before .count-emission .ensures) .0)) (subst (λ (n : ℕ). n ≤ length (c .before .before .before .before .before .before .before .before .before .before .before .before .before .args .rows .now) / rowWords) (let z : (c .before .before .before .count-emission .result) ≡ (c .before .before .before .count-emission .result) + 0 = omega arith in z) (c .before .before .if3 .left)))
+returns-3 c = answers (close-few-is _ _ _ (sym (c .before .before .before .before .before .before .before .before .before .before .saved-check .ensures) ∙ (c .before .before .before .before .before .before .before .before .before .if1 .left)) (c .before .before .before .before .before .before .before .if2 .left) (subst (λ (n : ℕ). length ((c .before .before .before .before .before .before .before .before .before .before .before .before .before .before .before .args .rows .now)) / rowWords < n) ((c .before .before .before .before .put-emission .ensures) .count) (room-short _ _ _ _ _ (c .before .before .before .before .put-emission .ensures) (c .before .before .before .before .put-emission .kept .1 .1 .0) _ (let z : (c .before .before .before .before .put-emission .result) ≡ (c .before .before .before .before .put-emission .result) + 0 = omega arith in z) (c .before .if3 .taken)))) ((c .too-few .ensures) ∙ ap tooFew ((c .before .before .before .before .put-emission .ensures) .count)) refl refl (put-refused _ _ _ _ _ (c .before .before .before .before .put-emission .ensures) (c .before .before .before .before .put-emission .kept .1 .1 .0) _ (let z : (c .before .before .before .before .put-emission .result) ≡ (c .before .before .before .before .put-emission .result) + 0 = omega arith in z) (c .before .if3 .taken))
 
 forget-requires : tie.Need-forget-requires
-forget-requires c κs = good _ (saved-ok _ _ (sym (c .before .before .before .before .before .before .before .before .before .before .before .before .saved-check .ensures) ∙ (c .before .before .before .before .before .before .before .before .before .before .before .if1 .left))) .long
+forget-requires c κs = good _ (saved-ok _ _ (sym (c .before .before .before .before .before .before .before .before .before .before .saved-check .ensures) ∙ (c .before .before .before .before .before .before .before .before .before .if1 .left))) .long
 
 done-reply-requires : tie.Need-done-reply-requires
 done-reply-requires c κs = search needs
 
-same-length-4 : tie.Need-same-length-4
-same-length-4 c = search needs
-
 same-length-5 : tie.Need-same-length-5
 same-length-5 c = search needs
 
+same-length-6 : tie.Need-same-length-6
+same-length-6 c = search needs
+
 returns-4 : tie.Need-returns-4
 unfolding closeState
-returns-4 c = answers (close-done-is _ _ _ (sym (c .before .before .before .before .before .before .before .before .before .before .before .before .before .before .before .before .saved-check .ensures) ∙ (c .before .before .before .before .before .before .before .before .before .before .before .before .before .before .before .if1 .left)) (c .before .before .before .before .before .before .before .before .before .before .before .before .before .if2 .left) (subst (λ (n : ℕ). n ≤ length (c .before .before .before .before .before .before .before .before .before .before .before .before .before .before .before .before .before .before .before .before .before .args .rows .now) / rowWords) ((c .before .before .before .before .before .before .before .before .before .before .before .count-emission .ensures) .0) (c .before .before .before .before .before .before .before .before .before .before .if3 .left))) ((c .done-reply .ensures) ∙ ap (λ (n : ℕ). doneReply n 0 0 0) ((c .before .before .before .before .before .before .before .before .before .before .before .count-emission .ensures) .0)) ((c .before .before .before .forget .ensures) ∙ sym (cond-f _ _ (ne-eqb _ _ (c .before .before .before .before .before .before .before .before .before .before .before .before .before .if2 .left)))) refl (c .before .before .before .before .before .before .before .write-emission .ensures)
+returns-4 c = answers (close-done-is _ _ _ (sym (c .before .before .before .before .before .before .before .before .before .before .before .before .before .before .saved-check .ensures) ∙ (c .before .before .before .before .before .before .before .before .before .before .before .before .before .if1 .left)) (c .before .before .before .before .before .before .before .before .before .before .before .if2 .left) (subst (λ (n : ℕ). n ≤ length ((c .before .before .before .before .before .before .before .before .before .before .before .before .before .before .before .before .before .before .before .args .rows .now)) / rowWords) ((c .before .before .before .before .before .before .before .before .put-emission .ensures) .count) (room-left _ _ _ _ _ (c .before .before .before .before .before .before .before .before .put-emission .ensures) (c .before .before .before .before .before .before .before .before .put-emission .kept .1 .1 .0) _ (let z : (c .before .before .before .before .before .before .before .before .put-emission .result) ≡ (c .before .before .before .before .before .before .before .before .put-emission .result) + 0 = omega arith in z) (c .before .before .before .before .before .if3 .left)))) ((c .done-reply .ensures) ∙ ap (λ (n : ℕ). doneReply n 0 0 0) ((c .before .before .before .before .before .before .before .before .put-emission .ensures) .count)) ((c .before .before .before .forget .ensures) ∙ sym (cond-f _ _ (ne-eqb _ _ (c .before .before .before .before .before .before .before .before .before .before .before .if2 .left)))) refl (put-written _ _ _ _ _ (c .before .before .before .before .before .before .before .before .put-emission .ensures) (c .before .before .before .before .before .before .before .before .put-emission .kept .1 .1 .0) _ (let z : (c .before .before .before .before .before .before .before .before .put-emission .result) ≡ (c .before .before .before .before .before .before .before .before .put-emission .result) + 0 = omega arith in z) (c .before .before .before .before .before .if3 .left))
 
 pub flat-close-spec : {M : Type 1} → statement M
 flat-close-spec =
@@ -88,13 +87,13 @@ flat-close-spec =
     plain-reply-requires-2
     same-length-2
     returns-2
-    count-emission-requires
+    put-emission-requires
     too-few-requires
     same-length-3
+    same-length-4
     returns-3
-    write-emission-requires
     forget-requires
     done-reply-requires
-    same-length-4
     same-length-5
+    same-length-6
     returns-4)

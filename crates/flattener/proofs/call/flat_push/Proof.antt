@@ -3,15 +3,13 @@ use mathlib.Core.Path.{refl, sym, ap, _∙_}
 use mathlib.Core.Bool.{Bool, cond}
 use native.Mathlib.Omega.{arith}
 use Prim.Native.Nat.{ℕ, _+_}
-use lib.ListN.{length}
 use Rattle.flattener.specs.Start.{plain}
 use Rattle.flattener.specs.StateLaws.{good, good-few}
 use Rattle.flattener.specs.Push.{untouched}
 use Rattle.flattener.specs.PushLaws.{answers, doneReply}
 use Rattle.flattener.specs.Keeps.{saved-ok}
-use Rattle.flattener.proofs.Calls.{passes, passes-ready, turned-is, few-is, done-is, both-written}
 use Rattle.flattener.specs.Emitted.{few-own}
-use Rattle.flattener.proofs.Calls.{row-room, first-room}
+use Rattle.flattener.proofs.Calls.{passes, passes-ready, turned-is, few-is, done-is, both-written, row-room, room-left, room-short, put-refused, put-written}
 use borrow.Author.Needs.{needs}
 use Rattle.flattener.proofs.call.flat_push.Statement.{statement}
 use Rattle.flattener.proofs.call.flat_push.Tie as tie
@@ -35,11 +33,11 @@ returns c = answers (turned-is _ _ _ _ (λ e. (c .before .if1 .taken) ((c .befor
 plan-own-requires : tie.Need-plan-own-requires
 plan-own-requires c κs = passes-ready (passes _ _ _ (sym (c .before .before .push-check .ensures) ∙ (c .before .if1 .left)))
 
-count-before-requires : tie.Need-count-before-requires
-count-before-requires c κs = (passes _ _ _ (sym (c .before .before .before .before .before .push-check .ensures) ∙ (c .before .before .before .before .if1 .left)) .saved, passes-ready (passes _ _ _ (sym (c .before .before .before .before .before .push-check .ensures) ∙ (c .before .before .before .before .if1 .left))) .block)
+put-before-requires : tie.Need-put-before-requires
+put-before-requires c κs = (passes _ _ _ (sym (c .before .before .before .before .before .before .push-check .ensures) ∙ (c .before .before .before .before .before .if1 .left)) .saved, (passes-ready (passes _ _ _ (sym (c .before .before .before .before .before .before .push-check .ensures) ∙ (c .before .before .before .before .before .if1 .left))) .block, omega (arith, (c .before .before .before .plan-own .ensures) .count, few-own ((c .before .before .before .before .before .before .before .before .before .before .before .before .before .args .state .now)) ((c .before .before .before .before .before .before .before .before .before .before .before .before .before .args .row .now)))))
 
 add-needed : tie.Need-add-needed
-add-needed c = omega (arith, (c .before .before .before .before .plan-own .ensures) .count, few-own (c .before .before .before .before .before .before .before .before .before .before .before .before .before .before .args .state .now) (c .before .before .before .before .before .before .before .before .before .before .before .before .before .before .args .row .now), (c .before .count-before .ensures) .1)
+add-needed c = omega (arith, (c .before .before .before .before .before .before .before .plan-own .ensures) .count, few-own ((c .before .before .before .before .before .before .before .before .before .before .before .before .before .before .before .before .before .args .state .now)) ((c .before .before .before .before .before .before .before .before .before .before .before .before .before .before .before .before .before .args .row .now)), (c .before .before .before .put-before .ensures) .few)
 
 too-few-requires : tie.Need-too-few-requires
 too-few-requires c κs = search needs
@@ -50,36 +48,33 @@ same-length-3 c = search needs
 same-length-4 : tie.Need-same-length-4
 same-length-4 c = search needs
 
+same-length-5 : tie.Need-same-length-5
+same-length-5 c = search needs
+
 returns-2 : tie.Need-returns-2
 unfolding untouched
-returns-2 c = answers (few-is (c .before .before .before .before .before .before .before .before .before .before .before .before .before .before .before .before .args .state .now) (c .before .before .before .before .before .before .before .before .before .before .before .before .before .before .before .before .args .store .now) (c .before .before .before .before .before .before .before .before .before .before .before .before .before .before .before .before .args .rows .now) (c .before .before .before .before .before .before .before .before .before .before .before .before .before .before .before .before .args .row .now) (sym (c .before .before .before .before .before .before .before .before .before .push-check .ensures) ∙ (c .before .before .before .before .before .before .before .before .if1 .left)) (c .before .before .before .before .before .before .plan-own .result) (c .before .before .before .before .before .before .plan-own .ensures) (c .before .before .before .count-before .result) ((c .before .before .before .count-before .ensures) .0) (c .before .if2 .taken)) (c .too-few .ensures) refl refl refl
+returns-2 c = answers (few-is ((c .before .before .before .before .before .before .before .before .before .before .before .before .before .before .before .before .before .before .before .args .state .now)) ((c .before .before .before .before .before .before .before .before .before .before .before .before .before .before .before .before .before .before .before .args .store .now)) ((c .before .before .before .before .before .before .before .before .before .before .before .before .before .before .before .before .before .before .before .args .rows .now)) ((c .before .before .before .before .before .before .before .before .before .before .before .before .before .before .before .before .before .before .before .args .row .now)) (sym (c .before .before .before .before .before .before .before .before .before .before .before .before .push-check .ensures) ∙ (c .before .before .before .before .before .before .before .before .before .before .before .if1 .left)) (c .before .before .before .before .before .before .before .before .before .plan-own .result) (c .before .before .before .before .before .before .before .before .before .plan-own .ensures) (c .before .before .before .before .before .put-before .result) ((c .before .before .before .before .before .put-before .ensures) .count) (room-short _ _ _ _ _ (c .before .before .before .before .before .put-before .ensures) (c .before .before .before .before .before .put-before .kept .1 .1 .0) _ refl (c .before .if2 .taken))) (c .too-few .ensures) refl refl (put-refused _ _ _ _ _ (c .before .before .before .before .before .put-before .ensures) (c .before .before .before .before .before .put-before .kept .1 .1 .0) _ refl (c .before .if2 .taken))
 
 is-news-requires : tie.Need-is-news-requires
-is-news-requires c κs = passes-ready (passes _ _ _ (sym (c .before .before .before .before .before .before .before .before .before .push-check .ensures) ∙ (c .before .before .before .before .before .before .before .before .if1 .left))) .block
+is-news-requires c κs = passes-ready (passes _ _ _ (sym (c .before .before .before .before .before .before .before .before .before .before .before .before .push-check .ensures) ∙ (c .before .before .before .before .before .before .before .before .before .before .before .if1 .left))) .block
 
 warning-of-requires : tie.Need-warning-of-requires
 warning-of-requires c κs = search needs
 
-write-before-requires : tie.Need-write-before-requires
-write-before-requires c κs = (passes _ _ _ (sym (c .before .before .before .before .before .before .before .before .before .before .before .before .before .before .push-check .ensures) ∙ (c .before .before .before .before .before .before .before .before .before .before .before .before .before .if1 .left)) .saved, (passes-ready (passes _ _ _ (sym (c .before .before .before .before .before .before .before .before .before .before .before .before .before .before .push-check .ensures) ∙ (c .before .before .before .before .before .before .before .before .before .before .before .before .before .if1 .left))) .block, first-room _ _ _ (sym ((c .before .before .before .before .before .before .before .before .count-before .ensures) .0)) (c .before .before .before .before .before .before .if2 .left)))
-
 mul-write-own : tie.Need-mul-write-own
-mul-write-own c = omega (arith, (c .before .before .before .before .before .before .before .before .before .before .before .before .count-before .ensures) .1)
+mul-write-own c = omega (arith, (c .before .before .before .before .before .before .before .before .put-before .ensures) .few)
 
 write-own-requires : tie.Need-write-own-requires
-write-own-requires c κs = (passes-ready (passes _ _ _ (sym (c .before .before .before .before .before .before .before .before .before .before .before .before .before .before .before .before .before .before .before .push-check .ensures) ∙ (c .before .before .before .before .before .before .before .before .before .before .before .before .before .before .before .before .before .before .if1 .left))), ((c .before .before .before .before .before .before .before .before .before .before .before .before .before .before .before .before .plan-own .ensures), omega (arith, row-room (c .before .before .before .before .before .before .before .before .before .before .before .before .before .count-before .result) ((c .before .before .before .before .before .before .before .before .before .before .before .before .before .before .before .before .plan-own .result) .count) (length (c .before .before .before .before .before .before .before .before .before .before .before .before .before .before .before .before .before .before .before .before .before .before .before .before .before .before .args .rows .now)) (c .before .before .before .before .before .before .before .before .before .before .before .if2 .left))))
+write-own-requires c κs = (passes-ready (passes _ _ _ (sym (c .before .before .before .before .before .before .before .before .before .before .before .before .before .before .before .before .push-check .ensures) ∙ (c .before .before .before .before .before .before .before .before .before .before .before .before .before .before .before .if1 .left))), ((c .before .before .before .before .before .before .before .before .before .before .before .before .before .plan-own .ensures), omega (arith, row-room (c .before .before .before .before .before .before .before .before .before .put-before .result) ((c .before .before .before .before .before .before .before .before .before .before .before .before .before .plan-own .result) .count) _ (c .before .before .before .before .before .if2 .left))))
 
 push-store-requires : tie.Need-push-store-requires
-push-store-requires c κs = (passes-ready (passes _ _ _ (sym (c .before .before .before .before .before .before .before .before .before .before .before .before .before .before .before .before .before .before .before .before .before .before .before .before .push-check .ensures) ∙ (c .before .before .before .before .before .before .before .before .before .before .before .before .before .before .before .before .before .before .before .before .before .before .before .if1 .left))) .block, passes _ _ _ (sym (c .before .before .before .before .before .before .before .before .before .before .before .before .before .before .before .before .before .before .before .before .before .before .before .before .push-check .ensures) ∙ (c .before .before .before .before .before .before .before .before .before .before .before .before .before .before .before .before .before .before .before .before .before .before .before .if1 .left)) .space)
+push-store-requires c κs = (passes-ready (passes _ _ _ (sym (c .before .before .before .before .before .before .before .before .before .before .before .before .before .before .before .before .before .before .before .before .before .push-check .ensures) ∙ (c .before .before .before .before .before .before .before .before .before .before .before .before .before .before .before .before .before .before .before .before .if1 .left))) .block, passes _ _ _ (sym (c .before .before .before .before .before .before .before .before .before .before .before .before .before .before .before .before .before .before .before .before .before .push-check .ensures) ∙ (c .before .before .before .before .before .before .before .before .before .before .before .before .before .before .before .before .before .before .before .before .if1 .left)) .space)
 
 push-state-requires : tie.Need-push-state-requires
-push-state-requires c κs = (passes-ready (passes _ _ _ (sym (c .before .before .before .before .before .before .before .before .before .before .before .before .before .before .before .before .before .before .before .before .before .before .before .before .before .before .before .before .push-check .ensures) ∙ (c .before .before .before .before .before .before .before .before .before .before .before .before .before .before .before .before .before .before .before .before .before .before .before .before .before .before .before .if1 .left))) .block, good-few _ (good _ (saved-ok _ _ (passes _ _ _ (sym (c .before .before .before .before .before .before .before .before .before .before .before .before .before .before .before .before .before .before .before .before .before .before .before .before .before .before .before .before .push-check .ensures) ∙ (c .before .before .before .before .before .before .before .before .before .before .before .before .before .before .before .before .before .before .before .before .before .before .before .before .before .before .before .if1 .left)) .saved))))
+push-state-requires c κs = (passes-ready (passes _ _ _ (sym (c .before .before .before .before .before .before .before .before .before .before .before .before .before .before .before .before .before .before .before .before .before .before .before .before .before .push-check .ensures) ∙ (c .before .before .before .before .before .before .before .before .before .before .before .before .before .before .before .before .before .before .before .before .before .before .before .before .if1 .left))) .block, good-few _ (good _ (saved-ok _ _ (passes _ _ _ (sym (c .before .before .before .before .before .before .before .before .before .before .before .before .before .before .before .before .before .before .before .before .before .before .before .before .before .push-check .ensures) ∙ (c .before .before .before .before .before .before .before .before .before .before .before .before .before .before .before .before .before .before .before .before .before .before .before .before .if1 .left)) .saved))))
 
 done-reply-requires : tie.Need-done-reply-requires
 done-reply-requires c κs = search needs
-
-same-length-5 : tie.Need-same-length-5
-same-length-5 c = search needs
 
 same-length-6 : tie.Need-same-length-6
 same-length-6 c = search needs
@@ -87,8 +82,11 @@ same-length-6 c = search needs
 same-length-7 : tie.Need-same-length-7
 same-length-7 c = search needs
 
+same-length-8 : tie.Need-same-length-8
+same-length-8 c = search needs
+
 returns-3 : tie.Need-returns-3
-returns-3 c = answers (done-is (c .before .before .before .before .before .before .before .before .before .before .before .before .before .before .before .before .before .before .before .before .before .before .before .before .before .before .before .before .before .before .before .before .before .before .before .before .before .before .before .args .state .now) (c .before .before .before .before .before .before .before .before .before .before .before .before .before .before .before .before .before .before .before .before .before .before .before .before .before .before .before .before .before .before .before .before .before .before .before .before .before .before .before .args .store .now) (c .before .before .before .before .before .before .before .before .before .before .before .before .before .before .before .before .before .before .before .before .before .before .before .before .before .before .before .before .before .before .before .before .before .before .before .before .before .before .before .args .rows .now) (c .before .before .before .before .before .before .before .before .before .before .before .before .before .before .before .before .before .before .before .before .before .before .before .before .before .before .before .before .before .before .before .before .before .before .before .before .before .before .before .args .row .now) (sym (c .before .before .before .before .before .before .before .before .before .before .before .before .before .before .before .before .before .before .before .before .before .before .before .before .before .before .before .before .before .before .before .before .push-check .ensures) ∙ (c .before .before .before .before .before .before .before .before .before .before .before .before .before .before .before .before .before .before .before .before .before .before .before .before .before .before .before .before .before .before .before .if1 .left)) (c .before .before .before .before .before .before .before .before .before .before .before .before .before .before .before .before .before .before .before .before .before .before .before .before .before .before .before .before .before .plan-own .result) (c .before .before .before .before .before .before .before .before .before .before .before .before .before .before .before .before .before .before .before .before .before .before .before .before .before .before .before .before .before .plan-own .ensures) (c .before .before .before .before .before .before .before .before .before .before .before .before .before .before .before .before .before .before .before .before .before .before .before .before .before .before .count-before .result) ((c .before .before .before .before .before .before .before .before .before .before .before .before .before .before .before .before .before .before .before .before .before .before .before .before .before .before .count-before .ensures) .0) (c .before .before .before .before .before .before .before .before .before .before .before .before .before .before .before .before .before .before .before .before .before .before .before .before .if2 .left)) ((c .done-reply .ensures) ∙ ap (λ (n : ℕ). doneReply ((c .before .before .before .before .before .before .before .before .before .before .before .before .before .before .before .before .before .before .before .before .before .before .before .before .before .before .count-before .result) + (c .before .before .before .before .before .before .before .before .before .before .before .before .before .before .before .before .before .before .before .before .before .before .before .before .before .before .before .before .before .plan-own .result) .count) n ((c .before .before .before .before .before .before .before .before .before .before .before .before .before .before .before .before .before .before .before .before .before .before .before .before .before .before .before .before .before .plan-own .result) .wanted) ((c .before .before .before .before .before .before .before .before .before .before .before .before .before .before .before .before .before .before .before .before .before .before .before .before .before .before .before .before .before .plan-own .result) .held)) ((c .before .before .before .before .before .before .before .before .before .before .before .before .before .before .before .before .before .before .before .before .before .warning-of .ensures) ∙ ap (λ (b : Bool). cond b 7 ((c .before .before .before .before .before .before .before .before .before .before .before .before .before .before .before .before .before .before .before .before .before .before .before .before .before .before .before .before .before .plan-own .result) .warning)) (c .before .before .before .before .before .before .before .before .before .before .before .before .before .before .before .before .before .before .before .before .before .before .is-news .ensures))) (c .before .before .before .push-state .ensures) (c .before .before .before .before .before .before .before .push-store .ensures) (both-written (c .before .before .before .before .before .before .before .before .before .before .before .before .before .before .before .before .before .before .before .before .before .before .before .before .before .before .before .before .before .before .before .before .before .before .before .before .before .before .before .args .state .now) (c .before .before .before .before .before .before .before .before .before .before .before .before .before .before .before .before .before .before .before .before .before .before .before .before .before .before .before .before .before .before .before .before .before .before .before .before .before .before .before .args .store .now) (c .before .before .before .before .before .before .before .before .before .before .before .before .before .before .before .before .before .before .before .before .before .before .before .before .before .before .before .before .before .before .before .before .before .before .before .before .before .before .before .args .rows .now) (c .before .before .before .before .before .before .before .before .before .before .before .before .before .before .before .before .before .before .before .before .before .before .before .before .before .before .before .before .before .before .before .before .before .before .before .before .before .before .before .args .row .now) (sym (c .before .before .before .before .before .before .before .before .before .before .before .before .before .before .before .before .before .before .before .before .before .before .before .before .before .before .before .before .before .before .before .before .push-check .ensures) ∙ (c .before .before .before .before .before .before .before .before .before .before .before .before .before .before .before .before .before .before .before .before .before .before .before .before .before .before .before .before .before .before .before .if1 .left)) (c .before .before .before .before .before .before .before .before .before .before .before .before .before .before .before .before .before .before .before .before .before .before .before .before .before .before .before .before .before .plan-own .result) (c .before .before .before .before .before .before .before .before .before .before .before .before .before .before .before .before .before .before .before .before .before .before .before .before .before .before .before .before .before .plan-own .ensures) (c .before .before .before .before .before .before .before .before .before .before .before .before .before .before .before .before .before .before .before .before .before .before .before .before .before .before .count-before .result) ((c .before .before .before .before .before .before .before .before .before .before .before .before .before .before .before .before .before .before .before .before .before .before .before .before .before .before .count-before .ensures) .0) (c .before .before .before .before .before .before .before .before .before .before .before .before .before .before .before .before .before .before .before .before .before .before .before .before .if2 .left) _ _ (c .before .before .before .before .before .before .before .before .before .before .before .before .before .before .before .before .before .write-before .ensures) (c .before .before .before .before .before .before .before .before .before .before .before .before .write-own .ensures))
+returns-3 c = answers (done-is ((c .before .before .before .before .before .before .before .before .before .before .before .before .before .before .before .before .before .before .before .before .before .before .before .before .before .before .before .before .before .before .before .before .before .before .before .before .args .state .now)) ((c .before .before .before .before .before .before .before .before .before .before .before .before .before .before .before .before .before .before .before .before .before .before .before .before .before .before .before .before .before .before .before .before .before .before .before .before .args .store .now)) ((c .before .before .before .before .before .before .before .before .before .before .before .before .before .before .before .before .before .before .before .before .before .before .before .before .before .before .before .before .before .before .before .before .before .before .before .before .args .rows .now)) ((c .before .before .before .before .before .before .before .before .before .before .before .before .before .before .before .before .before .before .before .before .before .before .before .before .before .before .before .before .before .before .before .before .before .before .before .before .args .row .now)) (sym (c .before .before .before .before .before .before .before .before .before .before .before .before .before .before .before .before .before .before .before .before .before .before .before .before .before .before .before .before .before .push-check .ensures) ∙ (c .before .before .before .before .before .before .before .before .before .before .before .before .before .before .before .before .before .before .before .before .before .before .before .before .before .before .before .before .if1 .left)) (c .before .before .before .before .before .before .before .before .before .before .before .before .before .before .before .before .before .before .before .before .before .before .before .before .before .before .plan-own .result) (c .before .before .before .before .before .before .before .before .before .before .before .before .before .before .before .before .before .before .before .before .before .before .before .before .before .before .plan-own .ensures) (c .before .before .before .before .before .before .before .before .before .before .before .before .before .before .before .before .before .before .before .before .before .before .put-before .result) ((c .before .before .before .before .before .before .before .before .before .before .before .before .before .before .before .before .before .before .before .before .before .before .put-before .ensures) .count) (room-left _ _ _ _ _ (c .before .before .before .before .before .before .before .before .before .before .before .before .before .before .before .before .before .before .before .before .before .before .put-before .ensures) (c .before .before .before .before .before .before .before .before .before .before .before .before .before .before .before .before .before .before .before .before .before .before .put-before .kept .1 .1 .0) _ refl (c .before .before .before .before .before .before .before .before .before .before .before .before .before .before .before .before .before .before .if2 .left))) ((c .done-reply .ensures) ∙ ap (λ (n : ℕ). doneReply ((c .before .before .before .before .before .before .before .before .before .before .before .before .before .before .before .before .before .before .before .before .before .before .put-before .result) + (c .before .before .before .before .before .before .before .before .before .before .before .before .before .before .before .before .before .before .before .before .before .before .before .before .before .before .plan-own .result) .count) n ((c .before .before .before .before .before .before .before .before .before .before .before .before .before .before .before .before .before .before .before .before .before .before .before .before .before .before .plan-own .result) .wanted) ((c .before .before .before .before .before .before .before .before .before .before .before .before .before .before .before .before .before .before .before .before .before .before .before .before .before .before .plan-own .result) .held)) ((c .before .before .before .before .before .before .before .before .before .before .before .before .before .before .before .warning-of .ensures) ∙ ap (λ (b : Bool). cond b 7 ((c .before .before .before .before .before .before .before .before .before .before .before .before .before .before .before .before .before .before .before .before .before .before .before .before .before .before .plan-own .result) .warning)) (c .before .before .before .before .before .before .before .before .before .before .before .before .before .before .before .before .is-news .ensures))) (c .before .before .before .push-state .ensures) (c .before .before .before .before .before .before .before .push-store .ensures) (both-written ((c .before .before .before .before .before .before .before .before .before .before .before .before .before .before .before .before .before .before .before .before .before .before .before .before .before .before .before .before .before .before .before .before .before .before .before .before .args .state .now)) ((c .before .before .before .before .before .before .before .before .before .before .before .before .before .before .before .before .before .before .before .before .before .before .before .before .before .before .before .before .before .before .before .before .before .before .before .before .args .store .now)) ((c .before .before .before .before .before .before .before .before .before .before .before .before .before .before .before .before .before .before .before .before .before .before .before .before .before .before .before .before .before .before .before .before .before .before .before .before .args .rows .now)) ((c .before .before .before .before .before .before .before .before .before .before .before .before .before .before .before .before .before .before .before .before .before .before .before .before .before .before .before .before .before .before .before .before .before .before .before .before .args .row .now)) (sym (c .before .before .before .before .before .before .before .before .before .before .before .before .before .before .before .before .before .before .before .before .before .before .before .before .before .before .before .before .before .push-check .ensures) ∙ (c .before .before .before .before .before .before .before .before .before .before .before .before .before .before .before .before .before .before .before .before .before .before .before .before .before .before .before .before .if1 .left)) (c .before .before .before .before .before .before .before .before .before .before .before .before .before .before .before .before .before .before .before .before .before .before .before .before .before .before .plan-own .result) (c .before .before .before .before .before .before .before .before .before .before .before .before .before .before .before .before .before .before .before .before .before .before .before .before .before .before .plan-own .ensures) (c .before .before .before .before .before .before .before .before .before .before .before .before .before .before .before .before .before .before .before .before .before .before .put-before .result) ((c .before .before .before .before .before .before .before .before .before .before .before .before .before .before .before .before .before .before .before .before .before .before .put-before .ensures) .count) (room-left _ _ _ _ _ (c .before .before .before .before .before .before .before .before .before .before .before .before .before .before .before .before .before .before .before .before .before .before .put-before .ensures) (c .before .before .before .before .before .before .before .before .before .before .before .before .before .before .before .before .before .before .before .before .before .before .put-before .kept .1 .1 .0) _ refl (c .before .before .before .before .before .before .before .before .before .before .before .before .before .before .before .before .before .before .if2 .left)) _ _ (put-written _ _ _ _ _ (c .before .before .before .before .before .before .before .before .before .before .before .before .before .before .before .before .before .before .before .before .before .before .put-before .ensures) (c .before .before .before .before .before .before .before .before .before .before .before .before .before .before .before .before .before .before .before .before .before .before .put-before .kept .1 .1 .0) _ refl (c .before .before .before .before .before .before .before .before .before .before .before .before .before .before .before .before .before .before .if2 .left)) (c .before .before .before .before .before .before .before .before .before .before .before .before .write-own .ensures))
 
 pub flat-push-spec : {M : Type 1} → statement M
 flat-push-spec =
@@ -100,21 +98,21 @@ flat-push-spec =
     same-length-2
     returns
     plan-own-requires
-    count-before-requires
+    put-before-requires
     add-needed
     too-few-requires
     same-length-3
     same-length-4
+    same-length-5
     returns-2
     is-news-requires
     warning-of-requires
-    write-before-requires
     mul-write-own
     write-own-requires
     push-store-requires
     push-state-requires
     done-reply-requires
-    same-length-5
     same-length-6
     same-length-7
+    same-length-8
     returns-3)
