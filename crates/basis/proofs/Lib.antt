@@ -1,3 +1,4 @@
 pub mod Controls
 pub mod Mirrored
 pub mod Steps
+pub mod Straight

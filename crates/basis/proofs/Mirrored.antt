@@ -36,12 +36,20 @@ first-row xs w i a h e = let z : i * w + 0 ≡ a = omega arith in sym (getD-take
 pub ratio-first : (xs : List Float) (w i a : ℕ) (y : Float) → 1 ≤ w → a ≡ i * w → at xs a ⊘ y ≡ at (row xs w i) 0 ⊘ y
 ratio-first xs w i a y h e = ap (λ (x : Float). x ⊘ y) (first-row xs w i a h e)
 
+pub ratios-by : (f : ℕ → Float) (l : List Float) {b y : Float} {c ch : ℕ} {r : List Float} → b ≡ y → c ≡ ch → r ≡ filled (λ i. f i ⊘ b) c l → r ≡ filled (λ i. f i ⊘ y) ch l
+ratios-by f l {y = y} {c = c} eb ec er = er ∙ ap (λ (z : Float). filled (λ i. f i ⊘ z) c l) eb ∙ ap (λ (z : ℕ). filled (λ i. f i ⊘ y) z l) ec
+
 pub ratios-first : (xs : List Float) (w ch c b : ℕ) (l : List Float) {r : List Float} → 1 ≤ w → c ≡ ch → b ≡ ch * w → r ≡ filled (λ i. at (row xs w i) 0 ⊘ at xs b) c l
     → r ≡ filled (λ i. at (row xs w i) 0 ⊘ at (row xs w ch) 0) ch l
-ratios-first xs w ch c b l {r} h e eb er =
-    er ∙ ap (λ (y : Float). filled (λ i. at (row xs w i) 0 ⊘ y) c l) (first-row xs w ch b h eb) ∙ ap (λ (k : ℕ). filled (λ i. at (row xs w i) 0 ⊘ at (row xs w ch) 0) k l) e
+ratios-first xs w ch c b l h e eb er = ratios-by (λ i. at (row xs w i) 0) l (first-row xs w ch b h eb) e er
 
 -- ---- the levels
+
+-- row j of the next level
+pub level-at : (ks : List Float) (u : Float) (p k : ℕ) (d : List Float) (r j : ℕ) → length d ≡ p + 1 → j < p + 1 → suc r ≤ j
+    → at (levels ks u p k d (suc r)) j ≡ (f1 ⊖ share ks u p k (suc r) j) ⊗ at (levels ks u p k d r) (j - 1) ⊕ share ks u p k (suc r) j ⊗ at (levels ks u p k d r) j
+unfolding levels raisedAt
+level-at ks u p k d r j n h g = at-upto _ (length d) j nan (omega arith) ∙ rw (le-ltb j (suc r) g)
 
 module _ (ks : List Float) (u : Float) (p k rows : ℕ) (l : List Float) where
   pub mirrors-none : Mirrors ks u p k rows l l 0
@@ -51,11 +59,6 @@ module _ (ks : List Float) (u : Float) (p k rows : ℕ) (l : List Float) where
         let e : p - (p - h) ≡ h = omega arith in
         sym (at-upto (λ j. at (row l (p + 1) c) (p - j)) (p + 1) (p - h) nan (omega arith) ∙ ap (at (row l (p + 1) c)) e);
   }
-
-  level-at : (d : List Float) (r j : ℕ) → length d ≡ p + 1 → j < p + 1 → suc r ≤ j
-      → at (levels ks u p k d (suc r)) j ≡ (f1 ⊖ share ks u p k (suc r) j) ⊗ at (levels ks u p k d r) (j - 1) ⊕ share ks u p k (suc r) j ⊗ at (levels ks u p k d r) j
-  unfolding levels raisedAt
-  level-at d r j n h g = at-upto _ (length d) j nan (omega arith) ∙ rw (le-ltb j (suc r) g)
 
   pub mirrors-more : (al₀ : List Float) {xs ys al : List Float} {r j m : ℕ} → j ≡ suc r → m ≡ p - r → r < p
       → al ≡ filled (λ h. share ks u p k j (p - h)) m al₀
@@ -71,7 +74,7 @@ module _ (ks : List Float) (u : Float) (p k rows : ℕ) (l : List Float) where
         let x0 : at (row xs (p + 1) c) h ≡ at (levels ks u p k (mirror (row l (p + 1) c) p) r) (p - h) = mx .is c hc h (omega arith) in
         let x1 : at (row xs (p + 1) c) (h + 1) ≡ at (levels ks u p k (mirror (row l (p + 1) c) p) r) (p - h - 1) = mx .is c hc (h + 1) (omega arith) ∙ ap (at (levels ks u p k (mirror (row l (p + 1) c) p) r)) e in
         ap (λ (z : List Float). at z h) (ry .is c hc) ∙ at-filled (mixed al (row xs (p + 1) c)) (row xs (p + 1) c) m h nan lt
-        ∙ rw (sa, x0, x1) (sym (level-at (mirror (row l (p + 1) c) p) r (p - h) (length-upto (λ i. at (row l (p + 1) c) (p - i)) (p + 1)) (omega arith) (omega arith)))
+        ∙ rw (sa, x0, x1) (sym (level-at ks u p k (mirror (row l (p + 1) c) p) r (p - h) (length-upto (λ i. at (row l (p + 1) c) (p - i)) (p + 1)) (omega arith) (omega arith)))
         ∙ ap (λ (z : ℕ). at (levels ks u p k (mirror (row l (p + 1) c) p) z) (p - h)) (sym ej);
   }
 
@@ -97,20 +100,28 @@ module _ (ks cw : List Float) (n p ch : ℕ) (t : Float) (l : List Float) where
       let z0 : p - 0 ≡ p = omega arith in
       e2 .is c h 0 (omega arith) ∙ ap (at (levels ks u p k (mirror (row d1 (p + 1) c) p) p)) z0 ∙ ap (λ (z : List Float). at (levels ks u p k z p) p) b
 
+  -- the channels' numbers in the span of t, over that of channel ch
+  pub curve-is : {u : Float} {k : ℕ} {r : List Float} (top : ℕ → Float) → at ks n ≡ ofNat (n - p) → u ≡ heldIn f0 (at ks n) t → k ≡ spanIn n p u
+      → ((c : ℕ) → c < ch + 1 → top c ≡ weighted ks cw n p u k c)
+      → r ≡ filled (λ c. top c ⊘ top ch) ch l
+      → r ≡ filled (curveAt ks cw n p ch t) ch l
+  unfolding curveAt
+  curve-is {u} {k} {r} top hi eh ek is er =
+      let eu : u ≡ heldAt n p t = eh ∙ ap (λ (z : Float). heldIn f0 z t) hi in
+      let es : k ≡ spanIn n p (heldAt n p t) = ek ∙ ap (spanIn n p) eu in
+      er ∙ ap (λ (z : List Float). z ++ drop ch l) (upto-below _ _ ch (λ c h.
+      ap (λ (x : Float). x ⊘ top ch) (is c (omega arith))
+      ∙ ap (λ (x : Float). weighted ks cw n p u k c ⊘ x) (is ch (omega arith))
+      ∙ ap (λ (j : ℕ). weighted ks cw n p u j c ⊘ weighted ks cw n p u j ch) es
+      ∙ ap (λ (x : Float). weighted ks cw n p x (spanIn n p (heldAt n p t)) c ⊘ weighted ks cw n p x (spanIn n p (heldAt n p t)) ch) eu))
+
   pub eval-is : {u : Float} {k : ℕ} {d1 d2 r : List Float} → ((c : ℕ) → c < ch + 1 → length (window cw n p k c) ≡ p + 1) → at ks n ≡ ofNat (n - p) → u ≡ heldIn f0 (at ks n) t → k ≡ spanIn n p u
       → Rows d1 (p + 1) (ch + 1) (λ i. upto (λ h. at (take (p + 1) (drop (k - p) (row cw n i))) (p + 1 - 1 - h)) (p + 1))
       → Mirrors ks u p k (ch + 1) d1 d2 p
       → r ≡ filled (λ i. at (row d2 (p + 1) i) 0 ⊘ at (row d2 (p + 1) ch) 0) ch l
       → r ≡ filled (curveAt ks cw n p ch t) ch l
-  unfolding curveAt
-  eval-is {u} {k} {d1} {d2} {r} len top eh ek e1 e2 er =
-      let eu : u ≡ heldAt n p t = eh ∙ ap (λ (z : Float). heldIn f0 z t) top in
-      let es : k ≡ spanIn n p (heldAt n p t) = ek ∙ ap (spanIn n p) eu in
-      er ∙ ap (λ (z : List Float). z ++ drop ch l) (upto-below _ _ ch (λ c h.
-      ap (λ (x : Float). x ⊘ at (row d2 (p + 1) ch) 0) (top-is u k c (omega arith) (len c (omega arith)) e1 e2)
-      ∙ ap (λ (x : Float). weighted ks cw n p u k c ⊘ x) (top-is u k ch (omega arith) (len ch (omega arith)) e1 e2)
-      ∙ ap (λ (j : ℕ). weighted ks cw n p u j c ⊘ weighted ks cw n p u j ch) es
-      ∙ ap (λ (x : Float). weighted ks cw n p x (spanIn n p (heldAt n p t)) c ⊘ weighted ks cw n p x (spanIn n p (heldAt n p t)) ch) eu))
+  eval-is {u} {k} {d1} {d2} {r} len hi eh ek e1 e2 er =
+      curve-is (λ c. at (row d2 (p + 1) c) 0) hi eh ek (λ c h. top-is u k c h (len c h) e1 e2) er
 
 pub window-length : (cw : List Float) (n p ch k : ℕ) → (ch + 1) * n ≤ length cw → p ≤ k → k < n → (c : ℕ) → c < ch + 1 → length (window cw n p k c) ≡ p + 1
 window-length cw n p ch k fit h g c hc = length-take-le (p + 1) (drop (k - p) (row cw n c)) (rw length-drop (omega (arith, length-row cw n (ch + 1) c hc fit)))

@@ -10,7 +10,7 @@ ghost use Rattle.basis.specs.Tables.{Rows};
 ghost use Rattle.basis.specs.Mirror.{mixed, Mirrors};
 
 // The share of row j at level r, in knot span k.
-fn share_at(ks: &[f64], t: f64, p: usize, k: usize, r: usize, j: usize) -> f64
+pub fn share_at(ks: &[f64], t: f64, p: usize, k: usize, r: usize, j: usize) -> f64
     requires { ⌜ (1 ≤ r) × ((r ≤ p) × ((p ≤ k) × ((j ≤ p) × (k + p < length (now ks))))) ⌝ }
     ensures { λ x. ⌜ x ≡ share (now (ks .entry)) t p k r j ⌝ }
 {

@@ -1,4 +1,5 @@
 pub mod boor;
+pub mod low;
 pub mod owner;
 pub mod point;
 pub mod tables;

@@ -2,6 +2,8 @@
 use crate::boor::climb_up;
 use crate::boor::load_back;
 use crate::boor::project_first;
+use crate::low::project_tops;
+use crate::low::shares_in;
 ghost use mathlib.Core.Path.{_≡_};
 ghost use Prim.Native.Nat.{_≤_, _<_, _+_, _*_, _-_};
 ghost use lib.ListN.{length, replicate};
@@ -59,17 +61,18 @@ fn eval_in(
     project_first(d, w, ch)
 }
 
-// Work memory for degrees up to 3, 15 and 256: small where the degree is, since it is cleared at each call.
 fn eval_low(ks: &[f64], cw: &[f64], n: usize, p: usize, ch: usize, t: f64) -> [f64; 16]
     requires { ⌜ Curve (now ks) (now cw) n p ch ⌝ }
     requires { ⌜ p ≤ 3 ⌝ }
     ensures { λ r. ⌜ r ≡ filled (curveAt (now (ks .entry)) (now (cw .entry)) n p ch t) ch (replicate 16 f0) ⌝ }
 {
-    let mut al = [0.0f64; 4];
-    let mut d = [0.0f64; 44];
-    eval_in(ks, cw, n, p, ch, t, &mut al, &mut d)
+    let hi = ks[n];
+    let u = hold(t, hi);
+    let k = span_of(u, hi, p, n);
+    project_tops(shares_in(ks, u, p, k), p, cw, n, k - p, ch)
 }
 
+// Work memory for degrees up to 15, 63 and 256: small where the degree is, since it is cleared at each call.
 fn eval_mid(ks: &[f64], cw: &[f64], n: usize, p: usize, ch: usize, t: f64) -> [f64; 16]
     requires { ⌜ Curve (now ks) (now cw) n p ch ⌝ }
     requires { ⌜ p ≤ 15 ⌝ }
@@ -77,6 +80,16 @@ fn eval_mid(ks: &[f64], cw: &[f64], n: usize, p: usize, ch: usize, t: f64) -> [f
 {
     let mut al = [0.0f64; 16];
     let mut d = [0.0f64; 176];
+    eval_in(ks, cw, n, p, ch, t, &mut al, &mut d)
+}
+
+fn eval_wide(ks: &[f64], cw: &[f64], n: usize, p: usize, ch: usize, t: f64) -> [f64; 16]
+    requires { ⌜ Curve (now ks) (now cw) n p ch ⌝ }
+    requires { ⌜ p ≤ 63 ⌝ }
+    ensures { λ r. ⌜ r ≡ filled (curveAt (now (ks .entry)) (now (cw .entry)) n p ch t) ch (replicate 16 f0) ⌝ }
+{
+    let mut al = [0.0f64; 64];
+    let mut d = [0.0f64; 704];
     eval_in(ks, cw, n, p, ch, t, &mut al, &mut d)
 }
 
@@ -99,6 +112,9 @@ pub fn eval(ks: &[f64], cw: &[f64], n: usize, p: usize, ch: usize, t: f64) -> [f
     }
     if p < 16 {
         return eval_mid(ks, cw, n, p, ch, t);
+    }
+    if p < 64 {
+        return eval_wide(ks, cw, n, p, ch, t);
     }
     eval_high(ks, cw, n, p, ch, t)
 }

@@ -24,50 +24,39 @@ Inv-loop ks u p k rows al₀ d₀ w r₀ al d r = ((r ≤ p) × ((length al ≡ 
 abbrev μ-loop : tie.MeasureT-loop
 μ-loop ks u p k rows al₀ d₀ w r₀ al d r = p - r
 
--- src/boor.rt:113:13
 add-w : tie.Need-add-w Inv-loop μ-loop
 add-w c = search needs
 
--- src/boor.rt:115:5
 loop-holds : tie.Need-loop-holds Inv-loop μ-loop
 loop-holds c = ((omega arith, (refl, refl)), mirrors-none _ _ _ _ _ _)
 
--- src/boor.rt:116:17
 sub-m : tie.Need-sub-m Inv-loop μ-loop
 sub-m c = search needs
 
--- src/boor.rt:117:9
 add-r : tie.Need-add-r Inv-loop μ-loop
 add-r c = search needs
 
--- src/boor.rt:118:9
 shares-up-requires : tie.Need-shares-up-requires Inv-loop μ-loop
 shares-up-requires c κs = search needs
 
--- src/boor.rt:119:9
 raise-rows-requires : tie.Need-raise-rows-requires Inv-loop μ-loop
 raise-rows-requires c κs = search needs
 
--- src/boor.rt:115:5
 loop-less : tie.Need-loop-less Inv-loop μ-loop
 loop-less c = search needs
 
--- src/boor.rt:115:5
 loop-again : tie.Need-loop-again Inv-loop μ-loop
 loop-again c = let s = (c .before .before .before .before .before .before .before .shares-up) in
     let r = (c .before .before .raise-rows) in
     let inv = (c .before .before .before .before .before .before .before .before .before .before .loop .inv) in
     ((omega arith, (s .kept .1 .1 .1 .1 .1 .1 .0 ∙ inv .0 .1 .0, r .kept .0 ∙ inv .0 .1 .1)), mirrors-more _ _ _ _ _ _ _ (add-one _) refl (c .before .before .before .before .before .before .before .before .before .loop-test .taken) (s .ensures) (inv .1) (r .ensures))
 
--- src/boor.rt:100:1
 same-length : tie.Need-same-length Inv-loop μ-loop
 same-length c = search needs
 
--- src/boor.rt:100:1
 same-length-2 : tie.Need-same-length-2 Inv-loop μ-loop
 same-length-2 c = search needs
 
--- src/boor.rt:100:1
 returns : tie.Need-returns Inv-loop μ-loop
 returns c = let e : (c .before .loop .r) ≡ (c .before .before .before .before .before .args .p) = omega arith in rw e at ((c .before .loop .inv) .1)
 

@@ -19,51 +19,39 @@ Inv-loop src dst₀ n h₀ dst h = ((h ≤ length dst₀) × (length dst ≡ len
 abbrev μ-loop : tie.MeasureT-loop
 μ-loop src dst₀ n h₀ dst h = length dst₀ - h
 
--- src/boor.rt:74:5
 loop-holds : tie.Need-loop-holds Inv-loop μ-loop
 loop-holds c = ((omega arith, refl), filling-none)
 
--- src/boor.rt:75:22
 sub-dst : tie.Need-sub-dst Inv-loop μ-loop
 sub-dst c = search needs
 
--- src/boor.rt:75:22
 sub-dst-2 : tie.Need-sub-dst-2 Inv-loop μ-loop
 sub-dst-2 c = search needs
 
--- src/boor.rt:75:18
 mul-dst : tie.Need-mul-dst Inv-loop μ-loop
 mul-dst c = search needs
 
--- src/boor.rt:75:18
 shared-slice-read-dst : tie.Need-shared-slice-read-dst Inv-loop μ-loop
 shared-slice-read-dst c = search needs
 
--- src/boor.rt:75:9
 mul-dst-2 : tie.Need-mul-dst-2 Inv-loop μ-loop
 mul-dst-2 c = search needs
 
--- src/boor.rt:75:9
 slice-write-dst : tie.Need-slice-write-dst Inv-loop μ-loop
 slice-write-dst c = search needs
 
--- src/boor.rt:76:9
 add-h : tie.Need-add-h Inv-loop μ-loop
 add-h c = search needs
 
--- src/boor.rt:74:5
 loop-less : tie.Need-loop-less Inv-loop μ-loop
 loop-less c = search needs
 
--- src/boor.rt:74:5
 loop-again : tie.Need-loop-again Inv-loop μ-loop
 loop-again c = let f = filling-more ((c .before .before .loop .inv) .1) (omega arith) refl in ((omega arith, f .same), f)
 
--- src/boor.rt:68:1
 same-length : tie.Need-same-length Inv-loop μ-loop
 same-length c = (c .before .loop .inv) .1 .same
 
--- src/boor.rt:68:1
 returns : tie.Need-returns Inv-loop μ-loop
 returns c = rw ((c .before .before .pre)) (filled-all _ _ (omega arith) ((c .before .loop .inv) .1 .is))
 

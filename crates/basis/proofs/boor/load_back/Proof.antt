@@ -20,78 +20,60 @@ Inv-loop cw n from w rows d₀ s₀ a₀ c₀ d s a c = ((c ≤ rows) × ((a ≡
 abbrev μ-loop : tie.MeasureT-loop
 μ-loop cw n from w rows d₀ s₀ a₀ c₀ d s a c = rows - c
 
--- src/boor.rt:89:5
 loop-holds : tie.Need-loop-holds Inv-loop μ-loop
 loop-holds c = ((omega arith, (rw zero-mul, rw zero-mul (omega arith))), rowing-none)
 
--- src/boor.rt:90:17
 add-f : tie.Need-add-f Inv-loop μ-loop
 add-f c = omega (arith, source _ _ _ _ _ _ _ (c .loop-test .taken) ((c .before .before .before .before .pre) .0 .0) ((c .before .before .before .before .pre) .0 .1 .0) ((c .before .loop .inv) .0 .1 .1))
 
--- src/boor.rt:91:17
 add-e : tie.Need-add-e Inv-loop μ-loop
 add-e c = omega (arith, within _ _ _ _ _ (c .loop-test .taken) ((c .before .before .before .before .pre) .0 .1 .1) ((c .before .loop .inv) .0 .1 .0))
 
--- src/boor.rt:92:19
 mul-copy-back : tie.Need-mul-copy-back Inv-loop μ-loop
 mul-copy-back c = omega (arith, source _ _ _ _ _ _ _ (c .loop-test .taken) ((c .before .before .before .before .pre) .0 .0) ((c .before .before .before .before .pre) .0 .1 .0) ((c .before .loop .inv) .0 .1 .1))
 
--- src/boor.rt:92:19
 sub-copy-back : tie.Need-sub-copy-back Inv-loop μ-loop
 sub-copy-back c = search needs
 
--- src/boor.rt:92:19
 part-copy-back-start : tie.Need-part-copy-back-start Inv-loop μ-loop
 part-copy-back-start c = search needs
 
--- src/boor.rt:92:19
 part-copy-back-end : tie.Need-part-copy-back-end Inv-loop μ-loop
 part-copy-back-end c = omega (arith, source _ _ _ _ _ _ _ (c .loop-test .taken) ((c .before .before .before .before .pre) .0 .0) ((c .before .before .before .before .pre) .0 .1 .0) ((c .before .loop .inv) .0 .1 .1))
 
--- src/boor.rt:92:30
 mul-copy-back-2 : tie.Need-mul-copy-back-2 Inv-loop μ-loop
 mul-copy-back-2 c = omega (arith, within _ _ _ _ _ (c .before .loop-test .taken) ((c .before .before .before .before .before .pre) .0 .1 .1) ((c .before .before .loop .inv) .0 .1 .0))
 
--- src/boor.rt:92:30
 sub-copy-back-2 : tie.Need-sub-copy-back-2 Inv-loop μ-loop
 sub-copy-back-2 c = search needs
 
--- src/boor.rt:92:30
 part-copy-back-start-2 : tie.Need-part-copy-back-start-2 Inv-loop μ-loop
 part-copy-back-start-2 c = search needs
 
--- src/boor.rt:92:30
 part-copy-back-end-2 : tie.Need-part-copy-back-end-2 Inv-loop μ-loop
 part-copy-back-end-2 c = omega (arith, (c .before .before .loop .inv) .1 .same, within _ _ _ _ _ (c .before .loop-test .taken) ((c .before .before .before .before .before .pre) .0 .1 .1) ((c .before .before .loop .inv) .0 .1 .0))
 
--- src/boor.rt:92:9
 copy-back-requires : tie.Need-copy-back-requires Inv-loop μ-loop
 copy-back-requires c κs = let x = length-part _ _ _ (source _ _ _ _ _ _ _ (c .before .before .loop-test .taken) ((c .before .before .before .before .before .before .pre) .0 .0) ((c .before .before .before .before .before .before .pre) .0 .1 .0) ((c .before .before .before .loop .inv) .0 .1 .1)) in let y = part-length ((c .before .before .before .loop .inv) .1) (c .before .before .loop-test .taken) ((c .before .before .before .before .before .before .pre) .0 .1 .1) ((c .before .before .before .loop .inv) .0 .1 .0) in x ∙ sym y
 
--- src/boor.rt:93:9
 add-s : tie.Need-add-s Inv-loop μ-loop
 add-s c = omega (arith, source _ _ _ _ _ _ _ (c .before .before .before .before .before .loop-test .taken) ((c .before .before .before .before .before .before .before .before .before .pre) .0 .0) ((c .before .before .before .before .before .before .before .before .before .pre) .0 .1 .0) ((c .before .before .before .before .before .before .loop .inv) .0 .1 .1))
 
--- src/boor.rt:95:9
 add-c : tie.Need-add-c Inv-loop μ-loop
 add-c c = search needs
 
--- src/boor.rt:89:5
 loop-less : tie.Need-loop-less Inv-loop μ-loop
 loop-less c = search needs
 
--- src/boor.rt:89:5
 loop-again : tie.Need-loop-again Inv-loop μ-loop
 loop-again c = let inv = (c .before .before .before .before .before .before .loop .inv) in (
   (omega arith, (next-row _ _ _ (inv .0 .1 .0), next-source _ _ _ _ (inv .0 .1 .1))),
   rowing-put (inv .1) (c .before .before .before .before .before .loop-test .taken) ((c .before .before .before .before .before .before .before .before .before .pre) .0 .1 .1) (inv .0 .1 .0) (c .before .before .copy-back .kept .1 .0) (back-window _ _ _ (length-part _ _ _ (source _ _ _ _ _ _ _ (c .before .before .before .before .before .loop-test .taken) ((c .before .before .before .before .before .before .before .before .before .pre) .0 .0) ((c .before .before .before .before .before .before .before .before .before .pre) .0 .1 .0) ((c .before .before .before .before .before .before .loop .inv) .0 .1 .1))) (part-window _ _ _ _ _ _ ((c .before .before .before .before .before .before .before .before .before .pre) .0 .1 .0) (inv .0 .1 .1)) (c .before .before .copy-back .ensures)),
 )
 
--- src/boor.rt:81:1
 same-length : tie.Need-same-length Inv-loop μ-loop
 same-length c = (c .before .loop .inv) .1 .same
 
--- src/boor.rt:81:1
 returns : tie.Need-returns Inv-loop μ-loop
 returns c = rowing-all ((c .before .loop .inv) .1) (omega arith)
 

@@ -21,57 +21,44 @@ Inv-loop d w ch by r₀ a₀ c₀ r a c = ((c ≤ ch) × ((a ≡ c * w) × (leng
 abbrev μ-loop : tie.MeasureT-loop
 μ-loop d w ch by r₀ a₀ c₀ r a c = ch - c
 
--- src/boor.rt:128:16
 mul-by : tie.Need-mul-by Inv-loop μ-loop
 mul-by c = omega (arith, last-index (c .args .ch) (c .args .w) _ ((c .pre) .0) ((c .pre) .1 .1))
 
--- src/boor.rt:128:14
 mul-by-2 : tie.Need-mul-by-2 Inv-loop μ-loop
 mul-by-2 c = omega (arith, last-index (c .args .ch) (c .args .w) _ ((c .pre) .0) ((c .pre) .1 .1))
 
--- src/boor.rt:128:14
 shared-slice-read-by : tie.Need-shared-slice-read-by Inv-loop μ-loop
 shared-slice-read-by c = omega (arith, last-index (c .before .args .ch) (c .before .args .w) _ ((c .before .pre) .0) ((c .before .pre) .1 .1))
 
--- src/boor.rt:132:5
 loop-holds : tie.Need-loop-holds Inv-loop μ-loop
 loop-holds c = ((omega arith, (rw zero-mul, refl)), filling-none)
 
--- src/boor.rt:133:16
 mul-r : tie.Need-mul-r Inv-loop μ-loop
 mul-r c = omega (arith, first-in (c .before .loop .c) (c .before .before .before .args .ch) (c .before .before .before .args .w) _ (c .loop-test .taken) ((c .before .before .before .pre) .0) ((c .before .before .before .pre) .1 .1) ((c .before .loop .inv) .0 .1 .0))
 
--- src/boor.rt:133:16
 shared-slice-read-r : tie.Need-shared-slice-read-r Inv-loop μ-loop
 shared-slice-read-r c = omega (arith, first-in (c .before .before .loop .c) (c .before .before .before .before .args .ch) (c .before .before .before .before .args .w) _ (c .before .loop-test .taken) ((c .before .before .before .before .pre) .0) ((c .before .before .before .before .pre) .1 .1) ((c .before .before .loop .inv) .0 .1 .0))
 
--- src/boor.rt:133:9
 mul-r-2 : tie.Need-mul-r-2 Inv-loop μ-loop
 mul-r-2 c = search needs
 
--- src/boor.rt:133:9
 array-write-r : tie.Need-array-write-r Inv-loop μ-loop
 array-write-r c = search needs
 
--- src/boor.rt:134:9
 add-a : tie.Need-add-a Inv-loop μ-loop
 add-a c = omega (arith, first-in (c .before .before .loop .c) (c .before .before .before .before .args .ch) (c .before .before .before .before .args .w) _ (c .before .loop-test .taken) ((c .before .before .before .before .pre) .0) ((c .before .before .before .before .pre) .1 .1) ((c .before .before .loop .inv) .0 .1 .0))
 
--- src/boor.rt:135:9
 add-c : tie.Need-add-c Inv-loop μ-loop
 add-c c = search needs
 
--- src/boor.rt:132:5
 loop-less : tie.Need-loop-less Inv-loop μ-loop
 loop-less c = search needs
 
--- src/boor.rt:132:5
 loop-again : tie.Need-loop-again Inv-loop μ-loop
 loop-again c = let inv = (c .before .before .loop .inv) in
     let f = filling-more (inv .1) (omega arith) (ratio-first _ _ _ _ _ ((c .before .before .before .before .pre) .0) (inv .0 .1 .0)) in
     ((omega arith, (first-next _ _ _ (inv .0 .1 .0), f .same)), f)
 
--- src/boor.rt:124:1
 returns : tie.Need-returns Inv-loop μ-loop
 returns c = ratios-first _ _ _ _ _ _ ((c .before .before .before .pre) .0) (omega arith) refl ((c .before .loop .inv) .1 .is)
 

@@ -20,52 +20,40 @@ Inv-loop d₀ al m w rows a₀ c₀ d a c = ((c ≤ rows) × (a ≡ c * w)) × R
 abbrev μ-loop : tie.MeasureT-loop
 μ-loop d₀ al m w rows a₀ c₀ d a c = rows - c
 
--- src/boor.rt:60:5
 loop-holds : tie.Need-loop-holds Inv-loop μ-loop
 loop-holds c = ((omega arith, rw zero-mul), rowing-none)
 
--- src/boor.rt:61:17
 add-e : tie.Need-add-e Inv-loop μ-loop
 add-e c = omega (arith, within _ _ _ _ _ (c .loop-test .taken) ((c .before .before .before .before .pre) .1 .1) ((c .before .loop .inv) .0 .1))
 
--- src/boor.rt:62:18
 mul-raise-up : tie.Need-mul-raise-up Inv-loop μ-loop
 mul-raise-up c = omega (arith, within _ _ _ _ _ (c .loop-test .taken) ((c .before .before .before .before .pre) .1 .1) ((c .before .loop .inv) .0 .1))
 
--- src/boor.rt:62:18
 sub-raise-up : tie.Need-sub-raise-up Inv-loop μ-loop
 sub-raise-up c = search needs
 
--- src/boor.rt:62:18
 part-raise-up-start : tie.Need-part-raise-up-start Inv-loop μ-loop
 part-raise-up-start c = search needs
 
--- src/boor.rt:62:18
 part-raise-up-end : tie.Need-part-raise-up-end Inv-loop μ-loop
 part-raise-up-end c = omega (arith, (c .before .loop .inv) .1 .same, within _ _ _ _ _ (c .loop-test .taken) ((c .before .before .before .before .pre) .1 .1) ((c .before .loop .inv) .0 .1))
 
--- src/boor.rt:62:9
 raise-up-requires : tie.Need-raise-up-requires Inv-loop μ-loop
 raise-up-requires c κs = (omega (arith, part-length ((c .before .before .loop .inv) .1) (c .before .loop-test .taken) ((c .before .before .before .before .before .pre) .1 .1) ((c .before .before .loop .inv) .0 .1)), omega arith)
 
--- src/boor.rt:64:9
 add-c : tie.Need-add-c Inv-loop μ-loop
 add-c c = search needs
 
--- src/boor.rt:60:5
 loop-less : tie.Need-loop-less Inv-loop μ-loop
 loop-less c = search needs
 
--- src/boor.rt:60:5
 loop-again : tie.Need-loop-again Inv-loop μ-loop
 loop-again c = let inv = (c .before .before .before .before .before .loop .inv) in
     ((omega arith, next-row _ _ _ (inv .0 .1)), rowing-map (λ x n. filled (mixed (c .before .before .before .before .before .before .before .before .args .al .now) x) (c .before .before .before .before .before .before .before .before .args .m) x) (inv .1) (c .before .before .before .before .loop-test .taken) ((c .before .before .before .before .before .before .before .before .pre) .1 .1) (inv .0 .1) ((c .before .before .raise-up .kept .0)) (c .before .before .raise-up .ensures))
 
--- src/boor.rt:54:1
 same-length : tie.Need-same-length Inv-loop μ-loop
 same-length c = (c .before .loop .inv) .1 .same
 
--- src/boor.rt:54:1
 returns : tie.Need-returns Inv-loop μ-loop
 returns c = rowing-all ((c .before .loop .inv) .1) (omega arith)
 

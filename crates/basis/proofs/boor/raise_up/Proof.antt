@@ -21,71 +21,54 @@ Inv-loop x₀ al m h₀ x h = ((h ≤ m) × (length x ≡ length x₀)) × Filli
 abbrev μ-loop : tie.MeasureT-loop
 μ-loop x₀ al m h₀ x h = m - h
 
--- src/boor.rt:47:5
 loop-holds : tie.Need-loop-holds Inv-loop μ-loop
 loop-holds c = ((omega arith, refl), filling-none)
 
--- src/boor.rt:48:23
 mul-x : tie.Need-mul-x Inv-loop μ-loop
 mul-x c = search needs
 
--- src/boor.rt:48:23
 shared-slice-read-x : tie.Need-shared-slice-read-x Inv-loop μ-loop
 shared-slice-read-x c = search needs
 
--- src/boor.rt:48:34
 add-x : tie.Need-add-x Inv-loop μ-loop
 add-x c = search needs
 
--- src/boor.rt:48:32
 mul-x-2 : tie.Need-mul-x-2 Inv-loop μ-loop
 mul-x-2 c = search needs
 
--- src/boor.rt:48:32
 slice-read-x : tie.Need-slice-read-x Inv-loop μ-loop
 slice-read-x c = search needs
 
--- src/boor.rt:48:43
 mul-x-3 : tie.Need-mul-x-3 Inv-loop μ-loop
 mul-x-3 c = search needs
 
--- src/boor.rt:48:43
 shared-slice-read-x-2 : tie.Need-shared-slice-read-x-2 Inv-loop μ-loop
 shared-slice-read-x-2 c = search needs
 
--- src/boor.rt:48:51
 mul-x-4 : tie.Need-mul-x-4 Inv-loop μ-loop
 mul-x-4 c = search needs
 
--- src/boor.rt:48:51
 slice-read-x-2 : tie.Need-slice-read-x-2 Inv-loop μ-loop
 slice-read-x-2 c = search needs
 
--- src/boor.rt:48:9
 mul-x-5 : tie.Need-mul-x-5 Inv-loop μ-loop
 mul-x-5 c = search needs
 
--- src/boor.rt:48:9
 slice-write-x : tie.Need-slice-write-x Inv-loop μ-loop
 slice-write-x c = search needs
 
--- src/boor.rt:49:9
 add-h : tie.Need-add-h Inv-loop μ-loop
 add-h c = search needs
 
--- src/boor.rt:47:5
 loop-less : tie.Need-loop-less Inv-loop μ-loop
 loop-less c = search needs
 
--- src/boor.rt:47:5
 loop-again : tie.Need-loop-again Inv-loop μ-loop
 loop-again c = let f = filling-more ((c .before .before .before .before .before .loop .inv) .1) (omega arith) (mix-step (c .before .before .before .before .before .before .args .al .now) (c .before .before .before .before .before .before .args .x .now) (c .before .before .before .before .before .loop .h) ((c .before .before .before .before .before .loop .inv) .1 .is)) in ((omega arith, f .same), f)
 
--- src/boor.rt:42:1
 same-length : tie.Need-same-length Inv-loop μ-loop
 same-length c = (c .before .loop .inv) .1 .same
 
--- src/boor.rt:42:1
 returns : tie.Need-returns Inv-loop μ-loop
 returns c = let e : (c .before .loop .h) ≡ (c .before .before .args .m) = omega arith in rw e at ((c .before .loop .inv) .1 .is)
 

@@ -21,43 +21,33 @@ Inv-loop ks t p k r m al₀ h₀ al h = ((h ≤ m) × (m ≤ length al₀)) × F
 abbrev μ-loop : tie.MeasureT-loop
 μ-loop ks t p k r m al₀ h₀ al h = m - h
 
--- src/boor.rt:35:5
 loop-holds : tie.Need-loop-holds Inv-loop μ-loop
 loop-holds c = (omega arith, filling-none)
 
--- src/boor.rt:36:42
 sub-share-at : tie.Need-sub-share-at Inv-loop μ-loop
 sub-share-at c = search needs
 
--- src/boor.rt:36:17
 share-at-requires : tie.Need-share-at-requires Inv-loop μ-loop
 share-at-requires c κs = search needs
 
--- src/boor.rt:36:9
 mul-al : tie.Need-mul-al Inv-loop μ-loop
 mul-al c = search needs
 
--- src/boor.rt:36:9
 slice-write-al : tie.Need-slice-write-al Inv-loop μ-loop
 slice-write-al c = search needs
 
--- src/boor.rt:37:9
 add-h : tie.Need-add-h Inv-loop μ-loop
 add-h c = search needs
 
--- src/boor.rt:35:5
 loop-less : tie.Need-loop-less Inv-loop μ-loop
 loop-less c = search needs
 
--- src/boor.rt:35:5
 loop-again : tie.Need-loop-again Inv-loop μ-loop
 loop-again c = (omega arith, filling-more ((c .before .before .loop .inv) .1) (omega arith) (c .share-at .ensures))
 
--- src/boor.rt:29:1
 same-length : tie.Need-same-length Inv-loop μ-loop
 same-length c = (c .before .loop .inv) .1 .same
 
--- src/boor.rt:29:1
 returns : tie.Need-returns Inv-loop μ-loop
 returns c = let e : (c .before .loop .h) ≡ (c .before .before .before .before .args .m) = omega arith in rw e at ((c .before .loop .inv) .1 .is)
 

@@ -16,31 +16,24 @@ Inv-loop ks p last from t o₀ o = ((from ≤ o) × (o ≤ last)) × (advanced k
 abbrev μ-loop : tie.MeasureT-loop
 μ-loop ks p last from t o₀ o = last - o
 
--- src/owner.rt:35:5
 loop-holds : tie.Need-loop-holds Inv-loop μ-loop
 loop-holds c = (omega arith, refl)
 
--- src/owner.rt:36:12
 greville-requires : tie.Need-greville-requires Inv-loop μ-loop
 greville-requires c κs = search needs
 
--- src/owner.rt:37:13
 add-o : tie.Need-add-o Inv-loop μ-loop
 add-o c = search needs
 
--- src/owner.rt:35:5
 loop-less : tie.Need-loop-less Inv-loop μ-loop
 loop-less c = search needs
 
--- src/owner.rt:35:5
 loop-again : tie.Need-loop-again Inv-loop μ-loop
 loop-again c = (omega arith, (c .before .before .before .loop .inv) .1 ∙ advance-on _ _ _ _ _ (c .before .greville .ensures) (c .before .before .loop-test .taken) (c .if1 .taken))
 
--- src/owner.rt:39:13
 returns : tie.Need-returns Inv-loop μ-loop
 returns c = sym ((c .before .before .before .loop .inv) .1 ∙ advance-here _ _ _ _ _ (c .before .greville .ensures) (c .before .before .loop-test .taken) (c .if1 .left))
 
--- src/owner.rt:30:1
 returns-2 : tie.Need-returns-2 Inv-loop μ-loop
 returns-2 c = sym ((c .before .loop .inv) .1 ∙ advance-end _ _ _ _ _ (omega arith))
 

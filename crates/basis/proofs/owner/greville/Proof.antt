@@ -9,15 +9,12 @@ use Rattle.basis.proofs.owner.greville.Reads as reads
 use Rattle.basis.proofs.owner.greville.Lts as lts
 use Rattle.basis.proofs.owner.sum_knots.Reads as sum-knots-reads
 
--- src/owner.rt:26:5
 sum-knots-requires : tie.Need-sum-knots-requires
 sum-knots-requires c κs = search needs
 
--- src/owner.rt:26:27
 int-to-float-result : tie.Need-int-to-float-result
 int-to-float-result c = whole-in _ (omega arith)
 
--- src/owner.rt:22:1
 returns : tie.Need-returns
 unfolding grevilleAt
 returns c = rw (c .before .sum-knots .ensures)

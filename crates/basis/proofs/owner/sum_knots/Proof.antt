@@ -15,39 +15,30 @@ Inv-loop ks i p sum₀ k₀ sum k = (k ≤ p) × (sum ≡ knotSum ks i k)
 abbrev μ-loop : tie.MeasureT-loop
 μ-loop ks i p sum₀ k₀ sum k = p - k
 
--- src/owner.rt:15:5
 loop-holds : tie.Need-loop-holds Inv-loop μ-loop
 loop-holds c = (omega arith, sum-none _ _)
 
--- src/owner.rt:16:24
 add-sum : tie.Need-add-sum Inv-loop μ-loop
 add-sum c = search needs
 
--- src/owner.rt:16:24
 add-sum-2 : tie.Need-add-sum-2 Inv-loop μ-loop
 add-sum-2 c = search needs
 
--- src/owner.rt:16:21
 mul-sum : tie.Need-mul-sum Inv-loop μ-loop
 mul-sum c = search needs
 
--- src/owner.rt:16:21
 shared-slice-read-sum : tie.Need-shared-slice-read-sum Inv-loop μ-loop
 shared-slice-read-sum c = search needs
 
--- src/owner.rt:17:9
 add-k : tie.Need-add-k Inv-loop μ-loop
 add-k c = search needs
 
--- src/owner.rt:15:5
 loop-less : tie.Need-loop-less Inv-loop μ-loop
 loop-less c = search needs
 
--- src/owner.rt:15:5
 loop-again : tie.Need-loop-again Inv-loop μ-loop
 loop-again c = (omega arith, sum-more _ _ _ ((c .before .before .loop .inv) .1))
 
--- src/owner.rt:9:1
 returns : tie.Need-returns Inv-loop μ-loop
 returns c = let e : (c .before .loop .k) ≡ (c .before .before .args .p) = omega arith in (c .before .loop .inv) .1 ∙ ap (knotSum (c .before .before .args .ks .now) (c .before .before .args .i)) e
 

@@ -7,19 +7,15 @@ use Rattle.basis.proofs.point.eval_high.Reads as reads
 use Rattle.basis.proofs.point.eval_high.Lts as lts
 use Rattle.basis.proofs.point.eval_in.Reads as eval-in-reads
 
--- src/point.rt:89:34
 slice-aggregate-eval-in : tie.Need-slice-aggregate-eval-in
 slice-aggregate-eval-in c = search needs
 
--- src/point.rt:89:43
 slice-aggregate-eval-in-2 : tie.Need-slice-aggregate-eval-in-2
 slice-aggregate-eval-in-2 c = search needs
 
--- src/point.rt:89:5
 eval-in-requires : tie.Need-eval-in-requires
 eval-in-requires c κs = ((c .before .before .before .before .pre), (omega (arith, (c .before .before .before .before .pre) .under, (c .before .before .before .before .pre) .few), cells-in _ _ 256 ((c .before .before .before .before .pre) .narrow) (omega (arith, (c .before .before .before .before .pre) .under, (c .before .before .before .before .pre) .few))))
 
--- src/point.rt:83:1
 returns : tie.Need-returns
 returns c = search needs
 

@@ -10,55 +10,42 @@ use Rattle.basis.proofs.boor.project_first.Reads as project-first-reads
 use Rattle.basis.proofs.point.hold.Reads as hold-reads
 use Rattle.basis.proofs.point.span_of.Reads as span-of-reads
 
--- src/point.rt:52:14
 mul-hi : tie.Need-mul-hi
 mul-hi c = search needs
 
--- src/point.rt:52:14
 shared-slice-read-hi : tie.Need-shared-slice-read-hi
 shared-slice-read-hi c = search needs
 
--- src/point.rt:53:9
 hold-requires : tie.Need-hold-requires
 hold-requires c κs = search needs
 
--- src/point.rt:54:9
 span-of-requires : tie.Need-span-of-requires
 span-of-requires c κs = search needs
 
--- src/point.rt:55:13
 add-w : tie.Need-add-w
 add-w c = search needs
 
--- src/point.rt:56:16
 add-rows : tie.Need-add-rows
 add-rows c = search needs
 
--- src/point.rt:57:22
 sub-load-back : tie.Need-sub-load-back
 sub-load-back c = search needs
 
--- src/point.rt:57:5
 load-back-requires : tie.Need-load-back-requires
 load-back-requires c κs = search needs
 
--- src/point.rt:58:5
 climb-up-requires : tie.Need-climb-up-requires
 climb-up-requires c κs = search needs
 
--- src/point.rt:59:5
 project-first-requires : tie.Need-project-first-requires
 project-first-requires c κs = search needs
 
--- src/point.rt:38:1
 same-length : tie.Need-same-length
 same-length c = search needs
 
--- src/point.rt:38:1
 same-length-2 : tie.Need-same-length-2
 same-length-2 c = search needs
 
--- src/point.rt:38:1
 returns : tie.Need-returns
 returns c = eval-is _ _ _ _ _ _ _ (window-length _ _ _ _ _ ((c .before .before .before .before .before .before .before .before .before .before .before .before .before .before .before .before .before .before .before .before .pre) .0 .controls) ((c .before .before .before .before .before .before .before .before .before .before .before .before .before .span-of .ensures) .1 .0) ((c .before .before .before .before .before .before .before .before .before .before .before .before .before .span-of .ensures) .1 .1)) ((c .before .before .before .before .before .before .before .before .before .before .before .before .before .before .before .before .before .before .before .before .pre) .0 .top) (c .before .before .before .before .before .before .before .before .before .before .before .before .before .before .hold .ensures) ((c .before .before .before .before .before .before .before .before .before .before .before .before .before .span-of .ensures) .0) (c .before .before .before .before .before .before .before .before .before .before .before .load-back .ensures) (c .before .before .before .before .before .before .climb-up .ensures) (c .project-first .ensures)
 

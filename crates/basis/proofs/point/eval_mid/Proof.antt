@@ -7,19 +7,15 @@ use Rattle.basis.proofs.point.eval_mid.Reads as reads
 use Rattle.basis.proofs.point.eval_mid.Lts as lts
 use Rattle.basis.proofs.point.eval_in.Reads as eval-in-reads
 
--- src/point.rt:80:34
 slice-aggregate-eval-in : tie.Need-slice-aggregate-eval-in
 slice-aggregate-eval-in c = search needs
 
--- src/point.rt:80:43
 slice-aggregate-eval-in-2 : tie.Need-slice-aggregate-eval-in-2
 slice-aggregate-eval-in-2 c = search needs
 
--- src/point.rt:80:5
 eval-in-requires : tie.Need-eval-in-requires
 eval-in-requires c κs = ((c .before .before .before .before .pre) .0, (omega (arith, (c .before .before .before .before .pre) .1), cells-in _ _ 15 ((c .before .before .before .before .pre) .0 .narrow) ((c .before .before .before .before .pre) .1)))
 
--- src/point.rt:73:1
 returns : tie.Need-returns
 returns c = search needs
 

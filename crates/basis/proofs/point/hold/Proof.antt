@@ -3,15 +3,12 @@ use Rattle.basis.proofs.point.hold.Tie as tie
 use Rattle.basis.proofs.point.hold.Reads as reads
 use Rattle.basis.proofs.point.hold.Lts as lts
 
--- src/point.rt:13:1
 returns : tie.Need-returns
 returns c = rw (c .if1 .taken)
 
--- src/point.rt:13:1
 returns-2 : tie.Need-returns-2
 returns-2 c = rw ((c .before .if1 .left), (c .if2 .taken))
 
--- src/point.rt:13:1
 returns-3 : tie.Need-returns-3
 returns-3 c = rw ((c .before .if1 .left), (c .if2 .left))
 

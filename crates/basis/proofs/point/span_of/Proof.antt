@@ -9,24 +9,19 @@ use Rattle.basis.proofs.point.span_of.Reads as reads
 use Rattle.basis.proofs.point.span_of.Lts as lts
 use Rattle.whole.proofs.trunc_count.Reads as trunc-count-reads
 
--- src/point.rt:32:16
 sub-result : tie.Need-sub-result
 sub-result c = search needs
 
--- src/point.rt:32:9
 returns : tie.Need-returns
 unfolding spanIn
 returns c = (rw (← (c .before .pre) .1, (c .if1 .taken)), omega arith)
 
--- src/point.rt:34:9
 trunc-count-requires : tie.Need-trunc-count-requires
 trunc-count-requires c κs = search needs
 
--- src/point.rt:34:5
 add-result : tie.Need-add-result
 add-result c = omega (arith, in-span _ _ _ _ ((c .before .before .pre) .0 .0) ((c .before .before .pre) .0 .1) ((c .before .before .pre) .1) (c .before .if1 .left), (c .trunc-count .ensures))
 
--- src/point.rt:25:1
 returns-2 : tie.Need-returns-2
 unfolding spanIn
 returns-2 c = (rw (← (c .before .before .pre) .1, (c .before .if1 .left), (c .trunc-count .ensures)), omega (arith, in-span _ _ _ _ ((c .before .before .pre) .0 .0) ((c .before .before .pre) .0 .1) ((c .before .before .pre) .1) (c .before .if1 .left), (c .trunc-count .ensures)))

@@ -18,57 +18,44 @@ Inv-loop pts ws ch c out₀ x₀ i₀ out x i = ((i ≤ length out₀) × ((x �
 abbrev μ-loop : tie.MeasureT-loop
 μ-loop pts ws ch c out₀ x₀ i₀ out x i = length out₀ - i
 
--- src/tables.rt:70:5
 loop-holds : tie.Need-loop-holds Inv-loop μ-loop
 loop-holds c = ((omega arith, (rw zero-mul (omega arith), refl)), filling-none)
 
--- src/tables.rt:71:18
 mul-out : tie.Need-mul-out Inv-loop μ-loop
 mul-out c = omega (arith, cell-in _ _ _ _ _ _ (c .loop-test .taken) ((c .before .loop .inv) .0 .1 .1) ((c .before .before .pre) .0 .0) ((c .before .before .pre) .1 .0) ((c .before .loop .inv) .0 .1 .0))
 
--- src/tables.rt:71:18
 shared-slice-read-out : tie.Need-shared-slice-read-out Inv-loop μ-loop
 shared-slice-read-out c = omega (arith, cell-in _ _ _ _ _ _ (c .before .loop-test .taken) ((c .before .before .loop .inv) .0 .1 .1) ((c .before .before .before .pre) .0 .0) ((c .before .before .before .pre) .1 .0) ((c .before .before .loop .inv) .0 .1 .0))
 
--- src/tables.rt:71:27
 mul-out-2 : tie.Need-mul-out-2 Inv-loop μ-loop
 mul-out-2 c = search needs
 
--- src/tables.rt:71:27
 shared-slice-read-out-2 : tie.Need-shared-slice-read-out-2 Inv-loop μ-loop
 shared-slice-read-out-2 c = search needs
 
--- src/tables.rt:71:9
 mul-out-3 : tie.Need-mul-out-3 Inv-loop μ-loop
 mul-out-3 c = search needs
 
--- src/tables.rt:71:9
 slice-write-out : tie.Need-slice-write-out Inv-loop μ-loop
 slice-write-out c = search needs
 
--- src/tables.rt:72:9
 add-x : tie.Need-add-x Inv-loop μ-loop
 add-x c = omega (arith, cell-in _ _ _ _ _ _ (c .before .before .loop-test .taken) ((c .before .before .before .loop .inv) .0 .1 .1) ((c .before .before .before .before .pre) .0 .0) ((c .before .before .before .before .pre) .1 .0) ((c .before .before .before .loop .inv) .0 .1 .0))
 
--- src/tables.rt:73:9
 add-i : tie.Need-add-i Inv-loop μ-loop
 add-i c = search needs
 
--- src/tables.rt:70:5
 loop-less : tie.Need-loop-less Inv-loop μ-loop
 loop-less c = search needs
 
--- src/tables.rt:70:5
 loop-again : tie.Need-loop-again Inv-loop μ-loop
 loop-again c = let inv = (c .before .before .before .loop .inv) in
     let f = filling-more (inv .1) (omega arith) (cell-is _ _ _ _ _ _ ((c .before .before .before .before .pre) .0 .0) (inv .0 .1 .0)) in
     ((omega arith, (next-cell _ _ _ _ (inv .0 .1 .0), f .same)), f)
 
--- src/tables.rt:63:1
 same-length : tie.Need-same-length Inv-loop μ-loop
 same-length c = (c .before .loop .inv) .1 .same
 
--- src/tables.rt:63:1
 returns : tie.Need-returns Inv-loop μ-loop
 returns c = filled-all _ _ (omega arith) ((c .before .loop .inv) .1 .is)
 

@@ -18,43 +18,33 @@ Inv-loop src dst₀ i₀ dst i = ((i ≤ length dst₀) × (length dst ≡ lengt
 abbrev μ-loop : tie.MeasureT-loop
 μ-loop src dst₀ i₀ dst i = length dst₀ - i
 
--- src/tables.rt:56:5
 loop-holds : tie.Need-loop-holds Inv-loop μ-loop
 loop-holds c = ((omega arith, refl), filling-none)
 
--- src/tables.rt:57:18
 mul-dst : tie.Need-mul-dst Inv-loop μ-loop
 mul-dst c = search needs
 
--- src/tables.rt:57:18
 shared-slice-read-dst : tie.Need-shared-slice-read-dst Inv-loop μ-loop
 shared-slice-read-dst c = search needs
 
--- src/tables.rt:57:9
 mul-dst-2 : tie.Need-mul-dst-2 Inv-loop μ-loop
 mul-dst-2 c = search needs
 
--- src/tables.rt:57:9
 slice-write-dst : tie.Need-slice-write-dst Inv-loop μ-loop
 slice-write-dst c = search needs
 
--- src/tables.rt:58:9
 add-i : tie.Need-add-i Inv-loop μ-loop
 add-i c = search needs
 
--- src/tables.rt:56:5
 loop-less : tie.Need-loop-less Inv-loop μ-loop
 loop-less c = search needs
 
--- src/tables.rt:56:5
 loop-again : tie.Need-loop-again Inv-loop μ-loop
 loop-again c = let f = filling-more ((c .before .before .loop .inv) .1) (omega arith) refl in ((omega arith, f .same), f)
 
--- src/tables.rt:51:1
 same-length : tie.Need-same-length Inv-loop μ-loop
 same-length c = (c .before .loop .inv) .1 .same
 
--- src/tables.rt:51:1
 returns : tie.Need-returns Inv-loop μ-loop
 returns c = copied _ _ (omega arith) (omega arith) ((c .before .loop .inv) .1 .is)
 

@@ -6,34 +6,27 @@ use Rattle.basis.proofs.tables.degree_of.Tie as tie
 use Rattle.basis.proofs.tables.degree_of.Reads as reads
 use Rattle.basis.proofs.tables.degree_of.Lts as lts
 
--- src/tables.rt:20:17
 sub-if1 : tie.Need-sub-if1
 sub-if1 c = search needs
 
--- src/tables.rt:23:12
 sub-if3 : tie.Need-sub-if3
 sub-if3 c = search needs
 
--- src/tables.rt:23:35
 sub-result : tie.Need-sub-result
 sub-result c = search needs
 
--- src/tables.rt:16:1
 returns : tie.Need-returns
 unfolding degreeOf
 returns c = omega arith
 
--- src/tables.rt:16:1
 returns-2 : tie.Need-returns-2
 unfolding degreeOf
 returns-2 c = omega arith
 
--- src/tables.rt:16:1
 returns-3 : tie.Need-returns-3
 unfolding degreeOf
 returns-3 c = omega arith
 
--- src/tables.rt:16:1
 returns-4 : tie.Need-returns-4
 unfolding degreeOf
 returns-4 c = omega arith

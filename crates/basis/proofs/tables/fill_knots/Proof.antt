@@ -17,39 +17,30 @@ Inv-loop p spans m ks₀ i₀ ks i = ((i ≤ m) × (m ≤ length ks₀)) × Fill
 abbrev μ-loop : tie.MeasureT-loop
 μ-loop p spans m ks₀ i₀ ks i = m - i
 
--- src/tables.rt:45:5
 loop-holds : tie.Need-loop-holds Inv-loop μ-loop
 loop-holds c = (omega arith, filling-none)
 
--- src/tables.rt:46:17
 knot-requires : tie.Need-knot-requires Inv-loop μ-loop
 knot-requires c κs = search needs
 
--- src/tables.rt:46:9
 mul-ks : tie.Need-mul-ks Inv-loop μ-loop
 mul-ks c = search needs
 
--- src/tables.rt:46:9
 slice-write-ks : tie.Need-slice-write-ks Inv-loop μ-loop
 slice-write-ks c = search needs
 
--- src/tables.rt:47:9
 add-i : tie.Need-add-i Inv-loop μ-loop
 add-i c = search needs
 
--- src/tables.rt:45:5
 loop-less : tie.Need-loop-less Inv-loop μ-loop
 loop-less c = search needs
 
--- src/tables.rt:45:5
 loop-again : tie.Need-loop-again Inv-loop μ-loop
 loop-again c = (omega arith, filling-more ((c .before .before .loop .inv) .1) (omega arith) (c .knot .ensures))
 
--- src/tables.rt:40:1
 same-length : tie.Need-same-length Inv-loop μ-loop
 same-length c = (c .before .loop .inv) .1 .same
 
--- src/tables.rt:40:1
 returns : tie.Need-returns Inv-loop μ-loop
 returns c = let e : (c .before .loop .i) ≡ (c .before .before .before .args .m) = omega arith in rw e at ((c .before .loop .inv) .1 .is)
 

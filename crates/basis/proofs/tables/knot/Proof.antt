@@ -7,23 +7,18 @@ use Rattle.basis.proofs.tables.knot.Tie as tie
 use Rattle.basis.proofs.tables.knot.Reads as reads
 use Rattle.basis.proofs.tables.knot.Lts as lts
 
--- src/tables.rt:32:9
 returns : tie.Need-returns
 returns c = knot-low _ _ (omega arith)
 
--- src/tables.rt:35:16
 int-to-float-result : tie.Need-int-to-float-result
 int-to-float-result c = whole-in _ (omega arith)
 
--- src/tables.rt:35:9
 returns-2 : tie.Need-returns-2
 returns-2 c = let e : min ((c .before .before .before .args .i) - (c .before .before .before .args .p)) (c .before .before .before .args .spans) ≡ (c .before .before .before .args .i) - (c .before .before .before .args .p) = omega arith in rw e
 
--- src/tables.rt:37:5
 int-to-float-result-2 : tie.Need-int-to-float-result-2
 int-to-float-result-2 c = whole-in _ (omega arith)
 
--- src/tables.rt:27:1
 returns-3 : tie.Need-returns-3
 returns-3 c = let e : min ((c .before .before .before .args .i) - (c .before .before .before .args .p)) (c .before .before .before .args .spans) ≡ (c .before .before .before .args .spans) = omega arith in rw e
 

@@ -10,39 +10,30 @@ use Rattle.basis.proofs.tables.degree_of.Reads as degree-of-reads
 use Rattle.basis.proofs.tables.fill_controls.Reads as fill-controls-reads
 use Rattle.basis.proofs.tables.fill_knots.Reads as fill-knots-reads
 
--- src/tables.rt:110:9
 degree-of-requires : tie.Need-degree-of-requires
 degree-of-requires c κs = search needs
 
--- src/tables.rt:111:19
 sub-fill-knots : tie.Need-sub-fill-knots
 sub-fill-knots c = omega (arith, degree-in _ _ ((c .before .before .before .before .before .pre) .0 .0) (c .degree-of .ensures))
 
--- src/tables.rt:111:26
 add-fill-knots : tie.Need-add-fill-knots
 add-fill-knots c = omega (arith, degree-in _ _ ((c .before .before .before .before .before .pre) .0 .0) (c .degree-of .ensures))
 
--- src/tables.rt:111:26
 add-fill-knots-2 : tie.Need-add-fill-knots-2
 add-fill-knots-2 c = omega (arith, degree-in _ _ ((c .before .before .before .before .before .pre) .0 .0) (c .degree-of .ensures))
 
--- src/tables.rt:111:5
 fill-knots-requires : tie.Need-fill-knots-requires
 fill-knots-requires c κs = (omega arith, omega (arith, degree-in _ _ ((c .before .before .before .before .before .before .pre) .0 .0) (c .before .degree-of .ensures)))
 
--- src/tables.rt:112:5
 fill-controls-requires : tie.Need-fill-controls-requires
 fill-controls-requires c κs = (((c .before .before .before .before .before .before .before .before .before .before .pre) .0 .1 .1, (c .before .before .before .before .before .before .before .before .before .before .pre) .0 .1 .0), ((c .before .before .before .before .before .before .before .before .before .before .pre) .1 .0 .0, ((c .before .before .before .before .before .before .before .before .before .before .pre) .1 .0 .1, product-in _ _ _ ((c .before .before .before .before .before .before .before .before .before .before .pre) .0 .1 .1) ((c .before .before .before .before .before .before .before .before .before .before .pre) .0 .1 .0) ((c .before .before .before .before .before .before .before .before .before .before .pre) .1 .1 .1))))
 
--- src/tables.rt:96:1
 same-length : tie.Need-same-length
 same-length c = search needs
 
--- src/tables.rt:96:1
 same-length-2 : tie.Need-same-length-2
 same-length-2 c = search needs
 
--- src/tables.rt:96:1
 returns : tie.Need-returns
 returns c = let i = degree-in _ _ ((c .before .before .before .before .before .before .before .before .before .before .before .before .before .pre) .0 .0) (c .before .before .before .before .before .before .before .before .degree-of .ensures) in
     let k = (c .before .before .before .before .before .before .fill-knots .kept .1 .1 .1 .0) in
