@@ -1,5 +1,6 @@
 pub mod Akima
 pub mod Blocks
+pub mod Channels
 pub mod Fit
 pub mod FitLaws
 pub mod Kept

@@ -1,4 +1,4 @@
-// The slopes of the Akima spline: 000's `akima_slopes`.
+// The slopes of the Akima spline: flatten.rs's `akima_slopes`.
 use crate::sizes::SMALL;
 use crate::steps::secant_at;
 use crate::steps::straight_slopes;

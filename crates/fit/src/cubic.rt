@@ -1,4 +1,4 @@
-// The slopes of the natural cubic spline: 000's `natural_cubic_slopes`.
+// The slopes of the natural cubic spline: flatten.rs's `natural_cubic_slopes`.
 use crate::sizes::MOST_POINTS;
 use crate::steps::secant_at;
 use crate::steps::step_at;

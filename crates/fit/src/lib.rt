@@ -15,8 +15,9 @@ ghost use mathlib.Core.Path.{_≡_};
 ghost use Prim.Native.Nat.{_≤_, _<_, _+_, _*_};
 ghost use lib.ListN.{length, replicate};
 ghost use Rattle.floats.specs.Numbers.{f0, at};
-ghost use Rattle.floats.specs.Lists.{filled, rowsOf};
-ghost use Rattle.fit.specs.Fit.{pieceOf, hermiteOf};
+ghost use Rattle.floats.specs.Lists.{upto, filled, rowsOf};
+ghost use Rattle.fit.specs.Fit.{pieceOf};
+ghost use Rattle.fit.specs.Channels.{BlendIs, blendOf, channelOf};
 ghost use Rattle.fit.specs.Memory.{Rising, Prepared, fitAt};
 ghost use Rattle.fit.specs.Prepare.{FitRoom, FitReady};
 
@@ -28,17 +29,74 @@ fn cell(xs: &[f64], i: usize, n: usize, j: usize) -> f64
     xs[i * n + j]
 }
 
-// The cubic from y to z with the slopes m and k, at the fraction s of a step h.
-fn hermite(s: f64, h: f64, y: f64, m: f64, z: f64, k: f64) -> f64
-    ensures { λ r. ⌜ r ≡ hermiteOf s h y m z k ⌝ }
+// What the ends of a piece, y and z, and its slopes there, m and k, are multiplied by at one place of it.
+pub struct Blend {
+    pub y: f64,
+    pub m: f64,
+    pub z: f64,
+    pub k: f64,
+}
+
+// At the fraction s of a step h.
+fn blend_at(s: f64, h: f64) -> Blend
+    ensures { λ r. ⌜ BlendIs s h r ⌝ }
 {
     let s2 = s * s;
     let s3 = s * s * s;
-    let h00 = 2.0 * s3 - 3.0 * s2 + 1.0;
-    let h10 = s3 - 2.0 * s2 + s;
-    let h01 = -2.0 * s3 + 3.0 * s2;
-    let h11 = s3 - s2;
-    h00 * y + h10 * h * m + h01 * z + h11 * h * k
+    Blend {
+        y: 2.0 * s3 - 3.0 * s2 + 1.0,
+        m: (s3 - 2.0 * s2 + s) * h,
+        z: -2.0 * s3 + 3.0 * s2,
+        k: (s3 - s2) * h,
+    }
+}
+
+fn blended(b: Blend, y: f64, m: f64, z: f64, k: f64) -> f64
+    ensures { λ r. ⌜ r ≡ blendOf b y m z k ⌝ }
+{
+    b.y * y + b.m * m + b.z * z + b.k * k
+}
+
+// Channel c of the piece after knot w; 0 where there is none.
+fn channel_at(b: Blend, fps: &[f64], slopes: &[f64], m: usize, ch: usize, w: usize, c: usize) -> f64
+    requires { ⌜ (w + 1 < m) × ((m * ch ≤ length (now fps)) × (ch * m ≤ length (now slopes))) ⌝ }
+    ensures { λ r. ⌜ r ≡ channelOf b (now (fps .entry)) (now (slopes .entry)) m ch w c ⌝ }
+{
+    if c < ch {
+        return blended(
+            b,
+            cell(fps, w, ch, c),
+            cell(slopes, c, m, w),
+            cell(fps, w + 1, ch, c),
+            cell(slopes, c, m, w + 1),
+        );
+    }
+    0.0
+}
+
+// All channels. Written out, each goes straight to its place, where an array filled by index is copied once more.
+fn channels(b: Blend, fps: &[f64], slopes: &[f64], m: usize, ch: usize, w: usize) -> [f64; WIDEST]
+    requires { ⌜ (w + 1 < m) × ((m * ch ≤ length (now fps)) × (ch * m ≤ length (now slopes))) ⌝ }
+    ensures { λ r. ⌜ r ≡ upto (channelOf b (now (fps .entry)) (now (slopes .entry)) m ch w) 16 ⌝ }
+{
+    [
+        channel_at(b, fps, slopes, m, ch, w, 0),
+        channel_at(b, fps, slopes, m, ch, w, 1),
+        channel_at(b, fps, slopes, m, ch, w, 2),
+        channel_at(b, fps, slopes, m, ch, w, 3),
+        channel_at(b, fps, slopes, m, ch, w, 4),
+        channel_at(b, fps, slopes, m, ch, w, 5),
+        channel_at(b, fps, slopes, m, ch, w, 6),
+        channel_at(b, fps, slopes, m, ch, w, 7),
+        channel_at(b, fps, slopes, m, ch, w, 8),
+        channel_at(b, fps, slopes, m, ch, w, 9),
+        channel_at(b, fps, slopes, m, ch, w, 10),
+        channel_at(b, fps, slopes, m, ch, w, 11),
+        channel_at(b, fps, slopes, m, ch, w, 12),
+        channel_at(b, fps, slopes, m, ch, w, 13),
+        channel_at(b, fps, slopes, m, ch, w, 14),
+        channel_at(b, fps, slopes, m, ch, w, 15),
+    ]
 }
 
 // The first piece whose end t does not pass, by halving.
@@ -74,18 +132,14 @@ pub fn eval_fit(
 {
     let w = piece(fts, m, t);
     let h = step_at(fts, w);
-    let s = metric::clamp((t - fts[w]) / h);
-    let mut p = [0.0f64; WIDEST];
-    let mut c = 0;
-    while c < ch {
-        let y = cell(fps, w, ch, c);
-        let z = cell(fps, w + 1, ch, c);
-        let a = cell(slopes, c, m, w);
-        let b = cell(slopes, c, m, w + 1);
-        p[c] = hermite(s, h, y, a, z, b);
-        c += 1;
-    }
-    p
+    channels(
+        blend_at(metric::clamp((t - fts[w]) / h), h),
+        fps,
+        slopes,
+        m,
+        ch,
+        w,
+    )
 }
 
 // The fit through the n points pts, of ch numbers each, whose chord sums are ts: the number of knots kept. Where it is
