@@ -2,10 +2,10 @@
 use mathlib.Core.List.{List}
 use mathlib.Core.Path.{_≡_}
 use mathlib.Core.Bool.{cond}
-use Prim.Native.Nat.{ℕ, _+_, _≤_}
-use lib.Dec.{eqb}
+use Prim.Native.Nat.{ℕ, _+_, _*_, _≤_}
+use lib.Dec.{eqb, ltb}
 use lib.Ieee.{Float}
-use Rattle.floats.specs.Numbers.{_⊕_, _⊖_, _⊗_, f1, at}
+use Rattle.floats.specs.Numbers.{_⊕_, _⊖_, _⊗_, _⊘_, f0, f1, at}
 use Rattle.basis.specs.Basis.{share}
 use Rattle.basis.specs.declared.low.Shares.{Shares}
 
@@ -35,3 +35,7 @@ top3 s xs i =
 
 unfoldable pub topOf : Shares → ℕ → List Float → ℕ → Float
 topOf s p xs i = cond (eqb p 1) (top1 s xs i) (cond (eqb p 2) (top2 s xs i) (top3 s xs i))
+
+-- channel c at degree 3, by a number; 0 where there is none
+unfoldable pub thirdOf : Shares → Float → List Float → ℕ → ℕ → ℕ → ℕ → Float
+thirdOf s by xs n from ch c = cond (ltb c ch) (topOf s 3 xs (c * n + from) ⊘ by) f0

@@ -5,7 +5,7 @@ ghost use Prim.Native.Nat.{_≤_, _<_, _+_, _*_};
 ghost use lib.ListN.{length, replicate};
 ghost use Rattle.floats.specs.Numbers.{_⊘_, f0};
 ghost use Rattle.floats.specs.Lists.{filled};
-ghost use Rattle.basis.specs.Low.{mixOf, top1, top2, top3, topOf, SharesIn};
+ghost use Rattle.basis.specs.Low.{mixOf, top1, top2, top3, topOf, thirdOf, SharesIn};
 
 // The shares of the rows that count: a of level 1, b of level 2, c of level 3.
 pub struct Shares {
@@ -77,35 +77,20 @@ fn top_two(s: Shares, x: &[f64], i: usize) -> f64
     mix(s.b2, mix(s.a1, x[i], mid), mix(s.a2, mid, x[i + 2]))
 }
 
-fn top_three(s: Shares, x: &[f64], i: usize) -> f64
-    requires { ⌜ i + 3 < length (now x) ⌝ }
-    ensures { λ r. ⌜ r ≡ top3 s (now (x .entry)) i ⌝ }
-{
-    let low = x[i + 1];
-    let high = x[i + 2];
-    let mid = mix(s.a2, low, high);
-    let below = mix(s.b2, mix(s.a1, x[i], low), mid);
-    let above = mix(s.b3, mid, mix(s.a3, high, x[i + 3]));
-    mix(s.c3, below, above)
-}
-
 // The top of the triangle over the rows x[i], .., x[i + p].
 fn top(s: Shares, p: usize, x: &[f64], i: usize) -> f64
-    requires { ⌜ (1 ≤ p) × ((p ≤ 3) × (i + p < length (now x))) ⌝ }
+    requires { ⌜ (1 ≤ p) × ((p ≤ 2) × (i + p < length (now x))) ⌝ }
     ensures { λ r. ⌜ r ≡ topOf s p (now (x .entry)) i ⌝ }
 {
     if p == 1 {
         return top_one(s, x, i);
     }
-    if p == 2 {
-        return top_two(s, x, i);
-    }
-    top_three(s, x, i)
+    top_two(s, x, i)
 }
 
 // The tops of the first ch channels, of n numbers each, by that of channel ch; the rows start at number `from`.
 pub fn project_tops(s: Shares, p: usize, cw: &[f64], n: usize, from: usize, ch: usize) -> [f64; 16]
-    requires { ⌜ (1 ≤ p) × ((p ≤ 3) × ((from + p < n) × (n ≤ 257))) ⌝ }
+    requires { ⌜ (1 ≤ p) × ((p ≤ 2) × ((from + p < n) × (n ≤ 257))) ⌝ }
     requires { ⌜ (ch ≤ 10) × ((ch + 1) * n ≤ length (now cw)) ⌝ }
     ensures { λ r. ⌜ r ≡ filled (λ c. topOf s p (now (cw .entry)) (c * n + from) ⊘ topOf s p (now (cw .entry)) (ch * n + from)) ch (replicate 16 f0) ⌝ }
 {
@@ -119,4 +104,55 @@ pub fn project_tops(s: Shares, p: usize, cw: &[f64], n: usize, from: usize, ch: 
         c += 1;
     }
     r
+}
+
+fn top_three(s: Shares, x: &[f64], i: usize) -> f64
+    requires { ⌜ i + 3 < length (now x) ⌝ }
+    ensures { λ r. ⌜ r ≡ top3 s (now (x .entry)) i ⌝ }
+{
+    let low = x[i + 1];
+    let high = x[i + 2];
+    let mid = mix(s.a2, low, high);
+    let below = mix(s.b2, mix(s.a1, x[i], low), mid);
+    let above = mix(s.b3, mid, mix(s.a3, high, x[i + 3]));
+    mix(s.c3, below, above)
+}
+
+// Channel c at degree 3, by the top of the weights; 0 where there is none.
+fn third_at(s: Shares, by: f64, cw: &[f64], n: usize, from: usize, ch: usize, c: usize) -> f64
+    requires { ⌜ (from + 3 < n) × ((ch + 1) * n ≤ length (now cw)) ⌝ }
+    ensures { λ r. ⌜ r ≡ thirdOf s by (now (cw .entry)) n from ch c ⌝ }
+{
+    if c < ch {
+        return top_three(s, cw, c * n + from) / by;
+    }
+    0.0
+}
+
+// The same at degree 3, the usual one. Written out, each goes straight to its place, where an array filled by index is
+// copied once more.
+pub fn project_three(s: Shares, cw: &[f64], n: usize, from: usize, ch: usize) -> [f64; 16]
+    requires { ⌜ (from + 3 < n) × ((ch + 1) * n ≤ length (now cw)) ⌝ }
+    requires { ⌜ ch ≤ 10 ⌝ }
+    ensures { λ r. ⌜ r ≡ filled (λ c. topOf s 3 (now (cw .entry)) (c * n + from) ⊘ topOf s 3 (now (cw .entry)) (ch * n + from)) ch (replicate 16 f0) ⌝ }
+{
+    let by = top_three(s, cw, ch * n + from);
+    [
+        third_at(s, by, cw, n, from, ch, 0),
+        third_at(s, by, cw, n, from, ch, 1),
+        third_at(s, by, cw, n, from, ch, 2),
+        third_at(s, by, cw, n, from, ch, 3),
+        third_at(s, by, cw, n, from, ch, 4),
+        third_at(s, by, cw, n, from, ch, 5),
+        third_at(s, by, cw, n, from, ch, 6),
+        third_at(s, by, cw, n, from, ch, 7),
+        third_at(s, by, cw, n, from, ch, 8),
+        third_at(s, by, cw, n, from, ch, 9),
+        0.0,
+        0.0,
+        0.0,
+        0.0,
+        0.0,
+        0.0,
+    ]
 }

@@ -2,6 +2,7 @@
 use crate::boor::climb_up;
 use crate::boor::load_back;
 use crate::boor::project_first;
+use crate::low::project_three;
 use crate::low::project_tops;
 use crate::low::shares_in;
 ghost use mathlib.Core.Path.{_≡_};
@@ -69,7 +70,11 @@ fn eval_low(ks: &[f64], cw: &[f64], n: usize, p: usize, ch: usize, t: f64) -> [f
     let hi = ks[n];
     let u = hold(t, hi);
     let k = span_of(u, hi, p, n);
-    project_tops(shares_in(ks, u, p, k), p, cw, n, k - p, ch)
+    let s = shares_in(ks, u, p, k);
+    if p == 3 {
+        return project_three(s, cw, n, k - 3, ch);
+    }
+    project_tops(s, p, cw, n, k - p, ch)
 }
 
 // Work memory for degrees up to 15, 63 and 256: small where the degree is, since it is cleared at each call.

@@ -1,13 +1,12 @@
 use mathlib.Core.Path.{sym, _∙_}
 use native.Mathlib.Omega.{arith}
-use Rattle.basis.proofs.Straight.{by-one, by-two, by-three}
+use Rattle.basis.proofs.Straight.{by-one, by-two}
 use borrow.Author.Needs.{needs}
 use Rattle.basis.proofs.low.top.Statement.{statement}
 use Rattle.basis.proofs.low.top.Tie as tie
 use Rattle.basis.proofs.low.top.Reads as reads
 use Rattle.basis.proofs.low.top.Lts as lts
 use Rattle.basis.proofs.low.top_one.Reads as top-one-reads
-use Rattle.basis.proofs.low.top_three.Reads as top-three-reads
 use Rattle.basis.proofs.low.top_two.Reads as top-two-reads
 
 top-one-requires : tie.Need-top-one-requires
@@ -22,13 +21,7 @@ top-two-requires c κs = search needs
 returns-2 : tie.Need-returns-2
 returns-2 c = (c .top-two .ensures) ∙ sym (by-two _ _ _ _ (omega arith))
 
-top-three-requires : tie.Need-top-three-requires
-top-three-requires c κs = search needs
-
-returns-3 : tie.Need-returns-3
-returns-3 c = (c .top-three .ensures) ∙ sym (by-three _ _ _ _ (omega arith))
-
 pub top-spec : {M : Type 1} → statement M
 top-spec =
     tie.close
-    (tie.spec top-one-requires returns top-two-requires returns-2 top-three-requires returns-3)
+    (tie.spec top-one-requires returns top-two-requires returns-2)
