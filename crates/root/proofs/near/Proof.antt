@@ -1,100 +1,163 @@
--- `sqrt64::near` meets its contract. Assumes nothing.
-use Prim.Native.Nat.{ℕ, _+_, _-_, _*_, _≤_}
-use mathlib.Core.Path.{_≡_, subst}
-use mathlib.Core.Logic.{⊎-elim}
+-- `root::near` meets its contract. Assumes nothing.
+use Prim.Native.Nat.{ℕ, _+_, _-_, _*_, _^_, _≤_}
+use mathlib.Core.Path.{_≡_, sym, _∙_, subst}
+use mathlib.Core.Bool.{Bool, true, false}
+use mathlib.Core.Logic.{_⊎_, ⊎-elim}
 use native.Mathlib.Omega.{arith}
+use lib.Dec.{T}
 use Rattle.root.specs.Root.{Nearest}
+use Rattle.root.proofs.Values.{root-hi}
 use borrow.Author.Needs.{needs}
 use Rattle.root.proofs.near.Statement.{statement}
 use Rattle.root.proofs.near.Tie as tie
 use Rattle.root.proofs.near.Reads as reads
 use Rattle.root.proofs.near.Lts as lts
 use Rattle.root.proofs.by_digits.Reads as by-digits-reads
-use Rattle.root.proofs.line.Reads as line-reads
+use Rattle.root.proofs.inverse.Reads as inverse-reads
 use Rattle.root.proofs.lower.Reads as lower-reads
-use Rattle.root.proofs.off.Reads as off-reads
-use Rattle.root.proofs.scaled.Reads as scaled-reads
-use Rattle.root.proofs.settle.Reads as settle-reads
+use Rattle.root.proofs.settles.Reads as settles-reads
 use Rattle.root.proofs.square.Reads as square-reads
-use Rattle.root.proofs.step.Reads as step-reads
 use Rattle.root.proofs.upper.Reads as upper-reads
 
--- what was taken off m is added back
-whole : (m q a k : ℕ) → q ≡ a * a → q ≤ m → Nearest (m - q + a * a) k → Nearest m k
-whole m q a k e h n =
-    let back : m - q + a * a ≡ m = omega arith in
-    subst (λ (x : ℕ). Nearest x k) back n
+-- what `settles` says where it is true
+abbrev Settled : ℕ → ℕ → ℕ → Type 0
+Settled u a b = (m : ℕ) → u + a * a ≡ m * 2 ^ 8 → Nearest m (a * 2 ^ 22 + b)
 
--- src/lib.rt:268:9
-line-requires : tie.Need-line-requires
-line-requires c κs = search needs
+settled : (u a b : ℕ) (t : Bool) → t ≡ true → (t ≡ false) ⊎ Settled u a b → Settled u a b
+settled u a b t h = ⊎-elim (λ (e : t ≡ false). absurd (subst T (sym h ∙ e) tt)) (λ (n : Settled u a b). n)
 
--- src/lib.rt:269:9
-scaled-requires : tie.Need-scaled-requires
-scaled-requires c κs = search needs
+over : (m base r k : ℕ) → r ≡ base + k → Nearest m k → (base ≤ r) × Nearest m (r - base)
+over m base r k e n =
+    let back : k ≡ r - base = omega arith in
+    (omega arith, subst (λ (x : ℕ). Nearest m x) back n)
 
--- src/lib.rt:270:17
-scaled-requires-2 : tie.Need-scaled-requires-2
-scaled-requires-2 c κs = search needs
+-- src/lib.rt:620:9
+inverse-requires : tie.Need-inverse-requires
+inverse-requires c κs = search needs
 
--- src/lib.rt:270:9
-off-requires : tie.Need-off-requires
-off-requires c κs = search needs
-
--- src/lib.rt:271:9
+-- src/lib.rt:622:13
 upper-requires : tie.Need-upper-requires
 upper-requires c κs = search needs
 
--- src/lib.rt:272:9
+-- src/lib.rt:623:13
 square-requires : tie.Need-square-requires
 square-requires c κs = search needs
 
--- src/lib.rt:276:43
-step-requires : tie.Need-step-requires
-step-requires c κs = search needs
+-- src/lib.rt:624:17
+mul-n : tie.Need-mul-n
+mul-n c = search needs
 
--- src/lib.rt:276:34
+-- src/lib.rt:627:31
+add-lower : tie.Need-add-lower
+add-lower c = search needs
+
+-- src/lib.rt:627:31
+sub-lower : tie.Need-sub-lower
+sub-lower c = search needs
+
+-- src/lib.rt:627:21
 lower-requires : tie.Need-lower-requires
 lower-requires c κs = search needs
 
--- src/lib.rt:276:17
-settle-requires : tie.Need-settle-requires
-settle-requires c κs = search needs
+-- src/lib.rt:628:20
+settles-requires : tie.Need-settles-requires
+settles-requires c κs = search needs
 
--- src/lib.rt:278:17
+-- src/lib.rt:629:35
+mul-result : tie.Need-mul-result
+mul-result c = search needs
+
+-- src/lib.rt:629:28
+add-result : tie.Need-add-result
+add-result c = search needs
+
+-- src/lib.rt:629:28
+add-result-2 : tie.Need-add-result-2
+add-result-2 c = search needs
+
+-- src/lib.rt:629:21
 returns : tie.Need-returns
 returns c =
-    let k = c .before .settle .result in
-    let at-square = c .before .before .before .before .before .before in
-    let at-start = c .before .before .before .before .before .before .before .before .before .before .before .before in
-    let m = at-start .args .m in
-    let a = at-square .before .upper .result in
-    ⊎-elim
-    (λ (e : k ≡ 0). absurd (c .if3 .taken e))
-    (λ (n : Nearest (m - at-square .square .result + a * a) k). whole m (at-square .square .result) a k (at-square .square .ensures) (c .before .before .before .before .before .if1 .taken) n)
-    (c .before .settle .ensures)
+    let at = c .before .before .before .before .before .before in
+    let x = at .before .before .before .args in
+    let b = c .before .before .lower .result in
+    let q = c .before .before .before .before .before .square .result in
+    let k = at .upper .result * 2 ^ 22 + b in
+    over (x .m) (x .base) (x .base + at .upper .result * 2 ^ 22 + b) k (omega arith)
+    (settled (x .m * 2 ^ 8 - q) (at .upper .result) b (c .before .settles .result) (c .if4 .taken) (c .before .settles .ensures) (x .m) (omega arith))
 
--- src/lib.rt:282:5
+-- src/lib.rt:631:34
+add-settles : tie.Need-add-settles
+add-settles c = search needs
+
+-- src/lib.rt:631:20
+settles-requires-2 : tie.Need-settles-requires-2
+settles-requires-2 c κs = search needs
+
+-- src/lib.rt:632:35
+mul-result-2 : tie.Need-mul-result-2
+mul-result-2 c = search needs
+
+-- src/lib.rt:632:28
+add-result-3 : tie.Need-add-result-3
+add-result-3 c = search needs
+
+-- src/lib.rt:632:52
+add-result-4 : tie.Need-add-result-4
+add-result-4 c = search needs
+
+-- src/lib.rt:632:28
+add-result-5 : tie.Need-add-result-5
+add-result-5 c = search needs
+
+-- src/lib.rt:632:21
+returns-2 : tie.Need-returns-2
+returns-2 c =
+    let at = c .before .before .before .before .before .before .before .before in
+    let x = at .before .before .before .args in
+    let b = c .before .before .before .before .lower .result in
+    let q = c .before .before .before .before .before .before .before .square .result in
+    let k = at .upper .result * 2 ^ 22 + (b + 1) in
+    over (x .m) (x .base) (x .base + at .upper .result * 2 ^ 22 + (b + 1)) k (omega arith)
+    (settled (x .m * 2 ^ 8 - q) (at .upper .result) (b + 1) (c .before .settles2 .result) (c .if5 .taken) (c .before .settles2 .ensures) (x .m) (omega arith))
+
+-- src/lib.rt:637:12
 by-digits-requires : tie.Need-by-digits-requires
 by-digits-requires c κs = search needs
 
--- src/lib.rt:264:1
-returns-2 : tie.Need-returns-2
-returns-2 c = search needs
+-- src/lib.rt:637:5
+add-result-6 : tie.Need-add-result-6
+add-result-6 c = omega (arith, root-hi (c .before .before .before .args .m) (c .by-digits .result) (omega arith) (c .by-digits .ensures))
+
+-- src/lib.rt:616:1
+returns-3 : tie.Need-returns-3
+returns-3 c =
+    let x = c .before .before .before .args in
+    over (x .m) (x .base) (x .base + c .by-digits .result) (c .by-digits .result) (omega arith) (c .by-digits .ensures)
 
 pub near-spec : {M : Type 1} → statement M
 near-spec =
     tie.close
     (tie.spec
-    line-requires
-    scaled-requires
-    scaled-requires-2
-    off-requires
+    inverse-requires
     upper-requires
     square-requires
-    step-requires
+    mul-n
+    add-lower
+    sub-lower
     lower-requires
-    settle-requires
+    settles-requires
+    mul-result
+    add-result
+    add-result-2
     returns
+    add-settles
+    settles-requires-2
+    mul-result-2
+    add-result-3
+    add-result-4
+    add-result-5
+    returns-2
     by-digits-requires
-    returns-2)
+    add-result-6
+    returns-3)

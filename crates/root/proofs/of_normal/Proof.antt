@@ -1,4 +1,4 @@
--- `sqrt64::of_normal` meets its contract. Assumes nothing.
+-- `root::of_normal` meets its contract. Assumes nothing.
 use Prim.Native.Nat.{ℕ, _+_, _-_, _*_, _/_, _%_, _^_, _≤_, _<_}
 use mathlib.Core.Path.{_≡_, refl, sym, ap, _∙_, subst}
 use mathlib.Core.Logic.{_⊎_, inl, inr, ⊎-elim}
@@ -7,7 +7,7 @@ use native.Mathlib.Omega.{arith}
 use lib.Pow.{pow-add, pow-pos}
 use lib.Ieee.{binary64, toBits, ofBits}
 use Rattle.root.specs.Root.{Nearest, sqrt}
-use Rattle.root.proofs.Values.{root-pattern, normal-value, even-power, root-hi}
+use Rattle.root.proofs.Values.{root-pattern, normal-value, even-power}
 use borrow.Author.Needs.{needs}
 use Rattle.root.proofs.of_normal.Statement.{statement}
 use Rattle.root.proofs.of_normal.Tie as tie
@@ -56,30 +56,25 @@ add-f c = search needs
 mul-m : tie.Need-mul-m
 mul-m c = search needs
 
--- src/lib.rt:301:6
-add-result : tie.Need-add-result
-add-result c = search needs
+-- src/lib.rt:651:17
+add-near : tie.Need-add-near
+add-near c = search needs
 
--- src/lib.rt:301:5
-mul-result : tie.Need-mul-result
-mul-result c = search needs
+-- src/lib.rt:651:16
+mul-near : tie.Need-mul-near
+mul-near c = search needs
 
--- src/lib.rt:301:44
+-- src/lib.rt:651:5
 near-requires : tie.Need-near-requires
 near-requires c κs = omega (arith, bounds (c .before .args .b) (c .if1 .m) (taken c))
 
--- src/lib.rt:301:5
-add-result-2 : tie.Need-add-result-2
-add-result-2 c =
-    let d = c .before in
-    omega (arith, root-hi (d .if1 .m) (c .near .result) (bounds (d .before .args .b) (d .if1 .m) (taken d) .1) (c .near .ensures))
-
--- src/lib.rt:294:1
+-- src/lib.rt:644:1
 returns : tie.Need-returns
 returns c =
     let d = c .before in
-    law (d .before .args .b) (d .if1 .m) (c .near .result) (d .before .pre .0) (d .before .pre .1) (taken d) (c .near .ensures)
+    let base = (exponent (d .before .args .b) + 1021) / 2 * 2 ^ 52 in
+    let whole : c .near .result ≡ base + (c .near .result - base) = omega (arith, c .near .ensures .0) in
+    whole ∙ law (d .before .args .b) (d .if1 .m) (c .near .result - base) (d .before .pre .0) (d .before .pre .1) (taken d) (c .near .ensures .1)
 
 pub of-normal-spec : {M : Type 1} → statement M
-of-normal-spec =
-    tie.close (tie.spec add-f mul-m add-result mul-result near-requires add-result-2 returns)
+of-normal-spec = tie.close (tie.spec add-f mul-m add-near mul-near near-requires returns)

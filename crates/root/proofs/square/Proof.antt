@@ -6,11 +6,11 @@ use Rattle.root.proofs.square.Tie as tie
 use Rattle.root.proofs.square.Reads as reads
 use Rattle.root.proofs.square.Lts as lts
 
--- src/lib.rt:259:5
+-- src/lib.rt:586:5
 mul-result : tie.Need-mul-result
-mul-result c = omega (arith, mul-lt-pow 29 29 (c .pre) (c .pre))
+mul-result c = omega (arith, mul-lt-pow 32 32 (c .pre) (c .pre))
 
--- src/lib.rt:255:1
+-- src/lib.rt:582:1
 returns : tie.Need-returns
 returns c = search needs
 

@@ -1,17 +1,41 @@
+use Prim.Native.Nat.{ℕ, _+_, _*_, _/_, _%_, _^_, _<_}
 use native.Mathlib.Omega.{arith}
 use Rattle.root.proofs.Squares.{mul-lt-pow}
+use borrow.Author.Needs.{needs}
 use Rattle.root.proofs.upper.Statement.{statement}
 use Rattle.root.proofs.upper.Tie as tie
 use Rattle.root.proofs.upper.Reads as reads
 use Rattle.root.proofs.upper.Lts as lts
+use Rattle.root.proofs.scale.Reads as scale-reads
 
--- src/lib.rt:244:5
+abbrev digits : ℕ → ℕ
+digits g = g / 2 ^ 21 % 0x8000_0000 + 0x7fff_ffff
+
+scaled : (g k : ℕ) → k < 2 ^ 32 → digits g * k < 2 ^ 64
+scaled g k h = mul-lt-pow 32 32 (omega arith) h
+
+product : (g k y : ℕ) → k < 2 ^ 32 → y < 2 ^ 31 → digits g * k / 0x8000_0000 * y < 2 ^ 64
+product g k y h l = mul-lt-pow 33 31 (omega (arith, scaled g k h)) l
+
+-- src/lib.rt:334:13
+add-f : tie.Need-add-f
+add-f c = search needs
+
+-- src/lib.rt:335:9
+scale-requires : tie.Need-scale-requires
+scale-requires c κs = search needs
+
+-- src/lib.rt:335:5
 mul-result : tie.Need-mul-result
-mul-result c = omega (arith, mul-lt-pow 32 32 (c .pre .0) (c .pre .1))
+mul-result c = omega (arith, scaled (c .before .args .g) (c .scale .result) (c .scale .ensures))
 
--- src/lib.rt:240:1
+-- src/lib.rt:335:5
+mul-result-2 : tie.Need-mul-result-2
+mul-result-2 c = omega (arith, product (c .before .args .g) (c .scale .result) (c .before .args .y) (c .scale .ensures) (c .before .pre))
+
+-- src/lib.rt:330:1
 returns : tie.Need-returns
-returns c = omega (arith, mul-lt-pow 32 32 (c .pre .0) (c .pre .1))
+returns c = omega (arith, product (c .before .args .g) (c .scale .result) (c .before .args .y) (c .scale .ensures) (c .before .pre))
 
 pub upper-spec : {M : Type 1} → statement M
-upper-spec = tie.close (tie.spec mul-result returns)
+upper-spec = tie.close (tie.spec add-f scale-requires mul-result mul-result-2 returns)
