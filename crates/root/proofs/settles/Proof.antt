@@ -77,7 +77,7 @@ returns-4 c = inl refl
 returns-5 : tie.Need-returns-5
 returns-5 c =
     let x = c .before .before .before .before .args in
-    inr (nearest (x .u) (x .a) (x .b) (c .before .before .before .if1 .left) (c .before .if3 .left) (c .if4 .left))
+    inr (nearest (x .u) (x .a) (x .b) (omega arith) (omega arith) (omega arith))
 
 pub settles-spec : {M : Type 1} → statement M
 settles-spec =
