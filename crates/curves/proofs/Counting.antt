@@ -83,7 +83,7 @@ end-in s ks o (x ∷ xs) h =
 pub counts-one : {s : Shape} {o left : ℕ} {l : List ℕ} → Counts s o left l → Counts s o 0 l
 counts-one {left = left} c = record { some = c .some; owned = c .owned; table = c .table; room = λ k h. omega (arith, c .room k h, pow-pos left) }
 
-pow-half : (k : ℕ) → (k ≡ 0 → ⊥) → 2 ^ k ≡ 2 * 2 ^ (k - 1)
+pub pow-half : (k : ℕ) → (k ≡ 0 → ⊥) → 2 ^ k ≡ 2 * 2 ^ (k - 1)
 pow-half k h = let e : k ≡ suc (k - 1) = omega arith in ap (λ (z : ℕ). 2 ^ z) e ∙ pow-succ' 2 (k - 1)
 
 pub counts-half : {s : Shape} {o left : ℕ} {l : List ℕ} → Counts s o left l → (left ≡ 0 → ⊥) → Counts s o (left - 1) l

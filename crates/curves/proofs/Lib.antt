@@ -1,8 +1,11 @@
 pub mod Walking
 pub mod Counting
 pub mod Writing
+pub mod Remembering
+pub mod Stopping
 pub mod Spanning
 pub mod Segmenting
 pub mod Owning
 pub mod Running
+pub mod Recalling
 pub mod Laying

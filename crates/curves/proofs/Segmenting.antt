@@ -1,27 +1,28 @@
 -- One stretch of a fit, and one more. Assumes nothing.
 use mathlib.Core.Path.{_≡_, refl, sym, ap, _∙_, subst}
-use mathlib.Core.List.{List, [], _∷_, _++_, map}
+use mathlib.Core.List.{List, [], _∷_}
 use mathlib.Core.Bool.{Bool, true, false, cond}
 use mathlib.Core.Logic.{⊎-elim}
-use Prim.Native.Nat.{ℕ, zero, suc, _+_, _-_, _*_, _^_, _<_, _≤_}
+use Prim.Native.Nat.{ℕ, zero, suc, _+_, _-_, _*_, _<_, _≤_}
 use native.Mathlib.Numerals.{add-one}
 use native.Mathlib.Nat.{suc-mul}
 use native.Mathlib.Omega.{arith}
-use lib.ListN.{length, getD, take, drop, set, length-append, length-map, length-set}
+use lib.ListN.{length, getD, set, length-append, length-map, length-set}
 use lib.Seq.{getD-set-same, set-getD, set-set}
 use lib.Ieee.{Float, le}
 use Rattle.floats.specs.Numbers.{_⊖_, 1e-12, at}
-use Rattle.floats.specs.Lists.{upto, filled, flatten, row}
+use Rattle.floats.specs.Lists.{upto, flatten, row}
 use Rattle.floats.specs.Fill.{Filling, filling-more, at-filled, past-filled, lt-or-le}
 use Rattle.metric.specs.Walk.{Sample, samples}
 use Rattle.metric.specs.WalkLaws.{samples-le}
 use Rattle.metric.specs.Points.{row-fits}
-use Rattle.basis.specs.Joins.{flatten-snoc}
 use Rattle.basis.specs.RowLaws.{part, length-part, part-row}
 use Rattle.curves.specs.declared.Shape.{Shape}
 use Rattle.curves.specs.Runs.{encode}
-use Rattle.curves.specs.Walks.{evalOf, ownOf, endOwner, bumped, counted, Stretch, Segments, fitRunAt, Counted, Counts, Fresh, FreshAt, pointsOf, Written}
-use Rattle.curves.proofs.Writing.{encode-append, written-none, written-two, written-as, room-second}
+use Rattle.curves.specs.Walks.{evalOf, ownOf, bumped, counted, Stretch, Segments, fitRunAt, Counted, Counts, Fresh, FreshAt, pointsOf, Written}
+use Rattle.curves.specs.Lefts.{leftsOf, fitLefts}
+use Rattle.curves.proofs.Writing.{encode-append, written-none, written-two, room-second}
+use Rattle.curves.proofs.Remembering.{lefts-led, flat-more}
 
 -- ---- places: the points of a stretch in the list of points
 
@@ -66,6 +67,24 @@ module _ (s : Shape) (ms : List ℕ) (tol : Float) (pts ks cs : List Float) wher
       go : (b : Bool) → length (cond b (row pts (s .ch) (i + 1) ∷ []) (pointsOf (samples (evalOf s ks cs) ms tol 20 (at ks i) (row pts (s .ch) i) (at ks (i + 1)) (row pts (s .ch) (i + 1))))) ≤ 0x100000
       go true = omega arith
       go false = rw (length-map (samples (evalOf s ks cs) ms tol 20 (at ks i) (row pts (s .ch) i) (at ks (i + 1)) (row pts (s .ch) (i + 1))) (λ (s : Sample). s .point)) (samples-le (evalOf s ks cs) ms tol 20 (at ks i) (row pts (s .ch) i) (at ks (i + 1)) (row pts (s .ch) (i + 1)))
+
+  -- what is remembered of it
+  pub lefts-one : (i : ℕ) {b : Bool} → b ≡ le (at ks (i + 1) ⊖ at ks i) 1e-12 → b ≡ true → fitLefts s ms tol pts ks cs i ≡ 0 ∷ []
+  unfolding fitLefts
+  lefts-one i e h = rw (sym e ∙ h)
+
+  pub lefts-walk : (i : ℕ) {b : Bool} → b ≡ le (at ks (i + 1) ⊖ at ks i) 1e-12 → b ≡ false
+      → fitLefts s ms tol pts ks cs i ≡ leftsOf (evalOf s ks cs) ms tol 20 (at ks i) (part pts (i * s .ch) (s .ch)) (at ks (i + 1)) (part pts (i * s .ch + s .ch) (s .ch))
+  unfolding fitLefts
+  lefts-walk i e h = rw (sym e ∙ h, first-is pts i (s .ch), next-is pts i (s .ch))
+
+  pub lefts-few : (i : ℕ) → length (fitLefts s ms tol pts ks cs i) ≤ 0x100000
+  unfolding fitLefts
+  lefts-few i = go (le (at ks (i + 1) ⊖ at ks i) 1e-12)
+    where
+      go : (b : Bool) → length (cond b (0 ∷ []) (leftsOf (evalOf s ks cs) ms tol 20 (at ks i) (row pts (s .ch) i) (at ks (i + 1)) (row pts (s .ch) (i + 1)))) ≤ 0x100000
+      go true = omega arith
+      go false = lefts-led (evalOf s ks cs) ms tol 20 (at ks i) (row pts (s .ch) i) (at ks (i + 1)) (row pts (s .ch) (i + 1)) .few
 
 -- ---- counting a stretch: its end owns every sample
 
@@ -125,16 +144,12 @@ fresh-at f {s} {i} {l} {xs} few g a h = record {
 -- ---- writing one stretch after another
 
 module _ (f : ℕ → List (List Float)) where
-  runs-more : (i : ℕ) → flatten (upto f (i + 1)) ≡ flatten (upto f i) ++ f i
-  unfolding upto
-  runs-more i = rw (add-one i) (flatten-snoc (upto f i) (f i))
-
   pub runs-none : (l : List ℕ) → Written l 0 (flatten (upto f 0)) 0 l
   unfolding upto flatten
   runs-none l = written-none l 0
 
   words-step : (j : ℕ) → length (encode (flatten (upto f j))) ≤ length (encode (flatten (upto f (j + 1))))
-  words-step j = rw (runs-more j, encode-append, length-append) (omega arith)
+  words-step j = rw (flat-more f j, encode-append, length-append) (omega arith)
 
   words-in : (j d : ℕ) → length (encode (flatten (upto f j))) ≤ length (encode (flatten (upto f (j + d))))
   words-in j zero = let e : j + 0 ≡ j = omega arith in rw e (omega arith)
@@ -150,8 +165,8 @@ module _ (f : ℕ → List (List Float)) where
       omega arith
 
   pub run-room : {l : List ℕ} (i n : ℕ) {r : ℕ} {xs : List ℕ} → i < n → length (encode (flatten (upto f n))) ≤ length l → Written l 0 (flatten (upto f i)) r xs → r + length (encode (f i)) ≤ length xs
-  run-room {l} i n h g w = room-second (f i) (runs-more i) (run-in l i n h g) w
+  run-room {l} i n h g w = room-second (f i) (flat-more f i) (run-in l i n h g) w
 
   pub run-written : {l : List ℕ} (i n : ℕ) {r r' : ℕ} {xs xs' : List ℕ} → i < n → length (encode (flatten (upto f n))) ≤ length l
       → Written l 0 (flatten (upto f i)) r xs → Written xs r (f i) r' xs' → Written l 0 (flatten (upto f (i + 1))) r' xs'
-  run-written {l} i n h g a b = written-two (runs-more i) (run-in l i n h g) a b
+  run-written {l} i n h g a b = written-two (flat-more f i) (run-in l i n h g) a b

@@ -1,8 +1,7 @@
 -- One more knot span. Assumes nothing.
-use mathlib.Core.Path.{_≡_, refl, sym, ap, _∙_}
-use mathlib.Core.List.{List, [], _∷_, _++_, map}
-use mathlib.Core.Bool.{true}
-use Prim.Native.Nat.{ℕ, zero, suc, _+_, _-_, _*_, _^_, _<_, _≤_}
+use mathlib.Core.Path.{_≡_, refl, ap, _∙_}
+use mathlib.Core.List.{List, [], _++_}
+use Prim.Native.Nat.{ℕ, zero, suc, _+_, _-_, _*_, _<_, _≤_}
 use native.Mathlib.Numerals.{add-one}
 use native.Mathlib.Nat.{mul-le-mul-right, suc-mul}
 use native.Mathlib.Omega.{arith}
@@ -21,7 +20,9 @@ use Rattle.curves.specs.declared.Shape.{Shape}
 use Rattle.curves.specs.Runs.{encode}
 use Rattle.curves.specs.Walks.{pointAt, ownOf, endOwner, counted, Tables, Stretch, splineSamples, Counted, Counts, Fresh, pointsOf, Written}
 use Rattle.curves.proofs.Counting.{counted-two, counted-le, counted-length, end-in}
-use Rattle.curves.proofs.Writing.{encode-append, written-none, written-two, room-first, room-second}
+use Rattle.curves.specs.Lefts.{leftsOf, spanLefts}
+use Rattle.curves.proofs.Remembering.{lefts-led}
+use Rattle.curves.proofs.Writing.{encode-append, written-none, written-two, room-second}
 
 pub zero-time : f0 ≡ ofNat 0
 unfolding Ieee.ofBits Ieee.ofInt
@@ -54,6 +55,15 @@ module _ (ev : Float → List Float) (ms : List ℕ) (tol : Float) where
   spans-few zero = rw spans-none (omega arith)
   spans-few (suc j) =
       rw (spans-next j, length-append) (omega (arith, spans-few j, suc-mul j 1048576, samples-le ev ms tol 20 (ofNat j) (ev (ofNat j)) (ofNat (j + 1)) (ev (ofNat (j + 1)))))
+
+  -- what is remembered of a span
+  pub span-lefts : (j : ℕ) (q0 q1 : List Float) {t u : Float} → t ≡ ofNat j → u ≡ ofNat (j + 1) → q0 ≡ ev (ofNat j) → q1 ≡ ev (ofNat (j + 1)) → spanLefts ev ms tol j ≡ leftsOf ev ms tol 20 t q0 u q1
+  unfolding spanLefts
+  span-lefts j q0 q1 et eu e0 e1 = rw (et, eu, e0, e1)
+
+  pub span-few : (j : ℕ) → length (spanLefts ev ms tol j) ≤ 0x100000
+  unfolding spanLefts
+  span-few j = lefts-led ev ms tol 20 (ofNat j) (ev (ofNat j)) (ofNat (j + 1)) (ev (ofNat (j + 1))) .few
 
   -- ---- counting
 

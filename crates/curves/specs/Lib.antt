@@ -1,3 +1,4 @@
 pub mod Ready
 pub mod Runs
 pub mod Walks
+pub mod Lefts

@@ -13,3 +13,15 @@ pub struct Shape {
     pub ch: usize,
     pub size: usize,
 }
+
+// How far a count has come: the owner of the last sample, and the samples so far.
+pub struct Reached {
+    pub owner: usize,
+    pub sample: usize,
+}
+
+// How far a writing has come: the words and the samples so far.
+pub struct Place {
+    pub word: usize,
+    pub sample: usize,
+}

@@ -14,6 +14,7 @@ ghost use Rattle.metric.specs.Below.{Below};
 ghost use Rattle.curves.specs.Walks.{knotRoom, controlRoom};
 ghost use Rattle.curves.specs.Ready.{Ready};
 ghost use Rattle.curves.specs.Runs.{curveRuns, encode};
+ghost use Rattle.curves.specs.Lefts.{Remembers};
 
 // Fills the tables of n points, of ch numbers each, that a spline of this motion runs through or is drawn to.
 pub fn prepare(
@@ -61,7 +62,8 @@ fn clear(counts: &mut [usize], m: usize)
     }
 }
 
-// The length of the run of each point after the start.
+// The length of the run of each point after the start; for the writing, as far as lefts reaches, the halvings left at
+// each sample.
 pub fn count_runs(
     s: Shape,
     motion: u64,
@@ -75,22 +77,24 @@ pub fn count_runs(
     ks: &[f64],
     cs: &[f64],
     counts: &mut [usize],
+    lefts: &mut [u8],
 )
     requires { ⌜ Ready motion degree n ch (now ms) (now pts) (now ws) s (now ks) (now cs) ⌝ }
     requires { ⌜ n - 1 ≤ length (now counts) ⌝ }
     ensures { λ _. ⌜ now (counts .exit) ≡ filled (λ (i : ℕ). length (getD (curveRuns motion degree (now (ms .entry)) tol (rowsOf (now (pts .entry)) ch n) (take n (now (ws .entry)))) i [])) (n - 1) (now (counts .entry)) ⌝ }
+    ensures { λ _. ⌜ Remembers s (now (ms .entry)) tol (now (pts .entry)) (now (ks .entry)) (now (cs .entry)) (now (lefts .exit)) ⌝ }
 {
     let basis = s.basis;
     let size = s.size;
     clear(counts, n - 1);
     if basis {
-        count_spline(s, tol, ms, ks, cs, counts);
+        count_spline(s, tol, ms, ks, cs, counts, lefts);
         return;
     }
     if size < 2 {
         return;
     }
-    count_segments(s, tol, ms, pts, ks, cs, counts);
+    count_segments(s, tol, ms, pts, ks, cs, counts, lefts);
 }
 
 // The points of all runs, one after another.
@@ -106,20 +110,22 @@ pub fn write_runs(
     ws: &[f64],
     ks: &[f64],
     cs: &[f64],
+    lefts: &[u8],
     out: &mut [u64],
 )
     requires { ⌜ Ready motion degree n ch (now ms) (now pts) (now ws) s (now ks) (now cs) ⌝ }
+    requires { ⌜ Remembers s (now ms) tol (now pts) (now ks) (now cs) (now lefts) ⌝ }
     requires { ⌜ length (encode (flatten (curveRuns motion degree (now ms) tol (rowsOf (now pts) ch n) (take n (now ws))))) ≤ length (now out) ⌝ }
     ensures { λ _. ⌜ now (out .exit) ≡ spliced (now (out .entry)) 0 (encode (flatten (curveRuns motion degree (now (ms .entry)) tol (rowsOf (now (pts .entry)) ch n) (take n (now (ws .entry)))))) ⌝ }
 {
     let basis = s.basis;
     let size = s.size;
     if basis {
-        write_spline(s, tol, ms, ks, cs, out);
+        write_spline(s, tol, ms, ks, cs, lefts, out);
         return;
     }
     if size < 2 {
         return;
     }
-    write_segments(s, tol, ms, pts, ks, cs, out);
+    write_segments(s, tol, ms, pts, ks, cs, lefts, out);
 }

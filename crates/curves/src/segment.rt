@@ -1,17 +1,22 @@
 // The samples of a fit, stretch by stretch between the programmed points.
+use crate::Place;
+use crate::Reached;
 use crate::Shape;
 use crate::sizes::DEPTH;
 use crate::walk::count_walk;
-use crate::walk::put_point;
+use crate::walk::put_sample;
+use crate::walk::remember;
 use crate::walk::write_walk;
 ghost use mathlib.Core.Path.{_≡_};
 ghost use Prim.Native.Nat.{_≤_, _+_, _-_};
 ghost use lib.ListN.{length, set};
+ghost use lib.Seq.{sets};
 ghost use Rattle.floats.specs.Lists.{upto, filled, flatten, spliced};
 ghost use Rattle.curves.specs.Runs.{encode};
 ghost use Rattle.curves.specs.Walks.{Segments, Fresh, FreshAt, fitRunAt, Written};
+ghost use Rattle.curves.specs.Lefts.{fitLefts, joined, Recalls, Stored, Cursor};
 
-// Counts the samples of the stretch from point i to the next.
+// Counts the samples of the stretch from point i to the next, c samples after the start, and returns how many there are then.
 fn count_segment(
     s: Shape,
     tol: f64,
@@ -20,11 +25,14 @@ fn count_segment(
     ks: &[f64],
     cs: &[f64],
     i: usize,
+    c: usize,
     counts: &mut [usize],
-)
+    lefts: &mut [u8],
+) -> usize
     requires { ⌜ Segments s (now ms) (now pts) (now ks) (now cs) ⌝ }
-    requires { ⌜ FreshAt s i (now counts) ⌝ }
+    requires { ⌜ FreshAt s i (now counts) × Cursor c 20 ⌝ }
     ensures { λ _. ⌜ now (counts .exit) ≡ set (now (counts .entry)) i (length (fitRunAt s (now (ms .entry)) tol (now (pts .entry)) (now (ks .entry)) (now (cs .entry)) i)) ⌝ }
+    ensures { λ r. ⌜ Stored (now (lefts .entry)) c (fitLefts s (now (ms .entry)) tol (now (pts .entry)) (now (ks .entry)) (now (cs .entry)) i) r (now (lefts .exit)) ⌝ }
 {
     let ch = s.ch;
     let next = i + 1;
@@ -32,25 +40,32 @@ fn count_segment(
     let t1 = ks[next];
     if t1 - t0 <= 1e-12 {
         counts[i] = 1;
-    } else {
-        let a = i * ch;
-        let b = a + ch;
-        let e = b + ch;
-        count_walk(
-            s,
-            ms,
-            tol,
-            DEPTH,
-            t0,
-            &pts[a..b],
-            t1,
-            &pts[b..e],
-            ks,
-            cs,
-            next,
-            counts,
-        );
+        remember(lefts, c, 0);
+        return c + 1;
     }
+    let a = i * ch;
+    let b = a + ch;
+    let e = b + ch;
+    let start = Reached {
+        owner: next,
+        sample: c,
+    };
+    let reached = count_walk(
+        s,
+        ms,
+        tol,
+        DEPTH,
+        t0,
+        &pts[a..b],
+        t1,
+        &pts[b..e],
+        ks,
+        cs,
+        start,
+        counts,
+        lefts,
+    );
+    reached.sample
 }
 
 // Counts the samples of every stretch.
@@ -62,21 +77,24 @@ pub fn count_segments(
     ks: &[f64],
     cs: &[f64],
     counts: &mut [usize],
+    lefts: &mut [u8],
 )
     requires { ⌜ Segments s (now ms) (now pts) (now ks) (now cs) ⌝ }
     requires { ⌜ Fresh s (now counts) ⌝ }
     ensures { λ _. ⌜ now (counts .exit) ≡ filled (λ i. length (fitRunAt s (now (ms .entry)) tol (now (pts .entry)) (now (ks .entry)) (now (cs .entry)) i)) (s .n - 1) (now (counts .entry)) ⌝ }
+    ensures { λ _. ⌜ now (lefts .exit) ≡ sets (now (lefts .entry)) 0 (joined (fitLefts s (now (ms .entry)) tol (now (pts .entry)) (now (ks .entry)) (now (cs .entry))) (s .n - 1)) ⌝ }
 {
     let n = s.n;
     let last = n - 1;
+    let mut c = 0;
     let mut i = 0;
     while i < last {
-        count_segment(s, tol, ms, pts, ks, cs, i, counts);
+        c = count_segment(s, tol, ms, pts, ks, cs, i, c, counts, lefts);
         i += 1;
     }
 }
 
-// Writes the points of the stretch from point i to the next from `from` on, and returns the place after them.
+// Writes the points of the stretch from point i to the next, and returns the place after them.
 fn write_segment(
     s: Shape,
     tol: f64,
@@ -85,12 +103,15 @@ fn write_segment(
     ks: &[f64],
     cs: &[f64],
     i: usize,
+    lefts: &[u8],
+    at: Place,
     out: &mut [u64],
-    from: usize,
-) -> usize
+) -> Place
     requires { ⌜ Segments s (now ms) (now pts) (now ks) (now cs) ⌝ }
-    requires { ⌜ (i + 1 ≤ s .n - 1) × (from + length (encode (fitRunAt s (now ms) tol (now pts) (now ks) (now cs) i)) ≤ length (now out)) ⌝ }
-    ensures { λ r. ⌜ Written (now (out .entry)) from (fitRunAt s (now (ms .entry)) tol (now (pts .entry)) (now (ks .entry)) (now (cs .entry)) i) r (now (out .exit)) ⌝ }
+    requires { ⌜ Recalls (now lefts) (at .sample) (fitLefts s (now ms) tol (now pts) (now ks) (now cs) i) × Cursor (at .sample) 20 ⌝ }
+    requires { ⌜ (i + 1 ≤ s .n - 1) × (at .word + length (encode (fitRunAt s (now ms) tol (now pts) (now ks) (now cs) i)) ≤ length (now out)) ⌝ }
+    ensures { λ r. ⌜ Written (now (out .entry)) (at .word) (fitRunAt s (now (ms .entry)) tol (now (pts .entry)) (now (ks .entry)) (now (cs .entry)) i) (r .word) (now (out .exit)) ⌝ }
+    ensures { λ r. ⌜ r .sample ≡ at .sample + length (fitLefts s (now (ms .entry)) tol (now (pts .entry)) (now (ks .entry)) (now (cs .entry)) i) ⌝ }
 {
     let ch = s.ch;
     let next = i + 1;
@@ -100,7 +121,7 @@ fn write_segment(
     let t0 = ks[i];
     let t1 = ks[next];
     if t1 - t0 <= 1e-12 {
-        return put_point(&pts[b..e], out, from);
+        return put_sample(&pts[b..e], out, at);
     }
     write_walk(
         s,
@@ -113,8 +134,9 @@ fn write_segment(
         &pts[b..e],
         ks,
         cs,
+        lefts,
+        at,
         out,
-        from,
     )
 }
 
@@ -126,18 +148,20 @@ pub fn write_segments(
     pts: &[f64],
     ks: &[f64],
     cs: &[f64],
+    lefts: &[u8],
     out: &mut [u64],
 )
     requires { ⌜ Segments s (now ms) (now pts) (now ks) (now cs) ⌝ }
+    requires { ⌜ Recalls (now lefts) 0 (joined (fitLefts s (now ms) tol (now pts) (now ks) (now cs)) (s .n - 1)) ⌝ }
     requires { ⌜ length (encode (flatten (upto (fitRunAt s (now ms) tol (now pts) (now ks) (now cs)) (s .n - 1)))) ≤ length (now out) ⌝ }
     ensures { λ _. ⌜ now (out .exit) ≡ spliced (now (out .entry)) 0 (encode (flatten (upto (fitRunAt s (now (ms .entry)) tol (now (pts .entry)) (now (ks .entry)) (now (cs .entry))) (s .n - 1)))) ⌝ }
 {
     let n = s.n;
     let last = n - 1;
-    let mut from = 0;
+    let mut at = Place { word: 0, sample: 0 };
     let mut i = 0;
     while i < last {
-        from = write_segment(s, tol, ms, pts, ks, cs, i, out, from);
+        at = write_segment(s, tol, ms, pts, ks, cs, i, lefts, at, out);
         i += 1;
     }
 }

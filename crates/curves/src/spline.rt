@@ -1,4 +1,6 @@
 // The samples of a B-spline, knot span by knot span.
+use crate::Place;
+use crate::Reached;
 use crate::Shape;
 use crate::sizes::DEPTH;
 use crate::walk::count_walk;
@@ -8,29 +10,43 @@ ghost use mathlib.Core.Path.{_≡_};
 ghost use mathlib.Core.Bool.{true};
 ghost use Prim.Native.Nat.{_≤_, _-_};
 ghost use lib.ListN.{length};
+ghost use lib.Seq.{sets};
 ghost use Rattle.floats.specs.Lists.{spliced};
 ghost use Rattle.metric.specs.Below.{Below};
 ghost use Rattle.curves.specs.Runs.{encode};
 ghost use Rattle.curves.specs.Walks.{evalOf, ownOf, Tables, Fresh, splineSamples, counted, pointsOf};
+ghost use Rattle.curves.specs.Lefts.{spanLefts, joined, Recalls};
 
-// Counts the samples by owner.
-pub fn count_spline(s: Shape, tol: f64, ms: &[usize], ks: &[f64], cs: &[f64], counts: &mut [usize])
+// Counts the samples by owner, and remembers the halvings left at each.
+pub fn count_spline(
+    s: Shape,
+    tol: f64,
+    ms: &[usize],
+    ks: &[f64],
+    cs: &[f64],
+    counts: &mut [usize],
+    lefts: &mut [u8],
+)
     requires { ⌜ Tables s (now ks) (now cs) × (s .basis ≡ true) ⌝ }
     requires { ⌜ Below (now ms) (s .ch) × Fresh s (now counts) ⌝ }
     ensures { λ _. ⌜ now (counts .exit) ≡ counted (ownOf s (now (ks .entry))) 1 (splineSamples (evalOf s (now (ks .entry)) (now (cs .entry))) (now (ms .entry)) tol (s .n - s .size)) (now (counts .entry)) ⌝ }
+    ensures { λ _. ⌜ now (lefts .exit) ≡ sets (now (lefts .entry)) 0 (joined (spanLefts (evalOf s (now (ks .entry)) (now (cs .entry))) (now (ms .entry)) tol) (s .n - s .size)) ⌝ }
 {
     let n = s.n;
     let p = s.size;
     let ch = s.ch;
     let spans = n - p;
-    let mut o = 1;
+    let mut at = Reached {
+        owner: 1,
+        sample: 0,
+    };
     let mut t = 0.0;
     let mut prev = point_at(s, ks, cs, t);
     let mut j = 0;
     while j < spans {
         let u = (j + 1) as f64;
         let next = point_at(s, ks, cs, u);
-        o = count_walk(
+        at = count_walk(
             s,
             ms,
             tol,
@@ -41,8 +57,9 @@ pub fn count_spline(s: Shape, tol: f64, ms: &[usize], ks: &[f64], cs: &[f64], co
             &next[..ch],
             ks,
             cs,
-            o,
+            at,
             counts,
+            lefts,
         );
         t = u;
         prev = next;
@@ -51,8 +68,17 @@ pub fn count_spline(s: Shape, tol: f64, ms: &[usize], ks: &[f64], cs: &[f64], co
 }
 
 // Writes the samples' points.
-pub fn write_spline(s: Shape, tol: f64, ms: &[usize], ks: &[f64], cs: &[f64], out: &mut [u64])
+pub fn write_spline(
+    s: Shape,
+    tol: f64,
+    ms: &[usize],
+    ks: &[f64],
+    cs: &[f64],
+    lefts: &[u8],
+    out: &mut [u64],
+)
     requires { ⌜ Tables s (now ks) (now cs) × (s .basis ≡ true) ⌝ }
+    requires { ⌜ Recalls (now lefts) 0 (joined (spanLefts (evalOf s (now ks) (now cs)) (now ms) tol) (s .n - s .size)) ⌝ }
     requires { ⌜ Below (now ms) (s .ch) × (length (encode (pointsOf (splineSamples (evalOf s (now ks) (now cs)) (now ms) tol (s .n - s .size)))) ≤ length (now out)) ⌝ }
     ensures { λ _. ⌜ now (out .exit) ≡ spliced (now (out .entry)) 0 (encode (pointsOf (splineSamples (evalOf s (now (ks .entry)) (now (cs .entry))) (now (ms .entry)) tol (s .n - s .size)))) ⌝ }
 {
@@ -60,14 +86,14 @@ pub fn write_spline(s: Shape, tol: f64, ms: &[usize], ks: &[f64], cs: &[f64], ou
     let p = s.size;
     let ch = s.ch;
     let spans = n - p;
-    let mut from = 0;
+    let mut at = Place { word: 0, sample: 0 };
     let mut t = 0.0;
     let mut prev = point_at(s, ks, cs, t);
     let mut j = 0;
     while j < spans {
         let u = (j + 1) as f64;
         let next = point_at(s, ks, cs, u);
-        from = write_walk(
+        at = write_walk(
             s,
             ms,
             tol,
@@ -78,8 +104,9 @@ pub fn write_spline(s: Shape, tol: f64, ms: &[usize], ks: &[f64], cs: &[f64], ou
             &next[..ch],
             ks,
             cs,
+            lefts,
+            at,
             out,
-            from,
         );
         t = u;
         prev = next;

@@ -1,4 +1,7 @@
-// The halving of a stretch of a curve: a walk that counts its samples, and one that writes them.
+// The halving of a stretch of a curve: a walk that counts its samples and remembers where it stopped, and one that writes
+// them and stops there again.
+use crate::Place;
+use crate::Reached;
 use crate::Shape;
 use crate::sizes::CONTROL_ROOM;
 use crate::sizes::FIT_SLOPES;
@@ -6,14 +9,17 @@ use crate::sizes::FIT_TIMES;
 use crate::sizes::KNOT_ROOM;
 ghost use mathlib.Core.Path.{_≡_};
 ghost use mathlib.Core.List.{[], _∷_};
-ghost use Prim.Native.Nat.{_≤_, _<_, _+_, _-_};
-ghost use lib.ListN.{length, replicate};
-ghost use Rattle.floats.specs.Numbers.{_⊕_, _⊖_, _⊗_, f0, f¼, f¾, at, bits};
-ghost use Rattle.floats.specs.Lists.{upto, filled, spliced};
+ghost use Prim.Native.Nat.{_≤_, _<_, _+_, _-_, _^_};
+ghost use mathlib.Core.Bool.{false, cond, _&&_};
+ghost use lib.Dec.{ltb, eqb};
+ghost use lib.ListN.{length, getD, set, replicate};
+ghost use Rattle.floats.specs.Numbers.{f0, at};
+ghost use Rattle.floats.specs.Lists.{filled};
 ghost use Rattle.metric.specs.Below.{Below};
 ghost use Rattle.metric.specs.Walk.{near, flat, samples, middle};
 ghost use Rattle.curves.specs.Runs.{encode};
 ghost use Rattle.curves.specs.Walks.{pointAt, evalOf, ownOf, Tables, Stretch, Owners, bumped, Counted, Counts, pointsOf, Written};
+ghost use Rattle.curves.specs.Lefts.{leftsOf, Recalls, Stored, Cursor};
 
 // The curve's point at t.
 pub fn point_at(s: Shape, ks: &[f64], cs: &[f64], t: f64) -> [f64; 16]
@@ -115,7 +121,42 @@ fn count_one(s: Shape, ks: &[f64], o: usize, t: f64, counts: &mut [usize]) -> us
     owner
 }
 
-// Counts the samples of the stretch, and returns the last one's owner.
+// Remembers that `left` halvings were left at the sample c, where the memory reaches.
+pub fn remember(lefts: &mut [u8], c: usize, left: usize)
+    requires { ⌜ left ≤ 20 ⌝ }
+    ensures { λ _. ⌜ now (lefts .exit) ≡ set (now (lefts .entry)) c left ⌝ }
+{
+    if c < lefts.len() {
+        lefts[c] = left as u8;
+    }
+}
+
+// Counts a sample at t for its owner, and remembers the halvings left.
+fn count_sample(
+    s: Shape,
+    left: usize,
+    t: f64,
+    ks: &[f64],
+    at: Reached,
+    counts: &mut [usize],
+    lefts: &mut [u8],
+) -> Reached
+    requires { ⌜ Owners s (now ks) (at .owner) ⌝ }
+    requires { ⌜ Counts s (at .owner) 0 (now counts) × Cursor (at .sample) left ⌝ }
+    ensures { λ r. ⌜ (r .owner ≡ ownOf s (now (ks .entry)) (at .owner) t) × (now (counts .exit) ≡ bumped (now (counts .entry)) (ownOf s (now (ks .entry)) (at .owner) t - 1)) ⌝ }
+    ensures { λ r. ⌜ (r .sample ≡ at .sample + 1) × (now (lefts .exit) ≡ set (now (lefts .entry)) (at .sample) left) ⌝ }
+{
+    let o = at.owner;
+    let c = at.sample;
+    remember(lefts, c, left);
+    let owner = count_one(s, ks, o, t, counts);
+    Reached {
+        owner: owner,
+        sample: c + 1,
+    }
+}
+
+// Counts the samples of the stretch, and remembers the halvings left at each.
 pub fn count_walk(
     s: Shape,
     ms: &[usize],
@@ -127,21 +168,23 @@ pub fn count_walk(
     p1: &[f64],
     ks: &[f64],
     cs: &[f64],
-    o: usize,
+    at: Reached,
     counts: &mut [usize],
-) -> usize
+    lefts: &mut [u8],
+) -> Reached
     requires { ⌜ Stretch s (now ms) (now ks) (now cs) (now p0) (now p1) ⌝ }
-    requires { ⌜ Counts s o left (now counts) ⌝ }
-    ensures { λ r. ⌜ Counted (ownOf s (now (ks .entry))) o (samples (evalOf s (now (ks .entry)) (now (cs .entry))) (now (ms .entry)) tol left t0 (now (p0 .entry)) t1 (now (p1 .entry))) (now (counts .entry)) r (now (counts .exit)) ⌝ }
+    requires { ⌜ Counts s (at .owner) left (now counts) × Cursor (at .sample) left ⌝ }
+    ensures { λ r. ⌜ Counted (ownOf s (now (ks .entry))) (at .owner) (samples (evalOf s (now (ks .entry)) (now (cs .entry))) (now (ms .entry)) tol left t0 (now (p0 .entry)) t1 (now (p1 .entry))) (now (counts .entry)) (r .owner) (now (counts .exit)) ⌝ }
+    ensures { λ r. ⌜ Stored (now (lefts .entry)) (at .sample) (leftsOf (evalOf s (now (ks .entry)) (now (cs .entry))) (now (ms .entry)) tol left t0 (now (p0 .entry)) t1 (now (p1 .entry))) (r .sample) (now (lefts .exit)) ⌝ }
 {
     if left == 0 {
-        return count_one(s, ks, o, t1, counts);
+        return count_sample(s, left, t1, ks, at, counts, lefts);
     }
     let ch = s.ch;
     let tm = 0.5 * (t0 + t1);
     let pm = point_at(s, ks, cs, tm);
     if is_flat(s, ms, tol, t0, p0, t1, p1, &pm[..ch], ks, cs) {
-        return count_one(s, ks, o, t1, counts);
+        return count_sample(s, left, t1, ks, at, counts, lefts);
     }
     let reached = count_walk(
         s,
@@ -154,8 +197,9 @@ pub fn count_walk(
         &pm[..ch],
         ks,
         cs,
-        o,
+        at,
         counts,
+        lefts,
     );
     count_walk(
         s,
@@ -170,6 +214,7 @@ pub fn count_walk(
         cs,
         reached,
         counts,
+        lefts,
     )
 }
 
@@ -186,7 +231,62 @@ pub fn put_point(p: &[f64], out: &mut [u64], from: usize) -> usize
     from + k
 }
 
-// Writes the points of the stretch from `from` on, and returns the place after them.
+// Writes the words of p, as one sample.
+pub fn put_sample(p: &[f64], out: &mut [u64], at: Place) -> Place
+    requires { ⌜ (at .word + length (now p) ≤ length (now out)) × (at .sample + 1 ≤ 2 ^ 60) ⌝ }
+    ensures { λ r. ⌜ Written (now (out .entry)) (at .word) (now (p .entry) ∷ []) (r .word) (now (out .exit)) × (r .sample ≡ at .sample + 1) ⌝ }
+{
+    let from = at.word;
+    let c = at.sample;
+    let word = put_point(p, out, from);
+    Place {
+        word: word,
+        sample: c + 1,
+    }
+}
+
+fn wide(b: u8) -> usize
+    ensures { λ r. ⌜ r ≡ b ⌝ }
+{
+    b as usize
+}
+
+// Whether the memory has it that the walk stopped at the sample c with `left` halvings left.
+fn is_remembered(lefts: &[u8], c: usize, left: usize) -> bool
+    ensures { λ r. ⌜ r ≡ (ltb c (length (now (lefts .entry))) && eqb (getD (now (lefts .entry)) c 0) left) ⌝ }
+{
+    if c < lefts.len() {
+        return wide(lefts[c]) == left;
+    }
+    false
+}
+
+// Whether the chord will do, asked of the curve for the samples from `reach` on alone.
+fn is_flat_from(
+    s: Shape,
+    ms: &[usize],
+    tol: f64,
+    t0: f64,
+    p0: &[f64],
+    t1: f64,
+    p1: &[f64],
+    pm: &[f64],
+    ks: &[f64],
+    cs: &[f64],
+    c: usize,
+    reach: usize,
+) -> bool
+    requires { ⌜ Stretch s (now ms) (now ks) (now cs) (now p0) (now p1) ⌝ }
+    requires { ⌜ length (now pm) ≡ s .ch ⌝ }
+    ensures { λ r. ⌜ r ≡ cond (ltb c reach) false (flat (evalOf s (now (ks .entry)) (now (cs .entry))) (now (ms .entry)) tol t0 (now (p0 .entry)) t1 (now (p1 .entry)) (now (pm .entry))) ⌝ }
+{
+    if c < reach {
+        return false;
+    }
+    is_flat(s, ms, tol, t0, p0, t1, p1, pm, ks, cs)
+}
+
+// Writes the points of the stretch, and stops where the count did.
 pub fn write_walk(
     s: Shape,
     ms: &[usize],
@@ -198,21 +298,29 @@ pub fn write_walk(
     p1: &[f64],
     ks: &[f64],
     cs: &[f64],
+    lefts: &[u8],
+    at: Place,
     out: &mut [u64],
-    from: usize,
-) -> usize
+) -> Place
     requires { ⌜ Stretch s (now ms) (now ks) (now cs) (now p0) (now p1) ⌝ }
-    requires { ⌜ from + length (encode (pointsOf (samples (evalOf s (now ks) (now cs)) (now ms) tol left t0 (now p0) t1 (now p1)))) ≤ length (now out) ⌝ }
-    ensures { λ r. ⌜ Written (now (out .entry)) from (pointsOf (samples (evalOf s (now (ks .entry)) (now (cs .entry))) (now (ms .entry)) tol left t0 (now (p0 .entry)) t1 (now (p1 .entry)))) r (now (out .exit)) ⌝ }
+    requires { ⌜ Recalls (now lefts) (at .sample) (leftsOf (evalOf s (now ks) (now cs)) (now ms) tol left t0 (now p0) t1 (now p1)) × Cursor (at .sample) left ⌝ }
+    requires { ⌜ at .word + length (encode (pointsOf (samples (evalOf s (now ks) (now cs)) (now ms) tol left t0 (now p0) t1 (now p1)))) ≤ length (now out) ⌝ }
+    ensures { λ r. ⌜ Written (now (out .entry)) (at .word) (pointsOf (samples (evalOf s (now (ks .entry)) (now (cs .entry))) (now (ms .entry)) tol left t0 (now (p0 .entry)) t1 (now (p1 .entry)))) (r .word) (now (out .exit)) ⌝ }
+    ensures { λ r. ⌜ r .sample ≡ at .sample + length (leftsOf (evalOf s (now (ks .entry)) (now (cs .entry))) (now (ms .entry)) tol left t0 (now (p0 .entry)) t1 (now (p1 .entry))) ⌝ }
 {
     if left == 0 {
-        return put_point(p1, out, from);
+        return put_sample(p1, out, at);
     }
+    let c = at.sample;
+    if is_remembered(lefts, c, left) {
+        return put_sample(p1, out, at);
+    }
+    let reach = lefts.len();
     let ch = s.ch;
     let tm = 0.5 * (t0 + t1);
     let pm = point_at(s, ks, cs, tm);
-    if is_flat(s, ms, tol, t0, p0, t1, p1, &pm[..ch], ks, cs) {
-        return put_point(p1, out, from);
+    if is_flat_from(s, ms, tol, t0, p0, t1, p1, &pm[..ch], ks, cs, c, reach) {
+        return put_sample(p1, out, at);
     }
     let mid = write_walk(
         s,
@@ -225,8 +333,9 @@ pub fn write_walk(
         &pm[..ch],
         ks,
         cs,
+        lefts,
+        at,
         out,
-        from,
     );
     write_walk(
         s,
@@ -239,7 +348,8 @@ pub fn write_walk(
         p1,
         ks,
         cs,
-        out,
+        lefts,
         mid,
+        out,
     )
 }

@@ -1,7 +1,7 @@
 -- What an emission asks and leaves, and the laws that its code cites. Assumes nothing.
 use Prim.Native.Nat.{ℕ, zero, suc, _+_, _*_, _/_, _%_, _-_, _^_, _≤_, _<_}
 use mathlib.Core.Path.{_≡_, refl, sym, _∙_, ap, ap₂}
-use mathlib.Core.Bool.{Bool, true, false, cond, not, true≢false}
+use mathlib.Core.Bool.{Bool, true, false, cond, true≢false}
 use mathlib.Core.List.{List, [], _∷_, _++_, map, append-nil}
 use mathlib.Core.Option.{Option}
 use mathlib.Core.Logic.{⊎-elim}
@@ -23,6 +23,7 @@ use Rattle.metric.specs.Below.{Below}
 use Rattle.curves.specs.declared.Shape.{Shape}
 use Rattle.curves.specs.Walks.{knotRoom, controlRoom}
 use Rattle.curves.specs.Ready.{Ready}
+use Rattle.curves.specs.Lefts.{Remembers}
 use Rattle.curves.specs.Runs.{curveRuns, encode}
 use Rattle.gather.specs.Points.{Spline, channels, channelsFrom, pointRows, startPoint, startValue, pointsFrom, metricOf, weightOf, blockAt, splineOf}
 use Rattle.gather.specs.Append.{Appended}
@@ -93,6 +94,10 @@ layoutOf axes chans basis points = record {
 pub record Drawn (motion degree n ch : ℕ) (ms : List ℕ) (pts ws : List Float) (s : Shape) (ks cs : List Float) : Type 0 where
   pub tables : 2 ≤ n → Ready motion degree n ch ms pts ws s ks cs
 
+-- the halvings of the counting are remembered, where there are two points
+pub record Recalled (n : ℕ) (s : Shape) (ms : List ℕ) (tol : Float) (pts ks cs : List Float) (lefts : List ℕ) : Type 0 where
+  pub halvings : 2 ≤ n → Remembers s ms tol pts ks cs lefts
+
 -- the samples of each point block are counted, and with them the rows
 pub record Counted (s : Spline) (f : ℕ → List ℕ) (held : ℕ) (counts : List ℕ) (total : Place) : Type 0 where
   pub known : held ≤ length counts
@@ -112,9 +117,10 @@ pub record Rooms (chans ms : List ℕ) (pts ws ks cs : List Float) (counts : Lis
   pub few : Few counts
 
 -- an emission is gathered, prepared and counted
-pub record Planned (motion degree : ℕ) (tol : Float) (axes : List ℕ) (start : ℕ) (words store : List ℕ) (held : ℕ) (chans ms : List ℕ) (pts ws ks cs : List Float) (counts : List ℕ) (p : Plan) : Type 0 where
+pub record Planned (motion degree : ℕ) (tol : Float) (axes : List ℕ) (start : ℕ) (words store : List ℕ) (held : ℕ) (chans ms : List ℕ) (pts ws ks cs : List Float) (counts lefts : List ℕ) (p : Plan) : Type 0 where
   pub gathered : Gathered (geometricOf axes) (shown start words) (upto (blockAt store) held) (p .curve) chans ms pts ws
   pub drawn : Drawn motion degree (p .curve .n) (p .curve .ch) (take (p .curve .metric) ms) pts ws (p .shape) ks cs
+  pub recalled : Recalled (p .curve .n) (p .shape) (take (p .curve .metric) ms) tol pts ks cs lefts
   pub counted : Counted (splineOf motion degree tol axes start words store held) (blockAt store) held counts (p .place)
   pub few : p .place .rows ≤ mostRows
 
@@ -496,13 +502,15 @@ module _ (motion degree : ℕ) (tol : Float) (axes : List ℕ) (start : ℕ) (wo
       ∙ ap (λ (x : List (List (List Float))). length (getD x j [])) (runs-are motion degree tol axes start words store held g chans ms pts ws ga))
       ep
 
-  pub planned-of : (ks cs : List Float) (shape : Shape) (l counts : List ℕ) (total : Place) → Drawn motion degree (g .n) (g .ch) (take (g .metric) ms) pts ws shape ks cs → 256 ≤ length counts → Few counts
+  pub planned-of : (ks cs : List Float) (shape : Shape) (l counts lefts : List ℕ) (total : Place) → Drawn motion degree (g .n) (g .ch) (take (g .metric) ms) pts ws shape ks cs
+      → Recalled (g .n) shape (take (g .metric) ms) tol pts ks cs lefts → 256 ≤ length counts → Few counts
       → counts ≡ filled (λ (i : ℕ). length (getD (curveRuns motion degree (take (g .metric) ms) tol (rowsOf pts (g .ch) (g .n)) (take (g .n) ws)) i [])) (g .n - 1) l
       → total ≡ placeTo (geometricOf axes) counts (blockAt store) held
-      → Planned motion degree tol axes start words store held chans ms pts ws ks cs counts (record { curve = g; shape = shape; place = total })
-  planned-of ks cs shape l counts total d k few e ep = record {
+      → Planned motion degree tol axes start words store held chans ms pts ws ks cs counts lefts (record { curve = g; shape = shape; place = total })
+  planned-of ks cs shape l counts lefts total d rc k few e ep = record {
     gathered = ga;
     drawn = d;
+    recalled = rc;
     counted = counted-of l counts total k e ep;
     few = rw ep (omega (arith, h .many, place-few counts few (geometricOf axes) (blockAt store) held .0));
   }

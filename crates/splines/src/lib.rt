@@ -25,7 +25,10 @@ ghost use Rattle.places.specs.Puts.{Spreads, heldWords};
 ghost use Rattle.curves.specs.Walks.{knotRoom, controlRoom};
 ghost use Rattle.curves.specs.Runs.{curveRuns, encode};
 ghost use Rattle.splines.specs.Emission.{splineGroups, putWithin};
-ghost use Rattle.splines.specs.Emits.{Holds, Gathered, Curved, Drawn, Rooms, Planned, placesOf, layoutOf, mostOwn};
+ghost use Rattle.splines.specs.Emits.{Holds, Gathered, Curved, Drawn, Recalled, Rooms, Planned, placesOf, layoutOf, mostOwn};
+
+// Samples whose halvings are remembered; beyond it the writing tests again.
+const LEFTS_ROOM: usize = 32768;
 
 // The channels, the metric's places and the points of a gathered curve, by their number.
 pub struct Curve {
@@ -91,7 +94,7 @@ fn prepare_curve(
     prepare(motion, degree, n, ch, ms, pts, ws, ks, cs)
 }
 
-// Counts the samples of each point after the start.
+// Counts the samples of each point after the start, and remembers the halvings for the writing.
 fn count_curve(
     s: Shape,
     motion: u64,
@@ -105,15 +108,31 @@ fn count_curve(
     ks: &[f64],
     cs: &[f64],
     counts: &mut [usize],
+    lefts: &mut [u8],
 )
     requires { ⌜ Drawn motion degree n ch (now ms) (now pts) (now ws) s (now ks) (now cs) ⌝ }
     requires { ⌜ n - 1 ≤ length (now counts) ⌝ }
     ensures { λ _. ⌜ now (counts .exit) ≡ filled (λ (i : ℕ). length (getD (curveRuns motion degree (now (ms .entry)) tol (rowsOf (now (pts .entry)) ch n) (take n (now (ws .entry)))) i [])) (n - 1) (now (counts .entry)) ⌝ }
+    ensures { λ _. ⌜ Recalled n s (now (ms .entry)) tol (now (pts .entry)) (now (ks .entry)) (now (cs .entry)) (now (lefts .exit)) ⌝ }
 {
     if n < 2 {
         return;
     }
-    count_runs(s, motion, degree, tol, n, ch, ms, pts, ws, ks, cs, counts);
+    count_runs(
+        s,
+        motion,
+        degree,
+        tol,
+        n,
+        ch,
+        ms,
+        pts,
+        ws,
+        ks,
+        cs,
+        counts,
+        lefts,
+    );
 }
 
 // Writes the samples of the curve, one after another.
@@ -129,16 +148,32 @@ fn write_curve(
     ws: &[f64],
     ks: &[f64],
     cs: &[f64],
+    lefts: &[u8],
     out: &mut [u64],
 )
     requires { ⌜ Drawn motion degree n ch (now ms) (now pts) (now ws) s (now ks) (now cs) ⌝ }
+    requires { ⌜ Recalled n s (now ms) tol (now pts) (now ks) (now cs) (now lefts) ⌝ }
     requires { ⌜ length (encode (flatten (curveRuns motion degree (now ms) tol (rowsOf (now pts) ch n) (take n (now ws))))) ≤ length (now out) ⌝ }
     ensures { λ _. ⌜ now (out .exit) ≡ spliced (now (out .entry)) 0 (encode (flatten (curveRuns motion degree (now (ms .entry)) tol (rowsOf (now (pts .entry)) ch n) (take n (now (ws .entry)))))) ⌝ }
 {
     if n < 2 {
         return;
     }
-    write_runs(s, motion, degree, tol, n, ch, ms, pts, ws, ks, cs, out);
+    write_runs(
+        s,
+        motion,
+        degree,
+        tol,
+        n,
+        ch,
+        ms,
+        pts,
+        ws,
+        ks,
+        cs,
+        lefts,
+        out,
+    );
 }
 
 // Spreads the samples, which stand from the first word of `rows` on, to the rows of the held blocks.
@@ -186,10 +221,11 @@ fn plan_emission(
     ks: &mut [f64],
     cs: &mut [f64],
     counts: &mut [usize],
+    lefts: &mut [u8],
 ) -> Plan
     requires { ⌜ Holds (now axes) (now words) (now store) held ⌝ }
     requires { ⌜ Rooms (now chans) (now ms) (now pts) (now ws) (now ks) (now cs) (now counts) ⌝ }
-    ensures { λ r. ⌜ Planned motion degree tol (now (axes .entry)) start (now (words .entry)) (now (store .entry)) held (now (chans .exit)) (now (ms .exit)) (now (pts .exit)) (now (ws .exit)) (now (ks .exit)) (now (cs .exit)) (now (counts .exit)) r ⌝ }
+    ensures { λ r. ⌜ Planned motion degree tol (now (axes .entry)) start (now (words .entry)) (now (store .entry)) held (now (chans .exit)) (now (ms .exit)) (now (pts .exit)) (now (ws .exit)) (now (ks .exit)) (now (cs .exit)) (now (counts .exit)) (now (lefts .exit)) r ⌝ }
 {
     let curve = gather_curve(axes, start, words, store, held, chans, ms, pts, ws);
     let m = curve.metric;
@@ -207,6 +243,7 @@ fn plan_emission(
         ks,
         cs,
         counts,
+        lefts,
     );
     let place = total(axes, store, held, counts);
     Plan {
@@ -242,6 +279,7 @@ pub fn emit_within(
     let mut ks = [0.0f64; 514];
     let mut cs = [0.0f64; 5140];
     let mut counts = [0usize; 256];
+    let mut lefts = [0u8; LEFTS_ROOM];
     let power = degree as usize;
     let plan = plan_emission(
         motion,
@@ -259,6 +297,7 @@ pub fn emit_within(
         &mut ks,
         &mut cs,
         &mut counts,
+        &mut lefts,
     );
     let curve = plan.curve;
     let place = plan.place;
@@ -281,6 +320,7 @@ pub fn emit_within(
         &ws,
         &ks,
         &cs,
+        &lefts,
         rows,
     );
     spread_curve(

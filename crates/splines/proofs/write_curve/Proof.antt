@@ -7,7 +7,7 @@ returns : tie.Need-returns
 returns c = write-none _ _ _ _ _ _ _ _ _ (c .if1 .taken)
 
 write-runs-requires : tie.Need-write-runs-requires
-write-runs-requires c κs = ((c .before .before .before .before .before .before .before .before .pre) .0 .tables (c .before .if1 .left), (c .before .before .before .before .before .before .before .before .pre) .1)
+write-runs-requires c κs = ((c .before .before .before .before .before .before .before .before .before .pre) .0 .tables (c .before .if1 .left), ((c .before .before .before .before .before .before .before .before .before .pre) .1 .0 .halvings (c .before .if1 .left), (c .before .before .before .before .before .before .before .before .before .pre) .1 .1))
 
 same-length : tie.Need-same-length
 same-length c = search needs

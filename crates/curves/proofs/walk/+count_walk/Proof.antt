@@ -1,35 +1,36 @@
-use mathlib.Core.Path.{_≡_, refl, sym, ap, _∙_}
+use mathlib.Core.Path.{sym, _∙_}
 use native.Mathlib.Omega.{arith}
 use Rattle.curves.specs.Walks.{evalOf}
 use Rattle.curves.proofs.Walking.{point-is, point-length, stretch-at, owners-of}
 use Rattle.curves.proofs.Counting.{counted-zero, counted-flat, counted-halves, counts-one, counts-half, counts-other}
+use Rattle.curves.proofs.Remembering.{stored-zero, stored-flat, stored-halves, cursor-half, cursor-other}
 use Prim.Native.Nat.{ℕ, _<_}
 use borrow.Fn.Kinds.{In}
 use borrow.Fn.PlainCycle.{Measures, is, falls, and}
 use Rattle.curves.proofs.walk.count_walk.Reads as count-walk
 use Rattle.curves.proofs.walk.count_walk.Kinds as count-walk-kinds
 use Rattle.curves.proofs.walk.+count_walk.Lts-count_walk as count-walk-lts
-use Rattle.curves.proofs.walk.count_one.Reads as count-one-reads
+use Rattle.curves.proofs.walk.count_sample.Reads as count-sample-reads
 use Rattle.curves.proofs.walk.is_flat.Reads as is-flat-reads
 use Rattle.curves.proofs.walk.point_at.Reads as point-at-reads
 use Rattle.curves.proofs.walk.+count_walk.{statement}
 use Rattle.curves.proofs.walk.+count_walk.Tie.{close}
 
-abbrev μ-count-walk : Measures 6 count-walk-kinds.ps ℕ
+abbrev μ-count-walk : Measures 7 count-walk-kinds.ps ℕ
 μ-count-walk κs a = a .1 .1 .1 .0
 
-abbrev count-walk-at : ℕ → In 6 count-walk-kinds.ps
+abbrev count-walk-at : ℕ → In 7 count-walk-kinds.ps
 count-walk-at t =
-    and 6 count-walk-kinds.ps (is 6 count-walk-kinds.ps μ-count-walk t) count-walk.Pre
+    and 7 count-walk-kinds.ps (is 7 count-walk-kinds.ps μ-count-walk t) count-walk.Pre
 
-abbrev count-walk-below : ℕ → In 6 count-walk-kinds.ps
+abbrev count-walk-below : ℕ → In 7 count-walk-kinds.ps
 count-walk-below t =
-    and 6 count-walk-kinds.ps (falls 6 count-walk-kinds.ps _<_ μ-count-walk t) count-walk.Pre
+    and 7 count-walk-kinds.ps (falls 7 count-walk-kinds.ps _<_ μ-count-walk t) count-walk.Pre
 
--- src/walk.rt:118:9
-count-walk-count-one-requires : (t : ℕ) → count-walk-lts.Need-count-one-requires (
-  count-one-reads.Asked,
-  count-one-reads.Learnt,
+-- src/walk.rt:181:9
+count-walk-count-sample-requires : (t : ℕ) → count-walk-lts.Need-count-sample-requires (
+  count-sample-reads.Asked,
+  count-sample-reads.Learnt,
   point-at-reads.Asked,
   point-at-reads.Learnt,
   is-flat-reads.Asked,
@@ -37,12 +38,12 @@ count-walk-count-one-requires : (t : ℕ) → count-walk-lts.Need-count-one-requ
   count-walk-below t,
   count-walk.Post,
 ) (count-walk-at t) count-walk.Post
-count-walk-count-one-requires t c κs = (owners-of ((c .before .before .before .before .before .before .before .before .pre .1 .0) .tables) _ ((c .before .before .before .before .before .before .before .before .pre .1 .1) .owned), counts-one (c .before .before .before .before .before .before .before .before .pre .1 .1))
+count-walk-count-sample-requires t c κs = (owners-of ((c .before .before .before .before .before .before .before .before .before .before .pre .1 .0) .tables) _ ((c .before .before .before .before .before .before .before .before .before .before .pre .1 .1 .0) .owned), (counts-one (c .before .before .before .before .before .before .before .before .before .before .pre .1 .1 .0), (c .before .before .before .before .before .before .before .before .before .before .pre .1 .1 .1)))
 
--- src/walk.rt:118:9
+-- src/walk.rt:181:9
 count-walk-same-length : (t : ℕ) → count-walk-lts.Need-same-length (
-  count-one-reads.Asked,
-  count-one-reads.Learnt,
+  count-sample-reads.Asked,
+  count-sample-reads.Learnt,
   point-at-reads.Asked,
   point-at-reads.Learnt,
   is-flat-reads.Asked,
@@ -50,12 +51,25 @@ count-walk-same-length : (t : ℕ) → count-walk-lts.Need-same-length (
   count-walk-below t,
   count-walk.Post,
 ) (count-walk-at t) count-walk.Post
-count-walk-same-length t c = (c .before .before .count-one .kept .1 .1 .1 .1 .0)
+count-walk-same-length t c = (c .before .before .before .before .count-sample .kept .1 .1 .1 .1 .1 .0)
 
--- src/walk.rt:118:9
+-- src/walk.rt:181:9
+count-walk-same-length-2 : (t : ℕ) → count-walk-lts.Need-same-length-2 (
+  count-sample-reads.Asked,
+  count-sample-reads.Learnt,
+  point-at-reads.Asked,
+  point-at-reads.Learnt,
+  is-flat-reads.Asked,
+  is-flat-reads.Learnt,
+  count-walk-below t,
+  count-walk.Post,
+) (count-walk-at t) count-walk.Post
+count-walk-same-length-2 t c = (c .before .before .before .before .count-sample .kept .1 .1 .1 .1 .1 .1 .0)
+
+-- src/walk.rt:181:9
 count-walk-returns : (t : ℕ) → count-walk-lts.Need-returns (
-  count-one-reads.Asked,
-  count-one-reads.Learnt,
+  count-sample-reads.Asked,
+  count-sample-reads.Learnt,
   point-at-reads.Asked,
   point-at-reads.Learnt,
   is-flat-reads.Asked,
@@ -63,12 +77,12 @@ count-walk-returns : (t : ℕ) → count-walk-lts.Need-returns (
   count-walk-below t,
   count-walk.Post,
 ) (count-walk-at t) count-walk.Post
-count-walk-returns t c = counted-zero (evalOf (c .before .before .before .before .before .before .before .before .before .before .before .args .s) (c .before .before .before .before .before .before .before .before .before .before .before .args .ks .now) (c .before .before .before .before .before .before .before .before .before .before .before .args .cs .now)) _ _ _ _ _ _ _ (c .before .before .before .before .if1 .taken) (c .before .before .count-one .ensures)
+count-walk-returns t c = (counted-zero (evalOf (c .before .before .before .before .before .before .before .before .before .before .before .before .before .before .before .args .s) (c .before .before .before .before .before .before .before .before .before .before .before .before .before .before .before .args .ks .now) (c .before .before .before .before .before .before .before .before .before .before .before .before .before .before .before .args .cs .now)) _ _ _ _ _ _ _ (c .before .before .before .before .before .before .before .if1 .taken) ((c .before .before .before .before .count-sample .ensures) .0), stored-zero (evalOf (c .before .before .before .before .before .before .before .before .before .before .before .before .before .before .before .args .s) (c .before .before .before .before .before .before .before .before .before .before .before .before .before .before .before .args .ks .now) (c .before .before .before .before .before .before .before .before .before .before .before .before .before .before .before .args .cs .now)) _ _ _ _ _ _ _ (c .before .before .before .before .before .before .before .if1 .taken) ((c .before .before .before .before .count-sample .ensures) .1))
 
--- src/walk.rt:122:14
+-- src/walk.rt:185:14
 count-walk-point-at-requires : (t : ℕ) → count-walk-lts.Need-point-at-requires (
-  count-one-reads.Asked,
-  count-one-reads.Learnt,
+  count-sample-reads.Asked,
+  count-sample-reads.Learnt,
   point-at-reads.Asked,
   point-at-reads.Learnt,
   is-flat-reads.Asked,
@@ -76,12 +90,12 @@ count-walk-point-at-requires : (t : ℕ) → count-walk-lts.Need-point-at-requir
   count-walk-below t,
   count-walk.Post,
 ) (count-walk-at t) count-walk.Post
-count-walk-point-at-requires t c κs = (c .before .before .before .before .before .before .before .pre .1 .0) .tables
+count-walk-point-at-requires t c κs = (c .before .before .before .before .before .before .before .before .pre .1 .0) .tables
 
--- src/walk.rt:123:44
+-- src/walk.rt:186:44
 count-walk-array-share-prefix-pm : (t : ℕ) → count-walk-lts.Need-array-share-prefix-pm (
-  count-one-reads.Asked,
-  count-one-reads.Learnt,
+  count-sample-reads.Asked,
+  count-sample-reads.Learnt,
   point-at-reads.Asked,
   point-at-reads.Learnt,
   is-flat-reads.Asked,
@@ -89,12 +103,12 @@ count-walk-array-share-prefix-pm : (t : ℕ) → count-walk-lts.Need-array-share
   count-walk-below t,
   count-walk.Post,
 ) (count-walk-at t) count-walk.Post
-count-walk-array-share-prefix-pm t c = omega (arith, (c .before .before .before .before .before .before .before .before .pre .1 .0) .tables .narrow)
+count-walk-array-share-prefix-pm t c = omega (arith, (c .before .before .before .before .before .before .before .before .before .pre .1 .0) .tables .narrow)
 
--- src/walk.rt:123:44
+-- src/walk.rt:186:44
 count-walk-slice-aggregate-is-flat : (t : ℕ) → count-walk-lts.Need-slice-aggregate-is-flat (
-  count-one-reads.Asked,
-  count-one-reads.Learnt,
+  count-sample-reads.Asked,
+  count-sample-reads.Learnt,
   point-at-reads.Asked,
   point-at-reads.Learnt,
   is-flat-reads.Asked,
@@ -104,10 +118,10 @@ count-walk-slice-aggregate-is-flat : (t : ℕ) → count-walk-lts.Need-slice-agg
 ) (count-walk-at t) count-walk.Post
 count-walk-slice-aggregate-is-flat t c = sym (point-length _ _ (c .before .point-at .ensures))
 
--- src/walk.rt:123:8
+-- src/walk.rt:186:8
 count-walk-is-flat-requires : (t : ℕ) → count-walk-lts.Need-is-flat-requires (
-  count-one-reads.Asked,
-  count-one-reads.Learnt,
+  count-sample-reads.Asked,
+  count-sample-reads.Learnt,
   point-at-reads.Asked,
   point-at-reads.Learnt,
   is-flat-reads.Asked,
@@ -115,12 +129,12 @@ count-walk-is-flat-requires : (t : ℕ) → count-walk-lts.Need-is-flat-requires
   count-walk-below t,
   count-walk.Post,
 ) (count-walk-at t) count-walk.Post
-count-walk-is-flat-requires t c κs = ((c .before .before .before .before .before .before .before .before .before .pre .1 .0), point-length _ _ (c .before .point-at .ensures))
+count-walk-is-flat-requires t c κs = ((c .before .before .before .before .before .before .before .before .before .before .pre .1 .0), point-length _ _ (c .before .point-at .ensures))
 
--- src/walk.rt:124:9
-count-walk-count-one-requires-2 : (t : ℕ) → count-walk-lts.Need-count-one-requires-2 (
-  count-one-reads.Asked,
-  count-one-reads.Learnt,
+-- src/walk.rt:187:9
+count-walk-count-sample-requires-2 : (t : ℕ) → count-walk-lts.Need-count-sample-requires-2 (
+  count-sample-reads.Asked,
+  count-sample-reads.Learnt,
   point-at-reads.Asked,
   point-at-reads.Learnt,
   is-flat-reads.Asked,
@@ -128,12 +142,12 @@ count-walk-count-one-requires-2 : (t : ℕ) → count-walk-lts.Need-count-one-re
   count-walk-below t,
   count-walk.Post,
 ) (count-walk-at t) count-walk.Post
-count-walk-count-one-requires-2 t c κs = (owners-of ((c .before .before .before .before .before .before .before .before .before .before .before .before .pre .1 .0) .tables) _ ((c .before .before .before .before .before .before .before .before .before .before .before .before .pre .1 .1) .owned), counts-one (c .before .before .before .before .before .before .before .before .before .before .before .before .pre .1 .1))
+count-walk-count-sample-requires-2 t c κs = (owners-of ((c .before .before .before .before .before .before .before .before .before .before .before .before .before .before .pre .1 .0) .tables) _ ((c .before .before .before .before .before .before .before .before .before .before .before .before .before .before .pre .1 .1 .0) .owned), (counts-one (c .before .before .before .before .before .before .before .before .before .before .before .before .before .before .pre .1 .1 .0), (c .before .before .before .before .before .before .before .before .before .before .before .before .before .before .pre .1 .1 .1)))
 
--- src/walk.rt:124:9
-count-walk-same-length-2 : (t : ℕ) → count-walk-lts.Need-same-length-2 (
-  count-one-reads.Asked,
-  count-one-reads.Learnt,
+-- src/walk.rt:187:9
+count-walk-same-length-3 : (t : ℕ) → count-walk-lts.Need-same-length-3 (
+  count-sample-reads.Asked,
+  count-sample-reads.Learnt,
   point-at-reads.Asked,
   point-at-reads.Learnt,
   is-flat-reads.Asked,
@@ -141,12 +155,25 @@ count-walk-same-length-2 : (t : ℕ) → count-walk-lts.Need-same-length-2 (
   count-walk-below t,
   count-walk.Post,
 ) (count-walk-at t) count-walk.Post
-count-walk-same-length-2 t c = (c .before .before .count-one2 .kept .1 .1 .1 .1 .0)
+count-walk-same-length-3 t c = (c .before .before .before .before .count-sample2 .kept .1 .1 .1 .1 .1 .0)
 
--- src/walk.rt:124:9
+-- src/walk.rt:187:9
+count-walk-same-length-4 : (t : ℕ) → count-walk-lts.Need-same-length-4 (
+  count-sample-reads.Asked,
+  count-sample-reads.Learnt,
+  point-at-reads.Asked,
+  point-at-reads.Learnt,
+  is-flat-reads.Asked,
+  is-flat-reads.Learnt,
+  count-walk-below t,
+  count-walk.Post,
+) (count-walk-at t) count-walk.Post
+count-walk-same-length-4 t c = (c .before .before .before .before .count-sample2 .kept .1 .1 .1 .1 .1 .1 .0)
+
+-- src/walk.rt:187:9
 count-walk-returns-2 : (t : ℕ) → count-walk-lts.Need-returns-2 (
-  count-one-reads.Asked,
-  count-one-reads.Learnt,
+  count-sample-reads.Asked,
+  count-sample-reads.Learnt,
   point-at-reads.Asked,
   point-at-reads.Learnt,
   is-flat-reads.Asked,
@@ -154,12 +181,12 @@ count-walk-returns-2 : (t : ℕ) → count-walk-lts.Need-returns-2 (
   count-walk-below t,
   count-walk.Post,
 ) (count-walk-at t) count-walk.Post
-count-walk-returns-2 t c = counted-flat (evalOf (c .before .before .before .before .before .before .before .before .before .before .before .before .before .before .before .args .s) (c .before .before .before .before .before .before .before .before .before .before .before .before .before .before .before .args .ks .now) (c .before .before .before .before .before .before .before .before .before .before .before .before .before .before .before .args .cs .now)) _ _ _ _ _ _ _ (point-is _ _ (c .before .before .before .before .before .before .before .point-at .ensures)) (c .before .before .before .before .before .is-flat .ensures) (c .before .before .before .before .if2 .taken) (c .before .before .count-one2 .ensures)
+count-walk-returns-2 t c = (counted-flat (evalOf (c .before .before .before .before .before .before .before .before .before .before .before .before .before .before .before .before .before .before .before .args .s) (c .before .before .before .before .before .before .before .before .before .before .before .before .before .before .before .before .before .before .before .args .ks .now) (c .before .before .before .before .before .before .before .before .before .before .before .before .before .before .before .before .before .before .before .args .cs .now)) _ _ _ _ _ _ _ (point-is _ _ (c .before .before .before .before .before .before .before .before .before .before .point-at .ensures)) (c .before .before .before .before .before .before .before .before .is-flat .ensures) (c .before .before .before .before .before .before .before .if2 .taken) ((c .before .before .before .before .count-sample2 .ensures) .0), stored-flat (evalOf (c .before .before .before .before .before .before .before .before .before .before .before .before .before .before .before .before .before .before .before .args .s) (c .before .before .before .before .before .before .before .before .before .before .before .before .before .before .before .before .before .before .before .args .ks .now) (c .before .before .before .before .before .before .before .before .before .before .before .before .before .before .before .before .before .before .before .args .cs .now)) _ _ _ _ _ _ _ (point-is _ _ (c .before .before .before .before .before .before .before .before .before .before .point-at .ensures)) (c .before .before .before .before .before .before .before .before .is-flat .ensures) (c .before .before .before .before .before .before .before .if2 .taken) ((c .before .before .before .before .count-sample2 .ensures) .1))
 
--- src/walk.rt:126:38
+-- src/walk.rt:193:9
 count-walk-sub-count-walk : (t : ℕ) → count-walk-lts.Need-sub-count-walk (
-  count-one-reads.Asked,
-  count-one-reads.Learnt,
+  count-sample-reads.Asked,
+  count-sample-reads.Learnt,
   point-at-reads.Asked,
   point-at-reads.Learnt,
   is-flat-reads.Asked,
@@ -169,10 +196,10 @@ count-walk-sub-count-walk : (t : ℕ) → count-walk-lts.Need-sub-count-walk (
 ) (count-walk-at t) count-walk.Post
 count-walk-sub-count-walk t c = omega (arith, (c .before .before .before .before .if1 .left))
 
--- src/walk.rt:126:60
+-- src/walk.rt:197:9
 count-walk-array-share-prefix-pm-2 : (t : ℕ) → count-walk-lts.Need-array-share-prefix-pm-2 (
-  count-one-reads.Asked,
-  count-one-reads.Learnt,
+  count-sample-reads.Asked,
+  count-sample-reads.Learnt,
   point-at-reads.Asked,
   point-at-reads.Learnt,
   is-flat-reads.Asked,
@@ -180,12 +207,12 @@ count-walk-array-share-prefix-pm-2 : (t : ℕ) → count-walk-lts.Need-array-sha
   count-walk-below t,
   count-walk.Post,
 ) (count-walk-at t) count-walk.Post
-count-walk-array-share-prefix-pm-2 t c = omega (arith, (c .before .before .before .before .before .before .before .before .before .before .before .pre .1 .0) .tables .narrow)
+count-walk-array-share-prefix-pm-2 t c = omega (arith, (c .before .before .before .before .before .before .before .before .before .before .before .before .pre .1 .0) .tables .narrow)
 
--- src/walk.rt:126:60
+-- src/walk.rt:197:9
 count-walk-slice-aggregate-count-walk : (t : ℕ) → count-walk-lts.Need-slice-aggregate-count-walk (
-  count-one-reads.Asked,
-  count-one-reads.Learnt,
+  count-sample-reads.Asked,
+  count-sample-reads.Learnt,
   point-at-reads.Asked,
   point-at-reads.Learnt,
   is-flat-reads.Asked,
@@ -195,10 +222,10 @@ count-walk-slice-aggregate-count-walk : (t : ℕ) → count-walk-lts.Need-slice-
 ) (count-walk-at t) count-walk.Post
 count-walk-slice-aggregate-count-walk t c = sym (point-length _ _ (c .before .before .before .before .point-at .ensures))
 
--- src/walk.rt:126:9
+-- src/walk.rt:189:9
 count-walk-count-walk-requires : (t : ℕ) → count-walk-lts.Need-count-walk-requires (
-  count-one-reads.Asked,
-  count-one-reads.Learnt,
+  count-sample-reads.Asked,
+  count-sample-reads.Learnt,
   point-at-reads.Asked,
   point-at-reads.Learnt,
   is-flat-reads.Asked,
@@ -206,12 +233,12 @@ count-walk-count-walk-requires : (t : ℕ) → count-walk-lts.Need-count-walk-re
   count-walk-below t,
   count-walk.Post,
 ) (count-walk-at t) count-walk.Post
-count-walk-count-walk-requires t c κs = (omega (arith, (c .before .before .before .before .before .before .if1 .left), (c .before .before .before .before .before .before .before .before .before .before .before .before .before .pre .0)), (stretch-at (c .before .before .before .before .before .before .before .before .before .before .before .before .before .pre .1 .0) ((c .before .before .before .before .before .before .before .before .before .before .before .before .before .pre .1 .0) .first) (point-length _ _ (c .before .before .before .before .before .point-at .ensures)), counts-half (c .before .before .before .before .before .before .before .before .before .before .before .before .before .pre .1 .1) (c .before .before .before .before .before .before .if1 .left)))
+count-walk-count-walk-requires t c κs = (omega (arith, (c .before .before .before .before .before .before .before .if1 .left), (c .before .before .before .before .before .before .before .before .before .before .before .before .before .before .before .pre .0)), (stretch-at (c .before .before .before .before .before .before .before .before .before .before .before .before .before .before .before .pre .1 .0) ((c .before .before .before .before .before .before .before .before .before .before .before .before .before .before .before .pre .1 .0) .first) (point-length _ _ (c .before .before .before .before .before .before .point-at .ensures)), (counts-half (c .before .before .before .before .before .before .before .before .before .before .before .before .before .before .before .pre .1 .1 .0) (c .before .before .before .before .before .before .before .if1 .left), cursor-half (c .before .before .before .before .before .before .before .before .before .before .before .before .before .before .before .pre .1 .1 .1) (c .before .before .before .before .before .before .before .if1 .left))))
 
--- src/walk.rt:127:28
+-- src/walk.rt:208:9
 count-walk-sub-count-walk-2 : (t : ℕ) → count-walk-lts.Need-sub-count-walk-2 (
-  count-one-reads.Asked,
-  count-one-reads.Learnt,
+  count-sample-reads.Asked,
+  count-sample-reads.Learnt,
   point-at-reads.Asked,
   point-at-reads.Learnt,
   is-flat-reads.Asked,
@@ -219,12 +246,12 @@ count-walk-sub-count-walk-2 : (t : ℕ) → count-walk-lts.Need-sub-count-walk-2
   count-walk-below t,
   count-walk.Post,
 ) (count-walk-at t) count-walk.Post
-count-walk-sub-count-walk-2 t c = omega (arith, (c .before .before .before .before .before .before .before .before .before .if1 .left))
+count-walk-sub-count-walk-2 t c = omega (arith, (c .before .before .before .before .before .before .before .before .before .before .before .before .if1 .left))
 
--- src/walk.rt:127:42
+-- src/walk.rt:210:9
 count-walk-array-share-prefix-pm-3 : (t : ℕ) → count-walk-lts.Need-array-share-prefix-pm-3 (
-  count-one-reads.Asked,
-  count-one-reads.Learnt,
+  count-sample-reads.Asked,
+  count-sample-reads.Learnt,
   point-at-reads.Asked,
   point-at-reads.Learnt,
   is-flat-reads.Asked,
@@ -232,13 +259,13 @@ count-walk-array-share-prefix-pm-3 : (t : ℕ) → count-walk-lts.Need-array-sha
   count-walk-below t,
   count-walk.Post,
 ) (count-walk-at t) count-walk.Post
-count-walk-array-share-prefix-pm-3 t c = omega (arith, (c .before .before .before .before .before .before .before .before .before .before .before .before .before .before .before .before .pre .1 .0) .tables .narrow)
+count-walk-array-share-prefix-pm-3 t c = omega (arith, (c .before .before .before .before .before .before .before .before .before .before .before .before .before .before .before .before .before .before .before .before .pre .1 .0) .tables .narrow)
 
--- src/walk.rt:127:42
+-- src/walk.rt:210:9
 count-walk-slice-aggregate-count-walk-2 :
     (t : ℕ) → count-walk-lts.Need-slice-aggregate-count-walk-2 (
-      count-one-reads.Asked,
-      count-one-reads.Learnt,
+      count-sample-reads.Asked,
+      count-sample-reads.Learnt,
       point-at-reads.Asked,
       point-at-reads.Learnt,
       is-flat-reads.Asked,
@@ -246,12 +273,12 @@ count-walk-slice-aggregate-count-walk-2 :
       count-walk-below t,
       count-walk.Post,
     ) (count-walk-at t) count-walk.Post
-count-walk-slice-aggregate-count-walk-2 t c = sym (point-length _ _ (c .before .before .before .before .before .before .before .before .before .point-at .ensures))
+count-walk-slice-aggregate-count-walk-2 t c = sym (point-length _ _ (c .before .before .before .before .before .before .before .before .before .before .before .before .point-at .ensures))
 
--- src/walk.rt:127:5
+-- src/walk.rt:204:5
 count-walk-count-walk-requires-2 : (t : ℕ) → count-walk-lts.Need-count-walk-requires-2 (
-  count-one-reads.Asked,
-  count-one-reads.Learnt,
+  count-sample-reads.Asked,
+  count-sample-reads.Learnt,
   point-at-reads.Asked,
   point-at-reads.Learnt,
   is-flat-reads.Asked,
@@ -259,12 +286,12 @@ count-walk-count-walk-requires-2 : (t : ℕ) → count-walk-lts.Need-count-walk-
   count-walk-below t,
   count-walk.Post,
 ) (count-walk-at t) count-walk.Post
-count-walk-count-walk-requires-2 t c κs = (omega (arith, (c .before .before .before .before .before .before .before .before .before .before .before .if1 .left), (c .before .before .before .before .before .before .before .before .before .before .before .before .before .before .before .before .before .before .pre .0)), (stretch-at (c .before .before .before .before .before .before .before .before .before .before .before .before .before .before .before .before .before .before .pre .1 .0) (point-length _ _ (c .before .before .before .before .before .before .before .before .before .before .point-at .ensures)) ((c .before .before .before .before .before .before .before .before .before .before .before .before .before .before .before .before .before .before .pre .1 .0) .end), counts-other _ (evalOf (c .before .before .before .before .before .before .before .before .before .before .before .before .before .before .before .before .before .before .args .s) (c .before .before .before .before .before .before .before .before .before .before .before .before .before .before .before .before .before .before .args .ks .now) (c .before .before .before .before .before .before .before .before .before .before .before .before .before .before .before .before .before .before .args .cs .now)) _ _ _ _ _ _ (c .before .before .before .before .before .before .before .before .before .before .before .before .before .before .before .before .before .before .pre .1 .1) (c .before .before .before .before .before .before .before .before .before .before .before .if1 .left) (c .before .before .before .before .count-walk .ensures)))
+count-walk-count-walk-requires-2 t c κs = (omega (arith, (c .before .before .before .before .before .before .before .before .before .before .before .before .before .before .before .if1 .left), (c .before .before .before .before .before .before .before .before .before .before .before .before .before .before .before .before .before .before .before .before .before .before .before .pre .0)), (stretch-at (c .before .before .before .before .before .before .before .before .before .before .before .before .before .before .before .before .before .before .before .before .before .before .before .pre .1 .0) (point-length _ _ (c .before .before .before .before .before .before .before .before .before .before .before .before .before .before .point-at .ensures)) ((c .before .before .before .before .before .before .before .before .before .before .before .before .before .before .before .before .before .before .before .before .before .before .before .pre .1 .0) .end), (counts-other _ (evalOf (c .before .before .before .before .before .before .before .before .before .before .before .before .before .before .before .before .before .before .before .before .before .before .before .args .s) (c .before .before .before .before .before .before .before .before .before .before .before .before .before .before .before .before .before .before .before .before .before .before .before .args .ks .now) (c .before .before .before .before .before .before .before .before .before .before .before .before .before .before .before .before .before .before .before .before .before .before .before .args .cs .now)) _ _ _ _ _ _ (c .before .before .before .before .before .before .before .before .before .before .before .before .before .before .before .before .before .before .before .before .before .before .before .pre .1 .1 .0) (c .before .before .before .before .before .before .before .before .before .before .before .before .before .before .before .if1 .left) ((c .before .before .before .before .before .before .before .count-walk .ensures) .0), cursor-other (evalOf (c .before .before .before .before .before .before .before .before .before .before .before .before .before .before .before .before .before .before .before .before .before .before .before .args .s) (c .before .before .before .before .before .before .before .before .before .before .before .before .before .before .before .before .before .before .before .before .before .before .before .args .ks .now) (c .before .before .before .before .before .before .before .before .before .before .before .before .before .before .before .before .before .before .before .before .before .before .before .args .cs .now)) _ _ _ _ _ _ (c .before .before .before .before .before .before .before .before .before .before .before .before .before .before .before .before .before .before .before .before .before .before .before .pre .1 .1 .1) (c .before .before .before .before .before .before .before .before .before .before .before .before .before .before .before .if1 .left) ((c .before .before .before .before .before .before .before .count-walk .ensures) .1 .end))))
 
--- src/walk.rt:99:1
-count-walk-same-length-3 : (t : ℕ) → count-walk-lts.Need-same-length-3 (
-  count-one-reads.Asked,
-  count-one-reads.Learnt,
+-- src/walk.rt:160:1
+count-walk-same-length-5 : (t : ℕ) → count-walk-lts.Need-same-length-5 (
+  count-sample-reads.Asked,
+  count-sample-reads.Learnt,
   point-at-reads.Asked,
   point-at-reads.Learnt,
   is-flat-reads.Asked,
@@ -272,12 +299,25 @@ count-walk-same-length-3 : (t : ℕ) → count-walk-lts.Need-same-length-3 (
   count-walk-below t,
   count-walk.Post,
 ) (count-walk-at t) count-walk.Post
-count-walk-same-length-3 t c = (c .before .before .count-walk2 .kept .1 .1 .1 .1 .1 .1 .1 .1 .1 .1 .1 .0) ∙ (c .before .before .before .before .before .before .before .count-walk .kept .1 .1 .1 .1 .1 .1 .1 .1 .1 .1 .1 .0)
+count-walk-same-length-5 t c = (c .before .before .before .before .count-walk2 .kept .1 .1 .1 .1 .1 .1 .1 .1 .1 .1 .1 .0) ∙ (c .before .before .before .before .before .before .before .before .before .before .before .before .count-walk .kept .1 .1 .1 .1 .1 .1 .1 .1 .1 .1 .1 .0)
 
--- src/walk.rt:99:1
+-- src/walk.rt:160:1
+count-walk-same-length-6 : (t : ℕ) → count-walk-lts.Need-same-length-6 (
+  count-sample-reads.Asked,
+  count-sample-reads.Learnt,
+  point-at-reads.Asked,
+  point-at-reads.Learnt,
+  is-flat-reads.Asked,
+  is-flat-reads.Learnt,
+  count-walk-below t,
+  count-walk.Post,
+) (count-walk-at t) count-walk.Post
+count-walk-same-length-6 t c = (c .before .before .before .before .count-walk2 .kept .1 .1 .1 .1 .1 .1 .1 .1 .1 .1 .1 .1 .0) ∙ (c .before .before .before .before .before .before .before .before .before .before .before .before .count-walk .kept .1 .1 .1 .1 .1 .1 .1 .1 .1 .1 .1 .1 .0)
+
+-- src/walk.rt:160:1
 count-walk-returns-3 : (t : ℕ) → count-walk-lts.Need-returns-3 (
-  count-one-reads.Asked,
-  count-one-reads.Learnt,
+  count-sample-reads.Asked,
+  count-sample-reads.Learnt,
   point-at-reads.Asked,
   point-at-reads.Learnt,
   is-flat-reads.Asked,
@@ -285,12 +325,12 @@ count-walk-returns-3 : (t : ℕ) → count-walk-lts.Need-returns-3 (
   count-walk-below t,
   count-walk.Post,
 ) (count-walk-at t) count-walk.Post
-count-walk-returns-3 t c = counted-halves (evalOf (c .before .before .before .before .before .before .before .before .before .before .before .before .before .before .before .before .before .before .before .before .before .args .s) (c .before .before .before .before .before .before .before .before .before .before .before .before .before .before .before .before .before .before .before .before .before .args .ks .now) (c .before .before .before .before .before .before .before .before .before .before .before .before .before .before .before .before .before .before .before .before .before .args .cs .now)) _ _ _ _ _ _ _ (c .before .before .before .before .before .before .before .before .before .before .before .before .before .before .if1 .left) (point-is _ _ (c .before .before .before .before .before .before .before .before .before .before .before .before .before .point-at .ensures)) (c .before .before .before .before .before .before .before .before .before .before .before .is-flat .ensures) (c .before .before .before .before .before .before .before .before .before .before .if2 .left) (c .before .before .before .before .before .before .before .count-walk .ensures) (c .before .before .count-walk2 .ensures)
+count-walk-returns-3 t c = (counted-halves (evalOf (c .before .before .before .before .before .before .before .before .before .before .before .before .before .before .before .before .before .before .before .before .before .before .before .before .before .before .before .before .args .s) (c .before .before .before .before .before .before .before .before .before .before .before .before .before .before .before .before .before .before .before .before .before .before .before .before .before .before .before .before .args .ks .now) (c .before .before .before .before .before .before .before .before .before .before .before .before .before .before .before .before .before .before .before .before .before .before .before .before .before .before .before .before .args .cs .now)) _ _ _ _ _ _ _ (c .before .before .before .before .before .before .before .before .before .before .before .before .before .before .before .before .before .before .before .before .if1 .left) (point-is _ _ (c .before .before .before .before .before .before .before .before .before .before .before .before .before .before .before .before .before .before .before .point-at .ensures)) (c .before .before .before .before .before .before .before .before .before .before .before .before .before .before .before .before .before .is-flat .ensures) (c .before .before .before .before .before .before .before .before .before .before .before .before .before .before .before .before .if2 .left) ((c .before .before .before .before .before .before .before .before .before .before .before .before .count-walk .ensures) .0) ((c .before .before .before .before .count-walk2 .ensures) .0), stored-halves (evalOf (c .before .before .before .before .before .before .before .before .before .before .before .before .before .before .before .before .before .before .before .before .before .before .before .before .before .before .before .before .args .s) (c .before .before .before .before .before .before .before .before .before .before .before .before .before .before .before .before .before .before .before .before .before .before .before .before .before .before .before .before .args .ks .now) (c .before .before .before .before .before .before .before .before .before .before .before .before .before .before .before .before .before .before .before .before .before .before .before .before .before .before .before .before .args .cs .now)) _ _ _ _ _ _ _ (c .before .before .before .before .before .before .before .before .before .before .before .before .before .before .before .before .before .before .before .before .if1 .left) (point-is _ _ (c .before .before .before .before .before .before .before .before .before .before .before .before .before .before .before .before .before .before .before .point-at .ensures)) (c .before .before .before .before .before .before .before .before .before .before .before .before .before .before .before .before .before .is-flat .ensures) (c .before .before .before .before .before .before .before .before .before .before .before .before .before .before .before .before .if2 .left) ((c .before .before .before .before .before .before .before .before .before .before .before .before .count-walk .ensures) .1) ((c .before .before .before .before .count-walk2 .ensures) .1))
 
 pub +count-walk-spec : {M : Type 1} → statement M
 +count-walk-spec = close μ-count-walk λ t. count-walk-lts.spec (
-  count-one-reads.Asked,
-  count-one-reads.Learnt,
+  count-sample-reads.Asked,
+  count-sample-reads.Learnt,
   point-at-reads.Asked,
   point-at-reads.Learnt,
   is-flat-reads.Asked,
@@ -300,15 +340,17 @@ pub +count-walk-spec : {M : Type 1} → statement M
 )
     (count-walk-at t)
     count-walk.Post
-    (count-walk-count-one-requires t)
+    (count-walk-count-sample-requires t)
     (count-walk-same-length t)
+    (count-walk-same-length-2 t)
     (count-walk-returns t)
     (count-walk-point-at-requires t)
     (count-walk-array-share-prefix-pm t)
     (count-walk-slice-aggregate-is-flat t)
     (count-walk-is-flat-requires t)
-    (count-walk-count-one-requires-2 t)
-    (count-walk-same-length-2 t)
+    (count-walk-count-sample-requires-2 t)
+    (count-walk-same-length-3 t)
+    (count-walk-same-length-4 t)
     (count-walk-returns-2 t)
     (count-walk-sub-count-walk t)
     (count-walk-array-share-prefix-pm-2 t)
@@ -318,5 +360,6 @@ pub +count-walk-spec : {M : Type 1} → statement M
     (count-walk-array-share-prefix-pm-3 t)
     (count-walk-slice-aggregate-count-walk-2 t)
     (count-walk-count-walk-requires-2 t)
-    (count-walk-same-length-3 t)
+    (count-walk-same-length-5 t)
+    (count-walk-same-length-6 t)
     (count-walk-returns-3 t)
