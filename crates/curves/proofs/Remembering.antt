@@ -140,8 +140,8 @@ module _ (ev : Float → List Float) (ms : List ℕ) (tol : Float) where
 
 module _ (ev : Float → List Float) (ms : List ℕ) (tol : Float) (left : ℕ) (t0 : Float) (p0 : List Float) (t1 : Float) (p1 : List Float) where
   -- remembered
-  pub stored-zero : {l : List ℕ} {c r : ℕ} {ys : List ℕ} → left ≡ 0 → (r ≡ c + 1) × (ys ≡ set l c left) → Stored l c (leftsOf ev ms tol left t0 p0 t1 p1) r ys
-  stored-zero h e = stored-one (lefts-zero ev ms tol left t0 p0 t1 p1 h) (e .0) (e .1)
+  pub stored-zero : {l : List ℕ} {c r : ℕ} {ys : List ℕ} → left ≡ 0 → (r ≡ c + 1) × (ys ≡ set l c 0) → Stored l c (leftsOf ev ms tol left t0 p0 t1 p1) r ys
+  stored-zero h e = stored-one (lefts-zero ev ms tol left t0 p0 t1 p1 h ∙ ap (λ (k : ℕ). k ∷ []) h) (e .0) (e .1)
 
   pub stored-flat : {l : List ℕ} {c r : ℕ} {ys : List ℕ} {pm : List Float} {b : Bool} → pm ≡ ev (middle t0 t1) → b ≡ flat ev ms tol t0 p0 t1 p1 pm → b ≡ true → (r ≡ c + 1) × (ys ≡ set l c left)
       → Stored l c (leftsOf ev ms tol left t0 p0 t1 p1) r ys

@@ -142,7 +142,7 @@ fn count_sample(
     lefts: &mut [u8],
 ) -> Reached
     requires { ⌜ Owners s (now ks) (at .owner) ⌝ }
-    requires { ⌜ Counts s (at .owner) 0 (now counts) × Cursor (at .sample) left ⌝ }
+    requires { ⌜ Counts s (at .owner) 0 (now counts) × ((left ≤ 20) × (at .sample + 1 ≤ 2 ^ 60)) ⌝ }
     ensures { λ r. ⌜ (r .owner ≡ ownOf s (now (ks .entry)) (at .owner) t) × (now (counts .exit) ≡ bumped (now (counts .entry)) (ownOf s (now (ks .entry)) (at .owner) t - 1)) ⌝ }
     ensures { λ r. ⌜ (r .sample ≡ at .sample + 1) × (now (lefts .exit) ≡ set (now (lefts .entry)) (at .sample) left) ⌝ }
 {
@@ -178,7 +178,7 @@ pub fn count_walk(
     ensures { λ r. ⌜ Stored (now (lefts .entry)) (at .sample) (leftsOf (evalOf s (now (ks .entry)) (now (cs .entry))) (now (ms .entry)) tol left t0 (now (p0 .entry)) t1 (now (p1 .entry))) (r .sample) (now (lefts .exit)) ⌝ }
 {
     if left == 0 {
-        return count_sample(s, left, t1, ks, at, counts, lefts);
+        return count_sample(s, 0, t1, ks, at, counts, lefts);
     }
     let ch = s.ch;
     let tm = 0.5 * (t0 + t1);

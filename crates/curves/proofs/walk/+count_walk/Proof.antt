@@ -3,7 +3,7 @@ use native.Mathlib.Omega.{arith}
 use Rattle.curves.specs.Walks.{evalOf}
 use Rattle.curves.proofs.Walking.{point-is, point-length, stretch-at, owners-of}
 use Rattle.curves.proofs.Counting.{counted-zero, counted-flat, counted-halves, counts-one, counts-half, counts-other}
-use Rattle.curves.proofs.Remembering.{stored-zero, stored-flat, stored-halves, cursor-half, cursor-other}
+use Rattle.curves.proofs.Remembering.{stored-zero, stored-flat, stored-halves, cursor-one, cursor-half, cursor-other}
 use Prim.Native.Nat.{ℕ, _<_}
 use borrow.Fn.Kinds.{In}
 use borrow.Fn.PlainCycle.{Measures, is, falls, and}
@@ -38,7 +38,7 @@ count-walk-count-sample-requires : (t : ℕ) → count-walk-lts.Need-count-sampl
   count-walk-below t,
   count-walk.Post,
 ) (count-walk-at t) count-walk.Post
-count-walk-count-sample-requires t c κs = (owners-of ((c .before .before .before .before .before .before .before .before .before .before .pre .1 .0) .tables) _ ((c .before .before .before .before .before .before .before .before .before .before .pre .1 .1 .0) .owned), (counts-one (c .before .before .before .before .before .before .before .before .before .before .pre .1 .1 .0), (c .before .before .before .before .before .before .before .before .before .before .pre .1 .1 .1)))
+count-walk-count-sample-requires t c κs = (owners-of ((c .before .before .before .before .before .before .before .before .before .before .pre .1 .0) .tables) _ ((c .before .before .before .before .before .before .before .before .before .before .pre .1 .1 .0) .owned), (counts-one (c .before .before .before .before .before .before .before .before .before .before .pre .1 .1 .0), (omega arith, cursor-one (c .before .before .before .before .before .before .before .before .before .before .pre .1 .1 .1))))
 
 -- src/walk.rt:181:9
 count-walk-same-length : (t : ℕ) → count-walk-lts.Need-same-length (
@@ -142,7 +142,7 @@ count-walk-count-sample-requires-2 : (t : ℕ) → count-walk-lts.Need-count-sam
   count-walk-below t,
   count-walk.Post,
 ) (count-walk-at t) count-walk.Post
-count-walk-count-sample-requires-2 t c κs = (owners-of ((c .before .before .before .before .before .before .before .before .before .before .before .before .before .before .pre .1 .0) .tables) _ ((c .before .before .before .before .before .before .before .before .before .before .before .before .before .before .pre .1 .1 .0) .owned), (counts-one (c .before .before .before .before .before .before .before .before .before .before .before .before .before .before .pre .1 .1 .0), (c .before .before .before .before .before .before .before .before .before .before .before .before .before .before .pre .1 .1 .1)))
+count-walk-count-sample-requires-2 t c κs = (owners-of ((c .before .before .before .before .before .before .before .before .before .before .before .before .before .before .pre .1 .0) .tables) _ ((c .before .before .before .before .before .before .before .before .before .before .before .before .before .before .pre .1 .1 .0) .owned), (counts-one (c .before .before .before .before .before .before .before .before .before .before .before .before .before .before .pre .1 .1 .0), ((c .before .before .before .before .before .before .before .before .before .before .before .before .before .before .pre .1 .1 .1) .low, cursor-one (c .before .before .before .before .before .before .before .before .before .before .before .before .before .before .pre .1 .1 .1))))
 
 -- src/walk.rt:187:9
 count-walk-same-length-3 : (t : ℕ) → count-walk-lts.Need-same-length-3 (
