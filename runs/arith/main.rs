@@ -6,6 +6,7 @@ use std::time::Instant;
 extern "C" {
     fn arith_root_bits(b: u64) -> u64;
     fn arith_root(x: f64) -> f64;
+    fn arith_root_at_most(x: f64, y: f64) -> bool;
     fn arith_ceil(x: f64) -> u64;
     fn arith_half_up(x: f64) -> u64;
     fn arith_trunc(x: f64) -> u64;
@@ -189,7 +190,7 @@ fn compare(points: u64) -> bool {
         acos.see(if a == b { 0.0 } else { ((a - b) / b).abs() }, x, 0.0);
     }
     ok &= acos.say("arc cosine", points, ACOS_BOUND, "relative error");
-    let (mut unlike, mut turned) = (0u64, 0u64);
+    let (mut unlike, mut judged, mut turned) = (0u64, 0u64, 0u64);
     for _ in 0..points {
         let b = g.any_bits();
         let r = unsafe { arith_root_bits(b) };
@@ -197,12 +198,16 @@ fn compare(points: u64) -> bool {
         let want = if x.sqrt().is_nan() { 0x7ff8 << 48 } else { x.sqrt().to_bits() };
         let f = unsafe { arith_root(x) };
         unlike += (r != want || (f.to_bits() != want && !f.is_nan())) as u64;
+        // bounds all over, and at the root itself and its neighbours
+        let y = if g.next() % 4 == 0 { f64::from_bits(g.any_bits()) } else { g.near(x.sqrt()) };
+        judged += (unsafe { arith_root_at_most(x, y) } != (x.sqrt() <= y)) as u64;
         let t = g.side() % 1e3;
         turned += (unsafe { arith_rem_euclid_tau(t) }.to_bits() != t.rem_euclid(TAU).to_bits()) as u64;
     }
     println!("root: {points} points, {unlike} unlike std's bits");
+    println!("root at most a bound: {points} points, {judged} unlike std's answer");
     println!("remainder by tau: {points} points, {turned} unlike std's bits");
-    ok &= unlike == 0 && turned == 0;
+    ok &= unlike == 0 && judged == 0 && turned == 0;
     let mut counts = [0u64; 3];
     for _ in 0..points {
         let x = g.count();
@@ -260,6 +265,11 @@ fn time() {
     unsafe {
         row("root", ns(&positive, |x| arith_root(x)), ns(&positive, |x| x.sqrt()));
         row("root, each waiting for the last", latency(2.0, |x| arith_root(x)), latency(2.0, |x| x.sqrt()));
+        row(
+            "root at most a bound",
+            ns(&positive, |x| arith_root_at_most(x, 700.0) as u64 as f64),
+            ns(&positive, |x| (x.sqrt() <= black_box(700.0)) as u64 as f64),
+        );
         row("sine", ns(&angles, |x| arith_sin(x)), ns(&angles, |x| x.sin()));
         row("cosine", ns(&angles, |x| arith_cos(x)), ns(&angles, |x| x.cos()));
         row(

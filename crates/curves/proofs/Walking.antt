@@ -11,7 +11,6 @@ use lib.Ieee.{Float, lt}
 use Rattle.floats.specs.Numbers.{_⊕_, _⊖_, _⊗_, f0, f¼, f¾}
 use Rattle.floats.specs.Lists.{upto, filled}
 use Rattle.floats.specs.Fill.{length-upto, length-filled, upto-same}
-use Rattle.metric.specs.Metric.{deviationOf}
 use Rattle.metric.specs.Walk.{near, flat}
 use Rattle.fit.specs.Memory.{fitAt}
 use Rattle.basis.specs.Tables.{curveAt, advanced, grevilleAt}
@@ -37,10 +36,6 @@ module _ (s : Shape) (ks cs : List Float) (t : Float) (l : List Float) {r : List
   pub fit-point : s .basis ≡ false → r ≡ filled (fitAt (fitTimes ks) (fitPoints cs) (fitSlopes cs) (s .size) (s .ch) t) (s .ch) l → r ≡ filled (pointAt s ks cs t) (s .ch) l
   unfolding pointAt
   fit-point e h = h ∙ ap (λ (z : List Float). z ++ drop (s .ch) l) (upto-same _ _ (λ c. rw e) (s .ch))
-
-pub near-is : (ms : List ℕ) (tol : Float) (p0 p1 p : List Float) {r : Float} → r ≡ deviationOf p p0 p1 ms → Ieee.le r tol ≡ near ms tol p0 p1 p
-unfolding near
-near-is ms tol p0 p1 p e = rw e
 
 module _ (ev : Float → List Float) (ms : List ℕ) (tol t0 : Float) (p0 : List Float) (t1 : Float) (p1 pm : List Float) where
   pub flat-no : {a : Bool} → a ≡ near ms tol p0 p1 pm → a ≡ false → false ≡ flat ev ms tol t0 p0 t1 p1 pm

@@ -7,6 +7,7 @@ use crate::sizes::CONTROL_ROOM;
 use crate::sizes::FIT_SLOPES;
 use crate::sizes::FIT_TIMES;
 use crate::sizes::KNOT_ROOM;
+use metric::is_near;
 ghost use mathlib.Core.Path.{_≡_};
 ghost use mathlib.Core.List.{[], _∷_};
 ghost use Prim.Native.Nat.{_≤_, _<_, _+_, _-_, _^_};
@@ -15,7 +16,6 @@ ghost use lib.Dec.{ltb, eqb};
 ghost use lib.ListN.{length, getD, set, replicate};
 ghost use Rattle.floats.specs.Numbers.{f0, at};
 ghost use Rattle.floats.specs.Lists.{filled};
-ghost use Rattle.metric.specs.Below.{Below};
 ghost use Rattle.metric.specs.Walk.{near, flat, samples, middle};
 ghost use Rattle.curves.specs.Runs.{encode};
 ghost use Rattle.curves.specs.Walks.{pointAt, evalOf, ownOf, Tables, Stretch, Owners, bumped, Counted, Counts, pointsOf, Written};
@@ -41,14 +41,6 @@ pub fn point_at(s: Shape, ks: &[f64], cs: &[f64], t: f64) -> [f64; 16]
         ch,
         t,
     )
-}
-
-fn is_near(ms: &[usize], tol: f64, p0: &[f64], p1: &[f64], p: &[f64]) -> bool
-    requires { ⌜ Below (now ms) (length (now p0)) ⌝ }
-    requires { ⌜ (length (now p0) ≤ length (now p1)) × (length (now p0) ≤ length (now p)) ⌝ }
-    ensures { λ r. ⌜ r ≡ near (now (ms .entry)) tol (now (p0 .entry)) (now (p1 .entry)) (now (p .entry)) ⌝ }
-{
-    metric::deviation(p, p0, p1, ms) <= tol
 }
 
 // Whether the curve's point at t is near the chord.

@@ -5,12 +5,13 @@ use Prim.Native.Nat.{ℕ, _+_}
 use native.Mathlib.Numerals.{add-one}
 use lib.ListN.{getD}
 use lib.Ieee.{Float}
-use Rattle.root.specs.Root.{root}
+use Rattle.root.specs.Root.{sqrt}
 use Rattle.floats.specs.Numbers.{_⊕_, _⊖_, _⊗_, _⊘_, f0, f1, heldIn, at}
 use mathlib.Core.Bool.{true, false}
 use lib.ListN.{length}
-use lib.Ieee.{lt}
+use lib.Ieee.{binary64, le, lt}
 use Rattle.metric.specs.Metric.{lenTo, dotTo, distTo, miss, along, deviationOf}
+use Rattle.metric.specs.Walk.{near}
 
 module _ (a b : List Float) (ms : List ℕ) (k : ℕ) where
   pub len-more : {s : Float} → s ≡ lenTo a b ms k
@@ -38,6 +39,9 @@ module _ (p a b : List Float) (ms : List ℕ) {k : ℕ} {d l : Float} (e : k ≡
   unfolding along
   along-no h = rw (← e, ← hl, h)
 
-pub deviation-is : (p a b : List Float) (ms : List ℕ) {k : ℕ} {s t : Float} → k ≡ length ms → t ≡ along p a b ms → s ≡ distTo p a b ms t k → root s ≡ deviationOf p a b ms
-unfolding deviationOf
+pub deviation-is : (p a b : List Float) (ms : List ℕ) {k : ℕ} {s t : Float} → k ≡ length ms → t ≡ along p a b ms → s ≡ distTo p a b ms t k → s ≡ distTo p a b ms (along p a b ms) (length ms)
 deviation-is p a b ms e ht hs = rw (hs, ht, e)
+
+pub near-is : (ms : List ℕ) (tol : Float) (a b p : List Float) {s : Float} → s ≡ distTo p a b ms (along p a b ms) (length ms) → le (sqrt binary64 s) tol ≡ near ms tol a b p
+unfolding near deviationOf
+near-is ms tol a b p e = rw e

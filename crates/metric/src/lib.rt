@@ -1,11 +1,13 @@
 // Distances and chord lengths over the metric's channels `ms`.
+use root::at_most::root_at_most;
 ghost use mathlib.Core.Path.{_≡_};
 ghost use Prim.Native.Nat.{_≤_, _<_, _*_};
 ghost use lib.ListN.{length};
 ghost use Rattle.floats.specs.Numbers.{f0, f1, heldIn};
 ghost use Rattle.floats.specs.Lists.{filled, rowsOf};
 ghost use Rattle.metric.specs.Below.{Below};
-ghost use Rattle.metric.specs.Metric.{lenTo, along, deviationOf, chordTo};
+ghost use Rattle.metric.specs.Metric.{lenTo, along, distTo, chordTo};
+ghost use Rattle.metric.specs.Walk.{near};
 
 // The squared distance of a and b.
 pub fn gap2(a: &[f64], b: &[f64], ms: &[usize]) -> f64
@@ -56,11 +58,11 @@ pub fn foot(p: &[f64], a: &[f64], b: &[f64], ms: &[usize]) -> f64
     if len2 > 0.0 { clamp(dot / len2) } else { 0.0 }
 }
 
-// The distance of p from the chord from a to b.
-pub fn deviation(p: &[f64], a: &[f64], b: &[f64], ms: &[usize]) -> f64
+// The squared distance of p from the chord from a to b.
+fn deviation2(p: &[f64], a: &[f64], b: &[f64], ms: &[usize]) -> f64
     requires { ⌜ Below (now ms) (length (now a)) ⌝ }
     requires { ⌜ (length (now a) ≤ length (now b)) × (length (now a) ≤ length (now p)) ⌝ }
-    ensures { λ r. ⌜ r ≡ deviationOf (now (p .entry)) (now (a .entry)) (now (b .entry)) (now (ms .entry)) ⌝ }
+    ensures { λ r. ⌜ r ≡ distTo (now (p .entry)) (now (a .entry)) (now (b .entry)) (now (ms .entry)) (along (now (p .entry)) (now (a .entry)) (now (b .entry)) (now (ms .entry))) (length (now (ms .entry))) ⌝ }
 {
     let t = foot(p, a, b, ms);
     let mut sum = 0.0;
@@ -71,7 +73,16 @@ pub fn deviation(p: &[f64], a: &[f64], b: &[f64], ms: &[usize]) -> f64
         sum = sum + m * m;
         k += 1;
     }
-    root::root(sum)
+    sum
+}
+
+// Whether the `deviation` of p from the chord from a to b is within the tolerance: its root is not taken.
+pub fn is_near(ms: &[usize], tol: f64, a: &[f64], b: &[f64], p: &[f64]) -> bool
+    requires { ⌜ Below (now ms) (length (now a)) ⌝ }
+    requires { ⌜ (length (now a) ≤ length (now b)) × (length (now a) ≤ length (now p)) ⌝ }
+    ensures { λ r. ⌜ r ≡ near (now (ms .entry)) tol (now (a .entry)) (now (b .entry)) (now (p .entry)) ⌝ }
+{
+    root_at_most(deviation2(p, a, b, ms), tol)
 }
 
 // The chord lengths summed along the first n points, of ch numbers each.

@@ -44,7 +44,7 @@ nearest-is M (suc q) Ordering·lt p a b c = record { above = omega (arith, squar
 nearest-is M q Ordering·eq p a b c = absurd (omega (arith, square-of-half q))
 nearest-is M q Ordering·gt p a b c = record { above = omega arith; below = omega (arith, square-of-half q, square-of-suc q) }
 
-apart : (r s : ℕ) → r < s → r * r + r + s ≤ s * s
+pub apart : (r s : ℕ) → r < s → r * r + r + s ≤ s * s
 apart r s h = omega (arith, mul-le-mul-right s h, suc-mul r s, mul-le-mul-left r h, mul-suc r r)
 
 less : (M r s : ℕ) → r < s → Nearest M r → Nearest M s → ⊥

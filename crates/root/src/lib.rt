@@ -3,6 +3,8 @@
 // The result is nearly always the nearest, which is checked exactly. The check is a branch, so that a
 // caller need not wait for it. Where it refuses, the next number is tried, and then a digit at a time.
 // So no proof rests on how good the guess is.
+pub mod at_most;
+
 ghost use mathlib.Core.Path.{_≡_};
 ghost use mathlib.Core.Bool.{false};
 ghost use mathlib.Core.Logic.{_⊎_};
@@ -10,6 +12,7 @@ ghost use Prim.Native.Nat.{ℕ, _+_, _-_, _*_, _/_, _%_, _^_, _≤_, _<_};
 ghost use lib.Ieee as Ieee;
 ghost use lib.Ieee.{binary64};
 ghost use Rattle.root.specs.Root.{Nearest, sqrt};
+ghost use Rattle.root.specs.Digits as Digits;
 
 // with 31 digits below the point
 const ONE: u64 = 0x8000_0000;
@@ -410,15 +413,20 @@ fn near(m: u64, g: u64, base: u64) -> u64
     base + by_digits(m)
 }
 
+// The digits of a pattern as its root takes them.
+fn taken(b: u64) -> u64
+    ensures { λ r. ⌜ r ≡ Digits.taken b ⌝ }
+{
+    let f = b % 0x10_0000_0000_0000 + 0x10_0000_0000_0000;
+    if (b >> 52) % 2 == 0 { f * 2 } else { f }
+}
+
 // The bits of the root of the number, above 0, finite and not subnormal, whose bits are b.
 fn of_normal(b: u64) -> u64
     requires { ⌜ (2 ^ 52 ≤ b) × (b < 2047 * 2 ^ 52) ⌝ }
     ensures { λ r. ⌜ r ≡ Ieee.toBits binary64 (sqrt binary64 (Ieee.ofBits binary64 b)) ⌝ }
 {
-    let e = b >> 52;
-    let f = b % 0x10_0000_0000_0000 + 0x10_0000_0000_0000;
-    let m = if e % 2 == 0 { f * 2 } else { f };
-    near(m, b, (e + 1021) / 2 * 0x10_0000_0000_0000)
+    near(taken(b), b, ((b >> 52) + 1021) / 2 * 0x10_0000_0000_0000)
 }
 
 // The bits of the root of b times the smallest number above 0, for a b that is subnormal. That is

@@ -6,7 +6,7 @@ use Rattle.curves.proofs.walk.is_flat.Statement.{statement}
 use Rattle.curves.proofs.walk.is_flat.Tie as tie
 use Rattle.curves.proofs.walk.is_flat.Reads as reads
 use Rattle.curves.proofs.walk.is_flat.Lts as lts
-use Rattle.curves.proofs.walk.is_near.Reads as is-near-reads
+use Rattle.metric.proofs.is_near.Reads as is-near-reads
 use Rattle.curves.proofs.walk.near_at.Reads as near-at-reads
 
 -- src/walk.rt:64:8

@@ -7,7 +7,7 @@ use Rattle.curves.proofs.walk.near_at.Statement.{statement}
 use Rattle.curves.proofs.walk.near_at.Tie as tie
 use Rattle.curves.proofs.walk.near_at.Reads as reads
 use Rattle.curves.proofs.walk.near_at.Lts as lts
-use Rattle.curves.proofs.walk.is_near.Reads as is-near-reads
+use Rattle.metric.proofs.is_near.Reads as is-near-reads
 use Rattle.curves.proofs.walk.point_at.Reads as point-at-reads
 
 -- src/walk.rt:43:13

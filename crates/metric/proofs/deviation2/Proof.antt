@@ -2,12 +2,11 @@ use mathlib.Core.Path.{_≡_, refl, _∙_}
 use Prim.Native.Nat.{_≤_, _-_, _<_}
 use native.Mathlib.Omega.{arith}
 use lib.ListN.{length, getD}
-use Rattle.root.specs.Root.{root}
 use Rattle.metric.specs.Below.{Below}
 use Rattle.metric.specs.Metric.{distTo}
 use Rattle.metric.proofs.Sums.{dist-more, deviation-is}
-use Rattle.metric.proofs.deviation.Statement.{statement}
-use Rattle.metric.proofs.deviation.Tie as tie
+use Rattle.metric.proofs.deviation2.Statement.{statement}
+use Rattle.metric.proofs.deviation2.Tie as tie
 
 abbrev Inv-loop : tie.InvT-loop
 Inv-loop p a b ms t sum₀ k₀ sum k = (k ≤ length ms) × (sum ≡ distTo p a b ms t k)
@@ -68,16 +67,13 @@ loop-again c =
     let inv = c .before .before .before .before .before .before .loop .inv in
     (omega arith, dist-more _ _ _ _ _ _ (inv .1))
 
-root-requires : tie.Need-root-requires Inv-loop μ-loop
-root-requires c κs = tt
-
 returns : tie.Need-returns Inv-loop μ-loop
 returns c =
-    let at-loop = c .before .before in
-    c .root .ensures ∙ deviation-is _ _ _ _ (omega arith) (at-loop .before .foot .ensures) (at-loop .loop .inv .1)
+    let at-loop = c .before in
+    deviation-is _ _ _ _ (omega arith) (at-loop .before .foot .ensures) (at-loop .loop .inv .1)
 
-pub deviation-spec : {M : Type 1} → statement M
-deviation-spec =
+pub deviation2-spec : {M : Type 1} → statement M
+deviation2-spec =
     tie.close
     (tie.spec
     Inv-loop
@@ -97,5 +93,4 @@ deviation-spec =
     add-k
     loop-less
     loop-again
-    root-requires
     returns)
