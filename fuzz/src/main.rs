@@ -1,9 +1,9 @@
 //! `fuzz N [SEED]`: N random or damaged states, stores and rows thrown at the four exported calls.
 //!
 //! All lent memory stands between canary words. After each call the number, the state, the store, the row places
-//! beyond those written, and every canary are held against the model; a reply of 7 is asked again with one place
-//! too few and with just enough. An emission whose tolerance is tiny against its numbers would run for minutes, as
-//! document 01 lets it: such a call is not made, and is counted.
+//! beyond those written, and every canary are held against the model; a reply of 7 is asked again with one place or
+//! one word too few and with just enough. An emission whose tolerance is tiny against its numbers would run for
+//! minutes, as document 01 lets it: such a call is not made, and is counted.
 
 mod model;
 
@@ -202,10 +202,13 @@ fn ask_again(case: &Case, reply: &Reply, tally: &mut Tally) {
     if reply.count > MOST_ROWS {
         return;
     }
-    let with = |places: u64| Case { row_words: places as usize * ROW, ..case.clone() };
-    let (few, ..) = run(&with(reply.count - 1));
-    must(few == *reply, "one place too few, and another reply", case, &few);
-    let (enough, ..) = run(&with(reply.count));
+    let with = |row_words: usize| Case { row_words, ..case.clone() };
+    let needed = reply.count as usize * ROW;
+    for row_words in [needed - ROW, needed - 1] {
+        let (few, ..) = run(&with(row_words));
+        must(few == *reply, "one place or word too few, and another reply", case, &few);
+    }
+    let (enough, ..) = run(&with(needed));
     must(enough.code == 0 && enough.count == reply.count, "as many places as asked for, and no rows", case, &enough);
     tally.asked_again += 1;
 }
@@ -413,6 +416,28 @@ fn clamped_arc(tally: &mut Tally) {
     must(reply.wanted.abs_diff(wanted) <= 1, &format!("wanted is not {wanted}"), &case, &reply);
 }
 
+/// Stores at the bounds of 6 and 8 by the word, where the replay program lends whole blocks: one word too few for the
+/// held blocks, just enough, one word too few for a block more, and room for it.
+fn store_bounds(rng: &mut Rng, tally: &mut Tally) {
+    for held in [1, 2, 3, 254, 255, 256] {
+        let mut state = good_state(rng, held);
+        (state[0], state[17]) = (100f64.to_bits(), 5 + held % 3);
+        let kept = held as usize * ROW;
+        let one_more = if held < 256 { 0 } else { 6 };
+        let bounds = [(kept - 1, 8, 8), (kept, 6, 0), (kept + ROW - 1, 6, 0), (kept + ROW, one_more, 0)];
+        for (words, block, close) in bounds {
+            let mut store = good_store(rng, held, state[17]);
+            store.resize(words, 7);
+            for (call, code) in [(Call::Push(good_row(rng, 0)), block), (Call::Close, close)] {
+                let case = Case { call, state: state.clone(), store: store.clone(), row_words: 3000 * ROW };
+                check(&case, tally);
+                let (reply, ..) = run(&case);
+                must(reply.code == code, &format!("the number is not {code}"), &case, &reply);
+            }
+        }
+    }
+}
+
 /// Every length of state, row and store from 0 to 64, on valid words.
 fn every_length(rng: &mut Rng, tally: &mut Tally) {
     for length in 0..=64usize {
@@ -440,6 +465,7 @@ fn main() {
     let mut tally = Tally::default();
     every_length(&mut rng, &mut tally);
     clamped_arc(&mut tally);
+    store_bounds(&mut rng, &mut tally);
     for _ in 0..count {
         let case = any_case(&mut rng);
         check(&case, &mut tally);
