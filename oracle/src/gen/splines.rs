@@ -64,14 +64,7 @@ impl Gen {
 
     pub fn spline_cells(&mut self, block: &mut Block, motion: u64) {
         if self.rng.one_in(if motion == 6 { 4 } else { 20 }) {
-            let weight = match self.rng.below(8) {
-                0 => 0.0,
-                1 => -2.0,
-                2 => 1e-4,
-                3 => self.rng.power(-5.0, 9.0),
-                4 => 1.0,
-                _ => self.rng.between(0.2, 5.0),
-            };
+            let weight = self.weight();
             block.set(PW, weight);
         }
         if self.rng.one_in(30) {
@@ -80,6 +73,17 @@ impl Gen {
         }
         if self.rng.one_in(40) {
             self.degree_cell(block, 12);
+        }
+    }
+
+    pub fn weight(&mut self) -> f64 {
+        match self.rng.below(8) {
+            0 => 0.0,
+            1 => -2.0,
+            2 => 1e-4,
+            3 => self.rng.power(-5.0, 9.0),
+            4 => 1.0,
+            _ => self.rng.between(0.2, 5.0),
         }
     }
 
