@@ -113,15 +113,9 @@ impl Gen {
             } else {
                 self.move_point(&mut at, shape, i);
             }
-            // Every axis is programmed at some time, and every block has a point.
-            let (last, mut any) = (i + 1 == blocks, false);
-            for (c, &k) in axes.iter().enumerate() {
-                let due = last && unused.contains(&k) || !any && c + 1 == axes.len();
-                if due || !self.rng.one_in(5) {
-                    block.set(k, at[c]);
-                    any = true;
-                }
-            }
+            // Every axis is programmed at some time.
+            let due: &[usize] = if i + 1 == blocks { &unused } else { &[] };
+            self.program(&mut block, &axes, &at, due);
             unused.retain(|&k| !block.has(k));
             if weights > 0 && self.rng.one_in(weights) {
                 let weight = self.weight();
@@ -132,6 +126,16 @@ impl Gen {
                 block.set(SD, degree as f64);
             }
             self.push(block);
+        }
+    }
+
+    /// Puts most axes of the point into the block: those that are due, and at least one.
+    fn program(&mut self, block: &mut Block, axes: &[usize], at: &[f64], due: &[usize]) {
+        for (c, (&k, &x)) in axes.iter().zip(at).enumerate() {
+            let only = c + 1 == axes.len() && block.0[PRESENT] == 0;
+            if only || due.contains(&k) || !self.rng.one_in(5) {
+                block.set(k, x);
+            }
         }
     }
 
