@@ -101,34 +101,47 @@ struct Lent {
     rows: Vec<u64>,
 }
 
-fn library(work: &Work, lent: &mut Lent) -> u64 {
+// Each call gets pointers and lengths of live vectors.
+
+fn start(tolerance: f64, lent: &mut Lent) -> Reply {
+    let state = &mut lent.state;
+    unsafe { flat_start(state.as_mut_ptr(), state.len(), tolerance.to_bits(), AXES.as_ptr(), AXES.len()) }
+}
+
+fn push(row: &RowWords, lent: &mut Lent) -> Reply {
     let (state, store, rows) = (&mut lent.state, &mut lent.store, &mut lent.rows);
-    let mut count = 0;
-    // Pointers and lengths of live vectors.
     unsafe {
-        let reply = flat_start(state.as_mut_ptr(), state.len(), work.tolerance.to_bits(), AXES.as_ptr(), AXES.len());
-        assert_eq!(reply.code, 0);
-        for row in &work.blocks {
-            let reply = flat_push(
-                state.as_mut_ptr(),
-                state.len(),
-                store.as_mut_ptr(),
-                store.len(),
-                rows.as_mut_ptr(),
-                rows.len(),
-                row.as_ptr(),
-                row.len(),
-            );
-            assert_eq!((reply.code, reply.warning, reply.wanted, reply.held), (0, 0, 0, 0), "{}", work.name);
-            count += reply.count;
-            black_box(&rows);
-        }
-        let reply =
-            flat_close(state.as_mut_ptr(), state.len(), store.as_ptr(), store.len(), rows.as_mut_ptr(), rows.len());
-        assert_eq!(reply.code, 0);
-        black_box(&rows);
-        count + reply.count
+        flat_push(
+            state.as_mut_ptr(),
+            state.len(),
+            store.as_mut_ptr(),
+            store.len(),
+            rows.as_mut_ptr(),
+            rows.len(),
+            row.as_ptr(),
+            row.len(),
+        )
     }
+}
+
+fn close(lent: &mut Lent) -> Reply {
+    let (state, store, rows) = (&mut lent.state, &lent.store, &mut lent.rows);
+    unsafe { flat_close(state.as_mut_ptr(), state.len(), store.as_ptr(), store.len(), rows.as_mut_ptr(), rows.len()) }
+}
+
+fn library(work: &Work, lent: &mut Lent) -> u64 {
+    let mut count = 0;
+    assert_eq!(start(work.tolerance, lent).code, 0);
+    for row in &work.blocks {
+        let reply = push(row, lent);
+        assert_eq!((reply.code, reply.warning, reply.wanted, reply.held), (0, 0, 0, 0), "{}", work.name);
+        count += reply.count;
+        black_box(&lent.rows);
+    }
+    let reply = close(lent);
+    assert_eq!(reply.code, 0);
+    black_box(&lent.rows);
+    count + reply.count
 }
 
 fn unchanged(tolerance: f64, blocks: Vec<Row>) -> u64 {
@@ -154,6 +167,7 @@ fn rust_blocks(work: &Work) -> Vec<Row> {
 
 const ROUNDS: usize = 5;
 const ROUND_SECONDS: f64 = 0.02;
+const CHECKS: u64 = 1000;
 
 /// Rows per second of one round, which repeats until it is long enough to time.
 fn round(mut once: impl FnMut() -> (u64, f64)) -> f64 {
@@ -185,6 +199,30 @@ fn measure(work: &Work, lent: &mut Lent) {
     }
     let same = if rows == rust_rows { "" } else { " (counts differ)" };
     println!("| {} | {rows}{same} | {:.3e} | {:.3e} | {:.2} |", work.name, theirs, ours, ours / theirs);
+}
+
+/// What a push spends on checking what it is handed, with so many blocks held: a row with a mark is refused, with 4,
+/// after the state and the held rows have been checked, and nothing else is done.
+fn measure_checks(held: usize, lent: &mut Lent) {
+    assert_eq!(start(0.1, lent).code, 0);
+    for i in 0..held {
+        let motion = if i == 0 { 5 } else { 0 };
+        assert_eq!(push(&block(motion, &[(0, i as f64), (1, 0.5), (2, 1.0)]), lent).code, 0);
+    }
+    let mut marked = block(0, &[]);
+    marked[MARK] = 1;
+    let mut best = 0f64;
+    for _ in 0..ROUNDS {
+        best = best.max(round(|| {
+            timed(|| {
+                for _ in 0..CHECKS {
+                    assert_eq!(push(black_box(&marked), lent).code, 4);
+                }
+                CHECKS
+            })
+        }));
+    }
+    println!("| {held} | {:.0} |", 1e9 / best);
 }
 
 // ---- the work
@@ -272,4 +310,8 @@ fn main() {
         }
     }
     measure(&mixed(), &mut lent);
+    println!("\n| blocks held | ns to check state and held rows |\n|---|---|");
+    for held in [0, 16, 64, MOST_HELD] {
+        measure_checks(held, &mut lent);
+    }
 }
