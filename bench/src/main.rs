@@ -10,6 +10,8 @@ mod errors;
 mod flatten;
 #[path = "../../oracle/src/output.rs"]
 mod output;
+#[path = "../../hosts/rust/src/raw.rs"]
+mod raw;
 #[path = "../../oracle/src/rust.rs"]
 mod rust;
 #[path = "../../oracle/src/state.rs"]
@@ -20,17 +22,9 @@ mod types;
 mod words;
 
 use output::Row;
+use raw::{flat_close, flat_push, flat_start, Reply};
 use std::hint::black_box;
 use words::*;
-
-#[repr(C)]
-struct Reply {
-    code: u64,
-    count: u64,
-    warning: u64,
-    wanted: u64,
-    held: u64,
-}
 
 #[repr(C)]
 #[derive(Default)]
@@ -40,25 +34,6 @@ struct Time {
 }
 
 extern "C" {
-    fn flat_start(state: *mut u64, words: usize, tolerance: u64, axes: *const u64, count: usize) -> Reply;
-    fn flat_push(
-        state: *mut u64,
-        words: usize,
-        store: *mut u64,
-        store_words: usize,
-        rows: *mut u64,
-        row_words: usize,
-        row: *const u64,
-        this_row_words: usize,
-    ) -> Reply;
-    fn flat_close(
-        state: *mut u64,
-        words: usize,
-        store: *const u64,
-        store_words: usize,
-        rows: *mut u64,
-        row_words: usize,
-    ) -> Reply;
     fn clock_gettime(clock: i32, time: *mut Time) -> i32;
 }
 

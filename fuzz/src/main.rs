@@ -6,31 +6,11 @@
 //! minutes, as document 01 lets it: such a call is not made, and is counted.
 
 mod model;
+#[path = "../../hosts/rust/src/raw.rs"]
+mod raw;
 
-use model::{Expected, Reply, ROW, STATE};
-
-extern "C" {
-    fn flat_start(state: *mut u64, words: usize, tolerance: u64, axes: *const u64, count: usize) -> Reply;
-    fn flat_seed(state: *mut u64, words: usize, axis: u64, value: u64) -> Reply;
-    fn flat_push(
-        state: *mut u64,
-        words: usize,
-        store: *mut u64,
-        store_words: usize,
-        rows: *mut u64,
-        row_words: usize,
-        row: *const u64,
-        this_row_words: usize,
-    ) -> Reply;
-    fn flat_close(
-        state: *mut u64,
-        words: usize,
-        store: *const u64,
-        store_words: usize,
-        rows: *mut u64,
-        row_words: usize,
-    ) -> Reply;
-}
+use model::{Expected, ROW, STATE};
+use raw::{flat_close, flat_push, flat_seed, flat_start, Reply};
 
 struct Rng(u64);
 

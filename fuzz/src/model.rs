@@ -1,17 +1,6 @@
 //! What document 01 says of the four calls, without any curve: the reply's number, what the words are afterwards,
 //! and bounds on the row count. Written from the document, apart from the oracle's own reading of it.
 
-/// The reply of docs/INTERFACE.md.
-#[repr(C)]
-#[derive(Clone, Copy, Debug, PartialEq)]
-pub struct Reply {
-    pub code: u64,
-    pub count: u64,
-    pub warning: u64,
-    pub wanted: u64,
-    pub held: u64,
-}
-
 /// What a call may answer. `rows` are the least and the most that it can need; the words are those it leaves.
 #[derive(Clone)]
 pub struct Expected {

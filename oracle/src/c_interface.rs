@@ -5,23 +5,17 @@ mod errors;
 #[path = "../../docs/src/src/flatten.rs"]
 mod flatten;
 mod output;
+#[path = "../../hosts/rust/src/raw.rs"]
+mod raw;
 mod rust;
 mod state;
 mod types;
 mod words;
 
 use output::Row;
+use raw::Reply;
 use rust::Said;
 use words::*;
-
-#[repr(C)]
-pub struct Reply {
-    code: u64,
-    count: u64,
-    warning: u64,
-    wanted: u64,
-    held: u64,
-}
 
 fn reply(code: u64, count: usize, said: Said) -> Reply {
     Reply { code, count: count as u64, warning: said.warning, wanted: said.wanted, held: said.held }

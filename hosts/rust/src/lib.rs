@@ -1,40 +1,6 @@
 //! A safe Rust host: the flattener behind the C interface of docs/INTERFACE.md, with its memory.
 
-mod calls {
-    /// The reply as C returns it.
-    #[repr(C)]
-    #[derive(Clone, Copy, Debug, PartialEq)]
-    pub struct Reply {
-        pub code: u64,
-        pub count: u64,
-        pub warning: u64,
-        pub wanted: u64,
-        pub held: u64,
-    }
-
-    extern "C" {
-        pub fn flat_start(state: *mut u64, words: usize, tolerance: u64, axes: *const u64, count: usize) -> Reply;
-        pub fn flat_seed(state: *mut u64, words: usize, axis: u64, value: u64) -> Reply;
-        pub fn flat_push(
-            state: *mut u64,
-            words: usize,
-            store: *mut u64,
-            store_words: usize,
-            rows: *mut u64,
-            row_words: usize,
-            row: *const u64,
-            this_row_words: usize,
-        ) -> Reply;
-        pub fn flat_close(
-            state: *mut u64,
-            words: usize,
-            store: *const u64,
-            store_words: usize,
-            rows: *mut u64,
-            row_words: usize,
-        ) -> Reply;
-    }
-}
+mod raw;
 
 pub const CELLS: usize = 23;
 const ROW_WORDS: usize = 6 + CELLS;
@@ -109,21 +75,21 @@ impl Flattener {
         let mut state = vec![0; STATE_WORDS];
         // Pointers and lengths of live vectors of our own, here and below.
         let reply = unsafe {
-            calls::flat_start(state.as_mut_ptr(), state.len(), tolerance.to_bits(), axes.as_ptr(), axes.len())
+            raw::flat_start(state.as_mut_ptr(), state.len(), tolerance.to_bits(), axes.as_ptr(), axes.len())
         };
         accepted(reply)?;
         Ok(Flattener { state, store: vec![0; STORE_WORDS], rows: vec![0; 256 * ROW_WORDS] })
     }
 
     pub fn seed(&mut self, axis: u64, value: f64) -> Result<(), Refused> {
-        let reply = unsafe { calls::flat_seed(self.state.as_mut_ptr(), self.state.len(), axis, value.to_bits()) };
+        let reply = unsafe { raw::flat_seed(self.state.as_mut_ptr(), self.state.len(), axis, value.to_bits()) };
         accepted(reply).map(drop)
     }
 
     pub fn push(&mut self, row: &Row, out: &mut Vec<Row>) -> Result<Said, Refused> {
         let words = row.to_words();
         self.with_room(out, |state, store, rows| unsafe {
-            calls::flat_push(
+            raw::flat_push(
                 state.as_mut_ptr(),
                 state.len(),
                 store.as_mut_ptr(),
@@ -138,7 +104,7 @@ impl Flattener {
 
     pub fn close(&mut self, out: &mut Vec<Row>) -> Result<Said, Refused> {
         self.with_room(out, |state, store, rows| unsafe {
-            calls::flat_close(
+            raw::flat_close(
                 state.as_mut_ptr(),
                 state.len(),
                 store.as_ptr(),
@@ -153,7 +119,7 @@ impl Flattener {
     fn with_room(
         &mut self,
         out: &mut Vec<Row>,
-        call: impl Fn(&mut [u64], &mut [u64], &mut [u64]) -> calls::Reply,
+        call: impl Fn(&mut [u64], &mut [u64], &mut [u64]) -> raw::Reply,
     ) -> Result<Said, Refused> {
         let mut reply = call(&mut self.state, &mut self.store, &mut self.rows);
         if reply.code == TOO_FEW_PLACES {
@@ -167,7 +133,7 @@ impl Flattener {
     }
 }
 
-fn accepted(reply: calls::Reply) -> Result<Said, Refused> {
+fn accepted(reply: raw::Reply) -> Result<Said, Refused> {
     match reply.code {
         0 => Ok(Said { warning: reply.warning, wanted: reply.wanted, held: reply.held }),
         code => Err(Refused(code)),
