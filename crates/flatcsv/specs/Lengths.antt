@@ -15,12 +15,13 @@ use Rattle.fields.specs.Out.{Wrote}
 use Rattle.fields.specs.Write.{wholeText}
 use Rattle.fields.specs.Writers.{whole-length, width-ten}
 use Rattle.words.specs.Text.{bytes}
-use Rattle.rowtext.specs.declared.line.End.{End}
-use Rattle.rowtext.specs.declared.line.End.the-variants as End
-use Rattle.rowtext.specs.Layout.{crlf, headerOut, endOf}
-use Rattle.rowtext.specs.All.{all-at}
-use Rattle.rowtext.specs.Texts.{flatten-more, row-length}
-use Rattle.rowtext.specs.Writer.{noticeText, rowText, rowAt, rowsText, writable, rowsWritable, Tried}
+use Rattle.rowlines.specs.declared.End.{End}
+use Rattle.rowlines.specs.declared.End.the-variants as End
+use Rattle.rowlines.specs.Layout.{crlf, headerOut, endOf}
+use Rattle.rowlines.specs.All.{all-at}
+use Rattle.rowwrite.specs.Texts.{flatten-more, row-length}
+use Rattle.rowlines.specs.Notice.{noticeText}
+use Rattle.rowwrite.specs.Writer.{rowText, rowAt, rowsText, writable, rowsWritable, Tried}
 
 pub notice-short : (line number : ℕ) (refused : Bool) → length (noticeText line number refused) ≤ 32
 unfolding noticeText

@@ -5,7 +5,7 @@ use flattener::Reply;
 use libc::STDERR_FILENO;
 use libc::STDIN_FILENO;
 use libc::STDOUT_FILENO;
-use rowtext::line::End;
+use rowlines::End;
 ghost use mathlib.Core.Path.{_≡_};
 ghost use Prim.Native.Nat.{ℕ, _+_, _-_, _<_, _≤_};
 ghost use lib.ListN.{length};
@@ -71,7 +71,7 @@ fn notice(run: Run, err: &mut [u8], line: u64, number: u64, refused: bool) -> Ru
     ensures { λ r. ⌜ Waits r ⌝ }
 {
     let room = make_room(STDERR_FILENO, err, run.err, NOTICES);
-    let n = rowtext::line::put_notice(err, room.n, line, number, refused);
+    let n = rowlines::put_notice(err, room.n, line, number, refused);
     Run {
         out: run.out,
         err: n,
@@ -126,8 +126,7 @@ fn answered(run: Run, reply: Reply, rows: &[u64], out: &mut [u8], err: &mut [u8]
     if reply.code != 0 {
         return refuse(run, err, run.source, reply.code);
     }
-    let Placed::Upto(n) = rowtext::write::write_rows(rows, row_count(reply.count), out, run.out)
-    else {
+    let Placed::Upto(n) = rowwrite::write_rows(rows, row_count(reply.count), out, run.out) else {
         return refuse(run, err, run.source, BAD_TEXT);
     };
     warned(
@@ -157,7 +156,7 @@ fn block(
     ensures { λ r. ⌜ Waits r ⌝ }
 {
     let mut row = [0u64; 29];
-    if !rowtext::read::read_row(text, &mut row) {
+    if !rowread::read_row(text, &mut row) {
         return refuse(run, err, run.physical, BAD_TEXT);
     }
     let reply = flattener::call::flat_push(state, store, rows, &row);
@@ -176,10 +175,10 @@ fn first(run: Run, text: &[u8], out: &mut [u8], err: &mut [u8]) -> Run
     requires { ⌜ (length (now out) ≡ 131072) × ((length (now err) ≡ 4096) × Roomy run) ⌝ }
     ensures { λ r. ⌜ Waits r ⌝ }
 {
-    if !rowtext::line::is_header(text) {
+    if !rowlines::is_header(text) {
         return refuse(run, err, run.physical, BAD_TEXT);
     }
-    let n = rowtext::line::put_header(out, run.out);
+    let n = rowlines::put_header(out, run.out);
     Run {
         out: n,
         err: run.err,
@@ -239,7 +238,7 @@ fn one_line(
     requires { ⌜ Lent (length (now rows)) (length (now out)) (length (now err)) × Roomy run ⌝ }
     ensures { λ r. ⌜ Waits r ⌝ }
 {
-    let End::Upto(n) = rowtext::line::text_end(line) else {
+    let End::Upto(n) = rowlines::text_end(line) else {
         return refuse(run, err, run.physical, BAD_TEXT);
     };
     line_text(run, &line[..n], state, store, rows, out, err)

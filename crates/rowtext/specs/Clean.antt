@@ -11,8 +11,8 @@ use Rattle.floats.specs.Lists.{upto}
 use Rattle.fields.specs.Read.{isDigit}
 use Rattle.fields.specs.Grammar.{allDigits}
 use Rattle.words.specs.Words.{wordAt}
-use Rattle.rowtext.specs.Layout.{comma, parted, onFirst, tailed, joined}
-use Rattle.rowtext.specs.All.{all-at}
+use Rattle.rowlines.specs.Layout.{comma, parted, onFirst, tailed, joined}
+use Rattle.rowlines.specs.All.{all-at}
 use Rattle.rows.specs.Row.{all}
 
 -- RFC 4180: TEXTDATA has no quote, comma, CR or LF

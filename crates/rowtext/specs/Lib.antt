@@ -1,10 +1,3 @@
-pub mod Layout
-pub mod All
-pub mod Parts
-pub mod Reader
-pub mod Cells
-pub mod Writer
-pub mod Texts
 pub mod Clean
 pub mod RowForms
 pub mod RoundTrip

@@ -29,13 +29,14 @@ use Rattle.fields.specs.Readers.{nothing}
 use Rattle.fields.specs.Again.{read-again}
 use Rattle.fields.specs.Lines.{line-again}
 use Rattle.words.specs.Words.{wordAt, planeText}
-use Rattle.rowtext.specs.Layout.{comma, crlf, headerOut, columnCount, codeAt, parted, joined, tailed}
-use Rattle.rowtext.specs.All.{all-of, both, both-left, both-right}
-use Rattle.rowtext.specs.Texts.{joined-append, plane-low}
+use Rattle.rowlines.specs.Layout.{comma, crlf, headerOut, columnCount, codeAt, parted, joined, tailed}
+use Rattle.rowlines.specs.All.{all-of, both, both-left, both-right}
+use Rattle.rowlines.specs.Planes.{plane-low}
+use Rattle.rowwrite.specs.Texts.{joined-append}
 use Rattle.rowtext.specs.Clean.{clean, cleanAll, clean-append, digits-clean, word-clean, clean-all-append, clean-upto, parted-joined}
-use Rattle.rowtext.specs.Reader.{given, cellOk, cellIn, cellsIn, readRow}
+use Rattle.rowread.specs.Reader.{given, cellOk, cellIn, cellsIn, readRow}
 use Rattle.rowtext.specs.RowForms.{CellForm, absent, present, cell-form, FieldsForm, accepted-has-form, form-is-accepted}
-use Rattle.rowtext.specs.Writer.{cellText, cellShown, cellTexts, headFields, rowFields, markText, outFields, rowText, headOk, writable}
+use Rattle.rowwrite.specs.Writer.{cellText, cellShown, cellTexts, headFields, rowFields, markText, outFields, rowText, headOk, writable}
 
 -- ---- the bits of a mask
 bit-low : (o : Option ℕ) → cond (isSome o) 1 0 ≤ 1

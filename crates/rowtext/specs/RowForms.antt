@@ -26,11 +26,11 @@ use Rattle.words.specs.declared.Found.{Found}
 use Rattle.words.specs.declared.Found.the-variants as Found
 use Rattle.words.specs.Words.{wordAt, planeText, motionOf, planeOf}
 use Rattle.words.specs.Codes.{motion-again, motion-only, plane-again, plane-only}
-use Rattle.rowtext.specs.Layout.{columnCount, parted, joined}
-use Rattle.rowtext.specs.All.{all-at, all-of, both, both-left, both-right}
-use Rattle.rowtext.specs.Texts.{plane-low}
+use Rattle.rowlines.specs.Layout.{columnCount, parted, joined}
+use Rattle.rowlines.specs.All.{all-at, all-of, both, both-left, both-right}
+use Rattle.rowlines.specs.Planes.{plane-low}
 use Rattle.rowtext.specs.Clean.{clean, cleanAll, clean-append, digits-clean, word-clean, parted-joined, joined-parted}
-use Rattle.rowtext.specs.Reader.{wordIn, given, isNumber, cellOk, cellsOk, cellsIn, fromCells, coded, numbered, fromPlane, fromMotion, fromLine, readRow}
+use Rattle.rowread.specs.Reader.{wordIn, given, isNumber, cellOk, cellsOk, cellsIn, fromCells, coded, numbered, fromPlane, fromMotion, fromLine, readRow}
 
 -- "empty is absent", or a number's text
 pub data CellForm : List ℕ → Option ℕ → Type 0 where

@@ -1,4 +1,2 @@
-// The lines of the row text: headers, rows in, rows out, and the lines of standard error.
-pub mod line;
-pub mod read;
-pub mod write;
+// The row text as a whole: what the reader accepts, and that what is written is read again. Statements over the
+// definitions below, and no code.

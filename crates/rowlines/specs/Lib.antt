@@ -1,0 +1,4 @@
+pub mod Layout
+pub mod All
+pub mod Notice
+pub mod Planes

@@ -1,4 +1,0 @@
-pub mod Reading
-pub mod Answers
-pub mod Writing
-pub mod Lines

@@ -1,0 +1,117 @@
+// A row out: from the words of a row to the text of its line.
+ghost use mathlib.Core.Path.{_≡_};
+ghost use mathlib.Core.List.{_∷_, _++_};
+ghost use Prim.Native.Nat.{ℕ, _+_, _*_, _≤_, _<_};
+ghost use lib.ListN.{length};
+ghost use Rattle.floats.specs.Lists.{flatten, upto};
+ghost use Rattle.rows.specs.Row.{all, motionOf, planeOf};
+ghost use Rattle.fields.specs.Out.{Wrote};
+ghost use Rattle.rowlines.specs.Layout.{comma, crlf, tailed, joined};
+ghost use Rattle.rowwrite.specs.Writer.{cellText, cellShown, cellTexts, headFields, markText, rowText, writable, rowAt, rowsText, rowsWritable, Tried};
+use fields::Placed;
+use fields::put_byte;
+use rowlines::COLUMNS;
+use rowlines::W_PRESENT;
+use rowlines::code_at;
+use rowlines::put_crlf;
+use rows::ROW_WORDS;
+use rows::W_CELLS;
+
+const MOTIONS: u64 = 16;
+
+const LINES: u64 = 4294967296;
+
+// A comma and the cell of column i.
+fn put_cell(row: &[u64], out: &mut [u8], n: usize, i: usize) -> Placed
+    requires { ⌜ (length (now row) ≡ 29) × ((i < 11) × (n + 18 ≤ length (now out))) ⌝ }
+    ensures { λ r. ⌜ Tried (cellShown (now (row .entry)) i) (comma ∷ cellText (now (row .entry)) i) (now (out .entry)) n (now (out .exit)) r ⌝ }
+{
+    let at = put_byte(out, n, b',');
+    let code = code_at(i);
+    if rows::has_bit(row[W_PRESENT], code as u64) {
+        return fields::put_number(out, at, floats::of_bits(row[W_CELLS + code]));
+    }
+    Placed::Upto(at)
+}
+
+fn put_cells(row: &[u64], out: &mut [u8], n: usize) -> Placed
+    requires { ⌜ (length (now row) ≡ 29) × (n + 198 ≤ length (now out)) ⌝ }
+    ensures { λ r. ⌜ Tried (all 11 (cellShown (now (row .entry)))) (tailed (cellTexts (now (row .entry)) 11)) (now (out .entry)) n (now (out .exit)) r ⌝ }
+{
+    let mut at = n;
+    let mut i: usize = 0;
+    while i < COLUMNS {
+        let Placed::Upto(next) = put_cell(row, out, at, i) else {
+            return Placed::Refused;
+        };
+        at = next;
+        i += 1;
+    }
+    Placed::Upto(at)
+}
+
+// The source line, the motion word and the plane word.
+fn put_head(row: &[u64], out: &mut [u8], n: usize) -> usize
+    requires { ⌜ (length (now row) ≡ 29) × ((motionOf (now row) < 16) × ((planeOf (now row) < 20) × (n + 26 ≤ length (now out)))) ⌝ }
+    ensures { λ r. ⌜ Wrote (now (out .entry)) n (joined (headFields (now (row .entry)))) (now (out .exit)) r ⌝ }
+{
+    let a = fields::put_whole(out, n, row[0]);
+    let b = put_byte(out, a, b',');
+    let c = words::put_motion(out, b, row[1] as usize);
+    let d = put_byte(out, c, b',');
+    words::put_plane(out, d, row[2] as usize)
+}
+
+// The mark, and the end of the line.
+fn put_end(row: &[u64], out: &mut [u8], n: usize) -> usize
+    requires { ⌜ (length (now row) ≡ 29) × (n + 4 ≤ length (now out)) ⌝ }
+    ensures { λ r. ⌜ Wrote (now (out .entry)) n (comma ∷ (markText (now (row .entry)) ++ crlf)) (now (out .exit)) r ⌝ }
+{
+    let a = put_byte(out, n, b',');
+    if row[3] == 0 {
+        return put_crlf(out, a);
+    }
+    let b = put_byte(out, a, b'1');
+    put_crlf(out, b)
+}
+
+// The line of a row from n on, where it has one. None is longer than 224 bytes.
+pub fn write_row(row: &[u64], out: &mut [u8], n: usize) -> Placed
+    requires { ⌜ (length (now row) ≡ 29) × (n + 256 ≤ length (now out)) ⌝ }
+    ensures { λ r. ⌜ Tried (writable (now (row .entry))) (rowText (now (row .entry))) (now (out .entry)) n (now (out .exit)) r ⌝ }
+{
+    if row[0] >= LINES {
+        return Placed::Refused;
+    }
+    if row[1] >= MOTIONS {
+        return Placed::Refused;
+    }
+    if !rows::plane_ok(row[2]) {
+        return Placed::Refused;
+    }
+    let a = put_head(row, out, n);
+    let Placed::Upto(b) = put_cells(row, out, a) else {
+        return Placed::Refused;
+    };
+    let c = put_end(row, out, b);
+    Placed::Upto(c)
+}
+
+// The lines of the first `count` rows from n on, where each has one.
+pub fn write_rows(rows: &[u64], count: usize, out: &mut [u8], n: usize) -> Placed
+    requires { ⌜ (count * 29 ≤ length (now rows)) × (n + 256 * count ≤ length (now out)) ⌝ }
+    ensures { λ r. ⌜ Tried (rowsWritable (now (rows .entry)) count) (rowsText (now (rows .entry)) count) (now (out .entry)) n (now (out .exit)) r ⌝ }
+{
+    let mut at = n;
+    let mut i: usize = 0;
+    while i < count {
+        let from = i * ROW_WORDS;
+        let to = from + ROW_WORDS;
+        let Placed::Upto(next) = write_row(&rows[from..to], out, at) else {
+            return Placed::Refused;
+        };
+        at = next;
+        i += 1;
+    }
+    Placed::Upto(at)
+}
