@@ -15,7 +15,8 @@ use Rattle.floats.specs.Numbers.{_⊖_, _⊘_, f0, f1, heldIn, at}
 use Rattle.floats.specs.Lists.{upto, filled}
 use Rattle.floats.specs.Fill.{length-upto, at-upto, length-filled, at-filled, past-filled, lt-or-le}
 use Rattle.metric.specs.Points.{row-fits}
-use Rattle.fit.specs.Fit.{step, pieceFrom, pieceOf}
+use Rattle.slopes.specs.Slopes.{step}
+use Rattle.fit.specs.Fit.{pieceFrom, pieceOf}
 use Rattle.fit.specs.Memory.{Rising, pieceAt, fitAt}
 use Rattle.fit.specs.Channels.{BlendIs, blendOf, channelOf}
 use Rattle.fit.specs.declared.Blend.{Blend}

@@ -1,4 +1,3 @@
-pub mod Akima
 pub mod Blocks
 pub mod Channels
 pub mod Fit

@@ -13,7 +13,8 @@ use Rattle.floats.specs.Fill.{length-upto, at-upto, at-filled}
 use Rattle.metric.specs.Below.{Below}
 use Rattle.metric.specs.Metric.{pointOf}
 use Rattle.metric.specs.Points.{point-rows, row-fits, length-row, at-row}
-use Rattle.fit.specs.Fit.{keptTo, fitOf, akimaSlope, cubicSlope}
+use Rattle.fit.specs.Fit.{keptTo, fitOf}
+use Rattle.slopes.specs.Slopes.{akimaSlope, cubicSlope}
 use Rattle.fit.specs.Memory.{FitIs, FitHeld}
 use Rattle.fit.specs.Blocks.{Blocks}
 

@@ -1,7 +1,7 @@
 // A fit is prepared: the kept points' times, their numbers, and each channel's slopes.
-use crate::akima::akima_slopes;
-use crate::cubic::natural_cubic_slopes;
-use crate::sizes::MOST_POINTS;
+use slopes::akima::akima_slopes;
+use slopes::cubic::natural_cubic_slopes;
+use slopes::sizes::MOST_POINTS;
 ghost use mathlib.Core.Path.{_≡_};
 ghost use Prim.Native.Nat.{ℕ, _≤_, _<_, _+_, _*_};
 ghost use lib.ListN.{length};

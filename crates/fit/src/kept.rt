@@ -1,5 +1,5 @@
 // The points kept for the fit.
-use crate::sizes::SMALL;
+use slopes::sizes::SMALL;
 ghost use mathlib.Core.Path.{_≡_};
 ghost use Prim.Native.Nat.{_≤_, _<_, _+_, _-_};
 ghost use lib.ListN.{length, getD};

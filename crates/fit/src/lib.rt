@@ -1,16 +1,12 @@
 // ASPLINE and CSPLINE: curves of numbers through the points.
-pub mod akima;
-pub mod cubic;
 pub mod gather;
 pub mod kept;
-pub mod sizes;
-pub mod steps;
 
 use crate::gather::gather;
 use crate::kept::keep;
-use crate::sizes::MOST_POINTS;
-use crate::sizes::WIDEST;
-use crate::steps::step_at;
+use slopes::sizes::MOST_POINTS;
+use slopes::sizes::WIDEST;
+use slopes::steps::step_at;
 ghost use mathlib.Core.Path.{_≡_};
 ghost use Prim.Native.Nat.{_≤_, _<_, _+_, _*_};
 ghost use lib.ListN.{length, replicate};

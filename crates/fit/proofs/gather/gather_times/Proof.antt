@@ -5,7 +5,7 @@ use lib.ListN.{length}
 use Rattle.metric.specs.Below.{Below}
 use Rattle.floats.specs.Fill.{Filling, filling-none, filling-more}
 use Rattle.fit.specs.Prepare.{timeAt}
-use Rattle.fit.proofs.Slopes.{filling-end}
+use Rattle.slopes.specs.Filled.{filling-end}
 use borrow.Author.Needs.{needs}
 use Rattle.fit.proofs.gather.gather_times.Statement.{statement}
 use Rattle.fit.proofs.gather.gather_times.Tie as tie

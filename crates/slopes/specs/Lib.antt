@@ -1,0 +1,3 @@
+pub mod Akima
+pub mod Slopes
+pub mod Filled

@@ -1,0 +1,5 @@
+// ASPLINE and CSPLINE: the slopes at the knots, for one channel of numbers.
+pub mod akima;
+pub mod cubic;
+pub mod sizes;
+pub mod steps;
