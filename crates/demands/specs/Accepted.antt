@@ -12,8 +12,8 @@ use Rattle.rows.specs.Codes.{axisCodes, rowWords, wKnown, wStart, stateWords, m
 use Rattle.rows.specs.Row.{all, shapeOk, numbersOk, turnOk, rowCheck}
 use Rattle.rows.specs.Masks.{has-past}
 use Rattle.rows.specs.Truth.{by-bit, cond-t, cond-f, and-left, and-right}
-use Rattle.flattener.specs.State.{tolOk, axisCount, axesOk, motionNow, planeNow, degree, pointAtOk, pointOk, pointWord, position, curveStart, heldOk, stateOk, storeOk, savedCheck, held, heldRowOk}
-use Rattle.flattener.specs.Push.{kept, motionThen, isFull, pushCheck}
+use Rattle.saved.specs.State.{tolOk, axisCount, axesOk, motionNow, planeNow, degree, pointAtOk, pointOk, pointWord, position, curveStart, heldOk, stateOk, storeOk, savedCheck, held, heldRowOk}
+use Rattle.saved.specs.Blocks.{kept, motionThen, isFull, pushCheck}
 
 -- a chain of tests answers 0 only where every one passes
 passes : (b : Bool) (x y : ℕ) → (y ≡ 0 → ⊥) → cond b x y ≡ 0 → (b ≡ true) × (x ≡ 0)

@@ -11,10 +11,11 @@ use Rattle.flattener.specs.declared.Reply.{Reply}
 use Rattle.floats.specs.Lists.{flatten, spliced}
 use Rattle.rows.specs.Codes.{rowWords}
 use Rattle.rows.specs.Row.{all, shapeOk, numbersOk, turnOk, rowCheck}
-use Rattle.flattener.specs.State.{stateOk, storeOk, held, heldRowOk, savedCheck}
+use Rattle.saved.specs.State.{stateOk, storeOk, held, heldRowOk, savedCheck}
 use Rattle.flattener.specs.Start.{plain, After, AfterState}
-use Rattle.flattener.specs.StateLaws.{StateIs}
-use Rattle.flattener.specs.Push.{isFull, pushCheck, pushRows, pushDone, pushSpec, untouched, tooFew, PushIs}
+use Rattle.flattener.specs.Replies.{StateIs}
+use Rattle.saved.specs.Blocks.{isFull, pushCheck}
+use Rattle.flattener.specs.Push.{pushRows, pushDone, pushSpec, untouched, tooFew, PushIs}
 use Rattle.flattener.specs.Close.{closeRows, closeState, closeSpec}
 use Rattle.demands.specs.Laws.{cond-both}
 

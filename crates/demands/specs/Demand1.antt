@@ -13,10 +13,11 @@ use Rattle.floats.specs.Lists.{member}
 use Rattle.floats.specs.Fill.{length-upto}
 use Rattle.rows.specs.Codes.{stateWords, lastCode}
 use Rattle.rows.specs.Row.{all, within, shapeOk, numbersOk, turnOk, rowCheck}
-use Rattle.flattener.specs.State.{stateOk, storeOk, tolOk, codesOk, geometric, held, heldRowOk, savedCheck}
+use Rattle.saved.specs.State.{stateOk, storeOk, tolOk, codesOk, geometric, held, heldRowOk, savedCheck}
 use Rattle.flattener.specs.Start.{plain, AfterState, freshWord, fresh, startSpec}
 use Rattle.flattener.specs.Seed.{seeded, seedSpec}
-use Rattle.flattener.specs.Push.{isFull, pushCheck, pushRows, pushDone, pushSpec, untouched, tooFew, fits}
+use Rattle.saved.specs.Blocks.{isFull, pushCheck}
+use Rattle.flattener.specs.Push.{pushRows, pushDone, pushSpec, untouched, tooFew, fits}
 use Rattle.flattener.specs.Close.{closeRows, closeState, closeSpec}
 use Rattle.demands.specs.Demands.{Turned, Safe, SafeState, Demand1}
 use Rattle.demands.specs.Laws.{cond-both}

@@ -8,7 +8,7 @@ use lib.ListN.{length}
 use lib.Dec.{eqb}
 use Rattle.rows.specs.Codes.{stateWords, geometricOf}
 use Rattle.rows.specs.Truth.{by-bit}
-use Rattle.flattener.specs.State.{tolOk, codesOk}
+use Rattle.saved.specs.State.{tolOk, codesOk}
 use Rattle.flattener.specs.Start.{fresh, startSpec}
 use Rattle.flattener.specs.Close.{closeSpec}
 use Rattle.demands.specs.Groups.{Event, seed, block, closed, blocksOf, Standing, atFirst, withBlock, withSeed, withClose, Piece, pieceOf, piecesFrom, pieces}

@@ -14,8 +14,9 @@ use Rattle.floats.specs.Splice.{length-spliced}
 use Rattle.rows.specs.Codes.{axisCodes, cSD, rowWords, wMotion, wPlane, wKnown, wWarned, wStart, wDegree, wHeld, stateWords, mostHeld, isSpline}
 use Rattle.rows.specs.Row.{has, motionOf, presentOf, number, outRow}
 use Rattle.rows.specs.Truth.{by-bit}
-use Rattle.flattener.specs.State.{held, degree, position, geometric, withBit, placed}
-use Rattle.flattener.specs.Push.{emits, kept, motionThen, planeThen, forgotten, opened, degreeWith, buffered, news, trackTo, pushState, pushStore, fits}
+use Rattle.saved.specs.State.{held, degree, position, geometric, withBit, placed}
+use Rattle.saved.specs.Blocks.{emits, kept, motionThen, planeThen, forgotten, opened, degreeWith, buffered, news, trackTo, pushState, pushStore}
+use Rattle.flattener.specs.Push.{fits}
 use Rattle.demands.specs.Laws.{cond-both, Every, length-flatten, every-imp}
 use Rattle.demands.specs.RowLengths.{Long, outRow-long}
 use Rattle.demands.specs.Accepted.{Pushed}

@@ -15,7 +15,7 @@ use Rattle.rows.specs.Codes.{isSpline, kindOf}
 use Rattle.rows.specs.Row.{motionOf, outRow}
 use Rattle.rows.specs.Truth.{by-bit, cond-t, cond-f}
 use Rattle.splines.specs.Emission.{Spline, splineGroups}
-use Rattle.flattener.specs.Push.{orNow, answerAs}
+use Rattle.saved.specs.Blocks.{orNow, answerAs}
 use Rattle.demands.specs.Groups.{Event, seed, block, closed, Standing, motionWith, goesOn, withBlock, withSeed, withClose, together, degreeFrom, splineWith, pieceOf, piecesFrom, groups}
 
 pub spline-length : (sp : Spline) → length (splineGroups sp) ≡ length (sp .blocks)

@@ -14,10 +14,11 @@ use Rattle.floats.specs.Splice.{spliced-none}
 use Rattle.rows.specs.Codes.{rowWords, stateWords, lastCode}
 use Rattle.rows.specs.Row.{within}
 use Rattle.rows.specs.Truth.{by-bit, cond-t}
-use Rattle.flattener.specs.State.{tolOk, codesOk, stateOk, held, savedCheck}
+use Rattle.saved.specs.State.{tolOk, codesOk, stateOk, held, savedCheck}
 use Rattle.flattener.specs.Start.{After, plain, fresh, startSpec}
 use Rattle.flattener.specs.Seed.{seeded, seedSpec}
-use Rattle.flattener.specs.Push.{pushCheck, pushRows, pushDone, pushSpec}
+use Rattle.saved.specs.Blocks.{pushCheck}
+use Rattle.flattener.specs.Push.{pushRows, pushDone, pushSpec}
 use Rattle.flattener.specs.Close.{closeRows, closeState, closeSpec}
 use Rattle.flattener.specs.Keeps.{close-saved}
 use Rattle.demands.specs.Laws.{Every, every-imp, length-flatten}

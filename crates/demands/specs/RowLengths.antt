@@ -14,8 +14,9 @@ use Rattle.rows.specs.Codes.{rowWords, cells, Kind, same, linear, clockwise, co
 use Rattle.rows.specs.Row.{rowOf, outRow, madeRow, cell, withRiders, lineOf, motionOf, planeOf, carryOf, hasPoint}
 use Rattle.arcs.specs.Arc.{Answer, silent, passed, arcAnswer, fromStart, fromCentre, arcRows, arcRow, Centre, centred, warned, Ends, Arc}
 use Rattle.splines.specs.Emission.{Spline, splineGroups, heldGroup, pointGroup}
-use Rattle.flattener.specs.State.{held}
-use Rattle.flattener.specs.Push.{answerAs, emits, ownAnswer, emission, pushRows}
+use Rattle.saved.specs.State.{held}
+use Rattle.saved.specs.Blocks.{answerAs, emits, ownAnswer}
+use Rattle.flattener.specs.Push.{emission, pushRows}
 use Rattle.flattener.specs.Close.{closeRows}
 use Rattle.demands.specs.Laws.{cond-both, Every, nil, more, every-append, every-upto, every-flatten}
 

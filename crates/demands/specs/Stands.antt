@@ -16,10 +16,10 @@ use Rattle.rows.specs.Codes.{axisCodes, cSD, rowWords, wAxes, wKnown, wStart, w
 use Rattle.rows.specs.Row.{all, has, cell, number, motionOf, planeOf, presentOf, outRow}
 use Rattle.rows.specs.Truth.{by-bit, cond-t, cond-f, and-left}
 use Rattle.rows.specs.Masks.{has-none, member-keep}
-use Rattle.flattener.specs.State.{tolerance, axisCount, geometric, codeOk, codesOk, placed, motionNow, planeNow, held, degree, pointWord, position, curveStart, heldRow, heldRows}
+use Rattle.saved.specs.State.{tolerance, axisCount, geometric, codeOk, codesOk, placed, motionNow, planeNow, held, degree, pointWord, position, curveStart, heldRow, heldRows}
 use Rattle.flattener.specs.Start.{freshWord, fresh}
 use Rattle.flattener.specs.Seed.{seeded}
-use Rattle.flattener.specs.Push.{orNow, motionThen, planeThen, emits, kept, degreeWith, forgotten, buffered, pushState, pushStore}
+use Rattle.saved.specs.Blocks.{orNow, motionThen, planeThen, emits, kept, degreeWith, forgotten, buffered, pushState, pushStore}
 use Rattle.flattener.specs.Close.{closeState}
 use Rattle.demands.specs.Groups.{Standing, atFirst, movedByBlock, movedBySeed, motionWith, goesOn, withBlock, withSeed, withClose, degreeFrom}
 use Rattle.demands.specs.Laws.{cond-both}

@@ -18,8 +18,8 @@ use Rattle.rows.specs.Codes.{axisCodes, cSD, wCells, wAxes, wMotion, wPlane, wK
 use Rattle.rows.specs.Row.{has, presentOf, motionOf, number}
 use Rattle.rows.specs.Truth.{by-bit, cond-t, cond-f}
 use Rattle.rows.specs.Masks.{add-same, add-other}
-use Rattle.flattener.specs.State.{axisCount, geometric, motionNow, planeNow, held, degree, pointWord, position, curveStart, withBit, placed}
-use Rattle.flattener.specs.Push.{emits, motionThen, planeThen, forgotten, opened, degreeWith, buffered, news, trackTo, pushState}
+use Rattle.saved.specs.State.{axisCount, geometric, motionNow, planeNow, held, degree, pointWord, position, curveStart, withBit, placed}
+use Rattle.saved.specs.Blocks.{emits, motionThen, planeThen, forgotten, opened, degreeWith, buffered, news, trackTo, pushState}
 use Rattle.demands.specs.Laws.{cond-both}
 use Rattle.demands.specs.Lengths.{emptied, worded, laid, told, emptied-length, worded-length, told-length, pushState-steps, track-length, opened-length}
 

@@ -10,7 +10,7 @@ use Rattle.floats.specs.Lists.{upto, spliced}
 use Rattle.floats.specs.Fill.{upto-below}
 use Rattle.rows.specs.Codes.{rowWords}
 use Rattle.rows.specs.Row.{outRow}
-use Rattle.flattener.specs.State.{heldRow}
+use Rattle.saved.specs.State.{heldRow}
 use Rattle.demands.specs.RowLengths.{outRow-long}
 
 -- a run that ends within the first n elements is the same run of the whole list

@@ -11,25 +11,22 @@ use borrow.Author.Tests.{eqb-true, eqb-false, eq-eqb, ne-eqb, le-leb, lt-leb}
 use Rattle.floats.specs.Lists.{flatten, spliced}
 use Rattle.floats.specs.Splice.{spliced-none, spliced-spliced}
 use Rattle.rows.specs.Codes.{rowWords, wStart, stateWords}
-use Rattle.rows.specs.Row.{axesOf, outRow, rowCheck}
-use Rattle.arcs.specs.Plan.{planRows, wayRows, WriteOf}
-use Rattle.arcs.specs.declared.Way.the-variants.{Pass}
-use Rattle.samples.specs.Rowing.{flatten-one}
-use mathlib.Core.Option.{Option}
+use Rattle.rows.specs.Row.{rowCheck}
 use Rattle.rows.specs.Truth.{by-bit, cond-t, cond-f}
 use Rattle.arcs.specs.declared.Plan.{Plan}
-use Rattle.flattener.specs.State.{axisCount, held, motionNow, degree, tolerance, position, savedCheck}
+use Rattle.saved.specs.State.{axisCount, held, motionNow, degree, tolerance, savedCheck}
 use Rattle.flattener.specs.Start.{plain, After}
-use Rattle.flattener.specs.Push.{emits, emission, planeThen, isFull, news, ownAnswer, pushRows, pushCheck, pushState, pushStore, pushDone, pushSpec, untouched, tooFew}
+use Rattle.saved.specs.Blocks.{emits, isFull, news, ownAnswer, pushCheck, pushState, pushStore}
+use Rattle.flattener.specs.Push.{emission, pushRows, pushDone, pushSpec, untouched, tooFew}
 use Rattle.flattener.specs.Close.{closeRows, closeState, closeSpec}
-use Rattle.flattener.specs.PushLaws.{doneReply}
-use Rattle.flattener.specs.Keeps.{saved-ok}
-use Rattle.flattener.specs.Own.{geometricMask, Ready, ready, OwnPlanned, ownRows, own-write, own-rows, own-no-rows}
+use Rattle.flattener.specs.Replies.{doneReply}
+use Rattle.saved.specs.Checked.{saved-ok}
+use Rattle.saved.specs.Own.{Ready, ready, OwnPlanned, ownRows}
 use lib.Ieee.{Float}
 use Rattle.gather.specs.Points.{splineOf}
 use Rattle.splines.specs.Emission.{splineGroups, putWithin}
 use Rattle.splines.specs.Emits.{Holds}
-use Rattle.flattener.specs.StateLaws.{good, good-few, axes-few}
+use Rattle.saved.specs.StateLaws.{good, good-few, axes-few}
 use Rattle.flattener.specs.Emitted.{before, before-words, codesOf, startOf, holds, emission-is, emission-few, Put}
 
 -- what a push that passes its checks has
@@ -143,28 +140,6 @@ module _ (st store rows : List ℕ) (pass : savedCheck st store ≡ 0) where
 pub no-rows : (rows : List ℕ) → rows ≡ spliced rows 0 (flatten [])
 unfolding flatten
 no-rows rows = spliced-none rows 0
-
--- ---- a block's own rows, written by what the code has at hand
-module _ (st r : List ℕ) (p : Plan) (gs plane : ℕ) (pos : ℕ → Option ℕ) (eg : gs ≡ geometricMask st) (ep : plane ≡ planeThen st r) (es : pos ≡ position st) where
-  pub write-at : (rows : List ℕ) (from : ℕ) → OwnPlanned st r p → 0 < p .count → from + p .count * rowWords ≤ length rows → WriteOf (axesOf gs) plane pos r rows from p
-  write-at rows from h l room = rw (eg, ep, es) (own-write st r p rows from h (λ e. omega arith) room)
-
-  pub written : (rows : List ℕ) (from : ℕ) (u : List ℕ) → 0 < p .count → u ≡ spliced rows from (flatten (planRows (axesOf gs) plane pos r p)) → u ≡ spliced rows from (flatten (ownRows st r p))
-  written rows from u l e =
-      e ∙ ap (λ (o : List (List ℕ)). spliced rows from (flatten o)) (rw (eg, ep, es) (own-rows st r p (λ z. omega arith)))
-
--- a row that passes
-pub passed-on : (st r : List ℕ) (p : Plan) (rows : List ℕ) (from : ℕ) (u : List ℕ) → 0 < p .count → p .way ≡ Pass → u ≡ spliced rows from (outRow r) → u ≡ spliced rows from (flatten (ownRows st r p))
-unfolding wayRows
-passed-on st r p rows from u l w e =
-    let o : ownRows st r p ≡ outRow r ∷ [] = sym (own-rows st r p (λ z. omega arith)) ∙ rw w in
-    e ∙ ap (spliced rows from) (sym (ap flatten o ∙ flatten-one (outRow r)))
-
-pub unwritten : (st r : List ℕ) (p : Plan) (rows : List ℕ) (from : ℕ) → p .count ≤ 0 → rows ≡ spliced rows from (flatten (ownRows st r p))
-unfolding flatten
-unwritten st r p rows from l =
-    let e : p .count ≡ 0 = omega arith in
-    spliced-none rows from ∙ ap (λ (o : List (List ℕ)). spliced rows from (flatten o)) (sym (own-no-rows st r p e))
 
 -- n and m places are room for m rows after n rows
 pub row-room : (n m l : ℕ) → n + m ≤ l / rowWords → n * rowWords + m * rowWords ≤ l

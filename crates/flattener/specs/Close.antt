@@ -5,9 +5,10 @@ use mathlib.Core.List.{List, []}
 use lib.ListN.{length}
 use lib.Dec.{eqb}
 use Rattle.floats.specs.Lists.{flatten, spliced}
-use Rattle.flattener.specs.State.{held, savedCheck}
+use Rattle.saved.specs.State.{held, savedCheck}
 use Rattle.flattener.specs.Start.{plain, After}
-use Rattle.flattener.specs.Push.{emission, forgotten, untouched, tooFew, fits}
+use Rattle.flattener.specs.Push.{emission, untouched, tooFew, fits}
+use Rattle.saved.specs.Blocks.{forgotten}
 
 unfoldable pub closeRows : List ℕ → List ℕ → List (List ℕ)
 closeRows st store = cond (eqb (held st) 0) [] (emission st store)

@@ -26,11 +26,12 @@ use Rattle.splines.specs.Emission.{runsOf, splineGroups, putWithin}
 use Rattle.splines.specs.Emits.{Holds}
 use Rattle.splines.specs.Laws.{shown-part, blocks-are}
 use Rattle.splines.specs.Widths.{runs-few}
-use Rattle.flattener.specs.State.{axisCount, motionNow, degree, held, tolerance, geometric, position, pointWord, curveStart, heldRows, codeOk, codesOk, axesOk, stateOk, savedCheck}
-use Rattle.flattener.specs.StateLaws.{Good, good, good-few, point-small}
+use Rattle.saved.specs.State.{axisCount, motionNow, degree, held, tolerance, geometric, position, pointWord, curveStart, heldRows, codeOk, codesOk, axesOk, stateOk, savedCheck}
+use Rattle.saved.specs.StateLaws.{Good, good, good-few, point-small}
 use Rattle.flattener.specs.Held.{heldSpline}
-use Rattle.flattener.specs.Push.{motionThen, planeThen, emits, emission, answerAs, ownAnswer}
-use Rattle.flattener.specs.Keeps.{saved-ok, saved-store}
+use Rattle.saved.specs.Blocks.{motionThen, planeThen, emits, answerAs, ownAnswer}
+use Rattle.flattener.specs.Push.{emission}
+use Rattle.saved.specs.Checked.{saved-ok, saved-store}
 
 -- the axis list of a state, and the words of its curve start
 abbrev pub codesOf : List ℕ → List ℕ

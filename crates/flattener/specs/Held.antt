@@ -2,7 +2,7 @@
 use Prim.Native.Nat.{ℕ}
 use mathlib.Core.List.{List}
 use Rattle.splines.specs.Emission.{Spline}
-use Rattle.flattener.specs.State.{tolerance, geometric, motionNow, degree, curveStart, heldRows}
+use Rattle.saved.specs.State.{tolerance, geometric, motionNow, degree, curveStart, heldRows}
 
 -- the spline that a state and its store hold
 unfoldable pub heldSpline : List ℕ → List ℕ → Spline

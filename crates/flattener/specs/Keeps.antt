@@ -9,7 +9,7 @@ use native.Mathlib.Nat.{suc-add, zero-add, le-of-suc-le-suc, not-suc-le-zero}
 use lib.ListN.{length, getD, set, take, drop, length-set, length-drop}
 use lib.Seq.{getD-set-other, getD-set-same, take-take, take-at, drop-at, length-take-le, drop-append-le, take-append-le}
 use lib.Dec.{leb, ltb, eqb}
-use borrow.Author.Tests.{leb-true, eqb-true, lt-ltb, le-leb, eq-eqb, eqb-false}
+use borrow.Author.Tests.{eqb-true, lt-ltb, le-leb, eq-eqb, eqb-false}
 use Rattle.floats.specs.Lists.{member, spliced}
 use Rattle.floats.specs.Fill.{length-upto, at-upto}
 use Rattle.floats.specs.Splice.{length-spliced}
@@ -19,12 +19,13 @@ use Rattle.rows.specs.Row.{has, all, within, number, motionOf, planeOf, present
 use Rattle.rows.specs.RowLaws.{check-motion, check-plane, check-shape, check-within, out-check, out-motion, length-out}
 use Rattle.rows.specs.Truth.{or-t, or-f, and-i, and-left, and-right, cond-t, cond-f, all-at, all-more, all-intro, by-bit}
 use Rattle.rows.specs.Masks.{has-none}
-use Rattle.flattener.specs.State.{axisCount, motionNow, planeNow, degree, held, geometric, tolOk, codesOk, axesOk, pointAtOk, pointOk, heldOk, stateOk, storeOk, heldRow, heldRowOk, savedCheck, pointWord, position, withBit, placed}
-use Rattle.flattener.specs.StateLaws.{Good, good, good-ok, good-few, axes-few, point-small, geometric-small, with-other, with-lt}
+use Rattle.saved.specs.State.{axisCount, motionNow, planeNow, degree, held, geometric, tolOk, codesOk, axesOk, pointAtOk, pointOk, heldOk, stateOk, storeOk, heldRow, heldRowOk, savedCheck, pointWord, position, withBit, placed}
+use Rattle.saved.specs.StateLaws.{Good, good, good-ok, good-few, axes-few, point-small, geometric-small, with-other, with-lt}
 use Rattle.flattener.specs.Seed.{seeded}
-use Rattle.flattener.specs.Push.{orNow, motionThen, planeThen, emits, kept, isFull, news, forgotten, opened, degreeWith, buffered, pushState, pushStore, trackTo}
+use Rattle.saved.specs.Blocks.{orNow, motionThen, planeThen, emits, kept, isFull, news, forgotten, opened, degreeWith, buffered, pushState, pushStore, trackTo}
 use Rattle.flattener.specs.Close.{closeState}
-use Rattle.flattener.specs.PushLaws.{SameAxes, same-trans, same-set, same-placed, same-to, same-forgotten, same-opened, same-codes, same-geometric, placed-keeps, to-keeps, forgotten-keeps, held-forgotten, below-spliced, in-spliced, past-spliced, startWords, length-startWords, full-room, noWords, none-at}
+use Rattle.saved.specs.PushLaws.{SameAxes, same-trans, same-set, same-placed, same-to, same-forgotten, same-opened, same-codes, same-geometric, placed-keeps, to-keeps, forgotten-keeps, held-forgotten, below-spliced, in-spliced, past-spliced, startWords, length-startWords, full-room, noWords, none-at}
+use Rattle.saved.specs.Checked.{saved-ok, saved-rows}
 
 -- ---- points
 module _ (st st′ : List ℕ) (s : SameAxes st st′) (few : axisCount st ≤ 15) (long : length st ≡ stateWords) where
@@ -568,24 +569,6 @@ module _ (store r : List ℕ) (n : ℕ) (h : n * rowWords + rowWords ≤ length 
 or-now-own : (v now : ℕ) → (eqb v 0 || eqb v (orNow v now)) ≡ true
 unfolding orNow
 or-now-own v now = by-bit (eqb v 0) (λ b. rw b) (λ b. rw b (eq-eqb v v refl))
-
-pub saved-ok : (st store : List ℕ) → savedCheck st store ≡ 0 → stateOk st ≡ true
-unfolding savedCheck
-saved-ok st store p = by-bit (stateOk st) (λ b. b) (λ b. let z : _≡_ {A = ℕ} 9 0 = sym (cond-f _ _ b) ∙ p in absurd (omega arith))
-
-pub saved-rows : (st store : List ℕ) → savedCheck st store ≡ 0 → all (held st) (heldRowOk st store) ≡ true
-unfolding savedCheck
-saved-rows st store p =
-    by-bit (all (held st) (heldRowOk st store)) (λ b. b)
-    (λ b. by-bit (storeOk st store)
-    (λ c. let z : _≡_ {A = ℕ} 9 0 = sym (cond-t _ _ (saved-ok st store p) ∙ cond-t _ _ c ∙ cond-f _ _ b) ∙ p in absurd (omega arith))
-    (λ c. let z : _≡_ {A = ℕ} 8 0 = sym (cond-t _ _ (saved-ok st store p) ∙ cond-f _ _ c) ∙ p in absurd (omega arith)))
-
-pub saved-store : (st store : List ℕ) → savedCheck st store ≡ 0 → held st * rowWords ≤ length store
-unfolding savedCheck storeOk
-saved-store st store p =
-    by-bit (leb (held st * rowWords) (length store)) (λ b. leb-true (held st * rowWords) (length store) b)
-    (λ b. let z : _≡_ {A = ℕ} 8 0 = sym (cond-t _ _ (saved-ok st store p) ∙ cond-f _ _ b) ∙ p in absurd (omega arith))
 
 saved-from : (st store : List ℕ) → stateOk st ≡ true → held st * rowWords ≤ length store → all (held st) (heldRowOk st store) ≡ true → savedCheck st store ≡ 0
 unfolding savedCheck storeOk

@@ -1,12 +1,8 @@
-pub mod State
 pub mod Start
 pub mod Seed
 pub mod Held
 pub mod Push
 pub mod Close
-pub mod StateLaws
-pub mod PushLaws
 pub mod Keeps
-pub mod ArcSame
-pub mod Own
 pub mod Emitted
+pub mod Replies

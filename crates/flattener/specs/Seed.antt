@@ -6,7 +6,7 @@ use lib.Dec.{leb}
 use Rattle.rows.specs.Codes.{lastCode}
 use Rattle.floats.specs.Lists.{member}
 use Rattle.rows.specs.Row.{within}
-use Rattle.flattener.specs.State.{stateOk, geometric, placed}
+use Rattle.saved.specs.State.{stateOk, geometric, placed}
 use Rattle.flattener.specs.Start.{plain, AfterState}
 
 -- "Seeding codes 10-14 or an axis not listed replies 0 and changes nothing"

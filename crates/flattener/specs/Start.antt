@@ -7,7 +7,7 @@ use lib.Dec.{ltb, eqb}
 use Rattle.flattener.specs.declared.Reply.{Reply}
 use Rattle.floats.specs.Lists.{upto}
 use Rattle.rows.specs.Codes.{gOne, wAxes, wMotion, wPlane, wDegree, stateWords}
-use Rattle.flattener.specs.State.{tolOk, codesOk}
+use Rattle.saved.specs.State.{tolOk, codesOk}
 
 -- "Every refusal .. gives warning 0 and no held axes and, 7 apart, has count 0": a reply that has its number alone
 abbrev pub plain : ℕ → Reply

@@ -1,13 +1,13 @@
 // Seeding a position.
 use crate::Reply;
 use crate::start::plain_reply;
-use crate::state::is_geometric;
-use crate::state::place;
-use crate::state::state_ok;
 use rows::LAST_CODE;
 use rows::within_range;
+use saved::state::is_geometric;
+use saved::state::place;
+use saved::state::state_ok;
 ghost use Rattle.flattener.specs.Seed.{seedSpec};
-ghost use Rattle.flattener.specs.StateLaws.{StateIs};
+ghost use Rattle.flattener.specs.Replies.{StateIs};
 
 // Makes the number whose bits are `value` the position of an axis.
 #[no_mangle]

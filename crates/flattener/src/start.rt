@@ -1,17 +1,17 @@
 // Starting: a fresh state.
 use crate::Reply;
-use crate::STATE_WORDS;
-use crate::W_AXES;
-use crate::W_DEGREE;
-use crate::W_MOTION;
-use crate::W_PLANE;
-use crate::state::codes_ok;
-use crate::state::tol_ok;
+use saved::STATE_WORDS;
+use saved::W_AXES;
+use saved::W_DEGREE;
+use saved::W_MOTION;
+use saved::W_PLANE;
+use saved::state::codes_ok;
+use saved::state::tol_ok;
 ghost use mathlib.Core.Path.{_≡_};
 ghost use lib.ListN.{length, getD};
 ghost use Rattle.rows.specs.Codes.{stateWords};
 ghost use Rattle.flattener.specs.Start.{plain, freshWord, fresh, startSpec};
-ghost use Rattle.flattener.specs.StateLaws.{StateIs};
+ghost use Rattle.flattener.specs.Replies.{StateIs};
 
 // A reply that has its number alone.
 pub fn plain_reply(code: u64) -> Reply

@@ -4,10 +4,10 @@ use mathlib.Core.Bool.{Bool, cond}
 use native.Mathlib.Omega.{arith}
 use Prim.Native.Nat.{ℕ, _+_}
 use Rattle.flattener.specs.Start.{plain}
-use Rattle.flattener.specs.StateLaws.{good, good-few}
+use Rattle.saved.specs.StateLaws.{good, good-few}
 use Rattle.flattener.specs.Push.{untouched}
-use Rattle.flattener.specs.PushLaws.{answers, doneReply}
-use Rattle.flattener.specs.Keeps.{saved-ok}
+use Rattle.flattener.specs.Replies.{answers, doneReply}
+use Rattle.saved.specs.Checked.{saved-ok}
 use Rattle.flattener.specs.Emitted.{few-own}
 use Rattle.flattener.proofs.Calls.{passes, passes-ready, turned-is, few-is, done-is, both-written, row-room, room-left, room-short, put-refused, put-written}
 use borrow.Author.Needs.{needs}

@@ -1,6 +1,6 @@
 -- `flattener::call::put_emission` meets its contract. Assumes nothing.
 use native.Mathlib.Omega.{arith}
-use Rattle.flattener.proofs.Walk.{part-codes}
+use Rattle.saved.specs.Walk.{part-codes}
 use Rattle.flattener.proofs.Calls.{state-long, state-axes, holds-at, put-at}
 use borrow.Author.Needs.{needs}
 use Rattle.flattener.proofs.call.put_emission.Statement.{statement}

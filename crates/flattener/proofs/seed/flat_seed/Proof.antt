@@ -3,7 +3,8 @@ use mathlib.Core.Path.{refl, sym, _∙_}
 use borrow.Author.Tests.{le-leb, lt-leb, not-true, not-false}
 use Rattle.rows.specs.Truth.{cond-t, cond-f}
 use Rattle.flattener.specs.Seed.{seedSpec, seeded}
-use Rattle.flattener.specs.StateLaws.{state-is, good, good-listed, geometric-small}
+use Rattle.flattener.specs.Replies.{state-is}
+use Rattle.saved.specs.StateLaws.{good, good-listed, geometric-small}
 use borrow.Author.Needs.{needs}
 use Rattle.flattener.proofs.seed.flat_seed.Statement.{statement}
 use Rattle.flattener.proofs.seed.flat_seed.Tie as tie

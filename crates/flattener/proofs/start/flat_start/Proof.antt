@@ -3,7 +3,7 @@ use mathlib.Core.Path.{refl, sym, _∙_}
 use borrow.Author.Tests.{eq-eqb, ne-eqb, not-true, not-false}
 use Rattle.rows.specs.Truth.{cond-t, cond-f}
 use Rattle.flattener.specs.Start.{startSpec}
-use Rattle.flattener.specs.StateLaws.{state-is}
+use Rattle.flattener.specs.Replies.{state-is}
 use borrow.Author.Needs.{needs}
 use Rattle.flattener.proofs.start.flat_start.Statement.{statement}
 use Rattle.flattener.proofs.start.flat_start.Tie as tie
