@@ -3,6 +3,8 @@ use curves::Shape;
 use curves::runs::count_runs;
 use curves::runs::prepare;
 use curves::runs::write_runs;
+use curves::sizes::CONTROL_ROOM;
+use curves::sizes::KNOT_ROOM;
 use gather::channels::channels_of;
 use gather::metric::metric_of;
 use gather::points::points_of;
@@ -11,7 +13,9 @@ use places::layout::mask_of;
 use places::layout::places_of;
 use places::place::Place;
 use places::place::total;
+use rows::AXIS_CODES;
 use rows::ROW_WORDS;
+use slopes::sizes::MOST_POINTS;
 use spread::spread;
 ghost use mathlib.Core.Path.{_≡_};
 ghost use mathlib.Core.List.{[]};
@@ -26,6 +30,11 @@ ghost use Rattle.curves.specs.Walks.{knotRoom, controlRoom};
 ghost use Rattle.curves.specs.Runs.{curveRuns, encode};
 ghost use Rattle.splines.specs.Emission.{splineGroups, putWithin};
 ghost use Rattle.splines.specs.Emits.{Holds, Gathered, Curved, Drawn, Recalled, Rooms, Planned, placesOf, layoutOf, mostOwn};
+
+// The blocks that a store holds at most, and the numbers of their points and the start's.
+const MOST_BLOCKS: usize = 256;
+
+const POINT_ROOM: usize = 2570;
 
 // Samples whose halvings are remembered; beyond it the writing tests again.
 const LEFTS_ROOM: usize = 32768;
@@ -192,7 +201,7 @@ fn spread_curve(
     requires { ⌜ held * rowWords ≤ length (now store) ⌝ }
     ensures { λ _. ⌜ now (rows .exit) ≡ spliced (now (rows .entry)) 0 (flatten (upto (heldWords (layoutOf (now (axes .entry)) (now (chans .entry)) basis points) (geometricOf (now (axes .entry))) (placesOf (now (chans .entry))) (now (counts .entry)) (blockAt (now (store .entry))) (now (rows .entry))) held)) ⌝ }
 {
-    let mut places = [0usize; 10];
+    let mut places = [0usize; AXIS_CODES];
     places_of(chans, &mut places);
     let layout = Layout {
         axes: mask_of(axes),
@@ -272,13 +281,13 @@ pub fn emit_within(
     ensures { λ r. ⌜ r ≡ length (flatten (splineGroups (splineOf motion degree tol (now (axes .entry)) start (now (words .entry)) (now (store .entry)) held))) ⌝ }
     ensures { λ _. ⌜ now (rows .exit) ≡ putWithin own (flatten (splineGroups (splineOf motion degree tol (now (axes .entry)) start (now (words .entry)) (now (store .entry)) held))) (now (rows .entry)) ⌝ }
 {
-    let mut chans = [0u64; 10];
-    let mut ms = [0usize; 10];
-    let mut pts = [0.0f64; 2570];
-    let mut ws = [0.0f64; 257];
-    let mut ks = [0.0f64; 514];
-    let mut cs = [0.0f64; 5140];
-    let mut counts = [0usize; 256];
+    let mut chans = [0u64; AXIS_CODES];
+    let mut ms = [0usize; AXIS_CODES];
+    let mut pts = [0.0f64; POINT_ROOM];
+    let mut ws = [0.0f64; MOST_POINTS];
+    let mut ks = [0.0f64; KNOT_ROOM];
+    let mut cs = [0.0f64; CONTROL_ROOM];
+    let mut counts = [0usize; MOST_BLOCKS];
     let mut lefts = [0u8; LEFTS_ROOM];
     let power = degree as usize;
     let plan = plan_emission(
