@@ -1,4 +1,4 @@
--- `sqrt64::by_digits` meets its contract. The invariant of its loop: x₀ * 4 ^ i, where x₀ is m's 54 digits at the top of a word, is root * root + rest words and x,
+-- `root::by_digits` meets its contract. The invariant of its loop: x₀ * 4 ^ i, where x₀ is m's 54 digits at the top of a word, is root * root + rest words and x,
 -- and rest is at most twice root, so that root is the whole part of a root. After 53 turns that is m * 2 ^ 52. Assumes nothing.
 use Prim.Native.Nat.{ℕ, _+_, _-_, _*_, _/_, _%_, _^_, _≤_, _<_}
 use mathlib.Core.Path.{_≡_, refl, sym, ap, _∙_, subst}

@@ -1,4 +1,4 @@
--- `sqrt64::root` meets its contract. Assumes nothing.
+-- `root::root` meets its contract. Assumes nothing.
 use mathlib.Core.Path.{_≡_, refl, sym, ap, _∙_, subst}
 use mathlib.Core.Bool.{Bool, true, false, not}
 use lib.Dec.{T}

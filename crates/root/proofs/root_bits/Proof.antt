@@ -1,4 +1,4 @@
--- `sqrt64::root_bits` meets its contract. Assumes nothing.
+-- `root::root_bits` meets its contract. Assumes nothing.
 use Prim.Native.Nat.{ℕ}
 use mathlib.Core.Path.{_≡_, sym, subst}
 use native.Mathlib.Omega.{arith}
