@@ -140,9 +140,12 @@ fn rust_blocks(work: &Work) -> Vec<Row> {
 
 // ---- measuring
 
-const ROUNDS: usize = 5;
+const ROUNDS: usize = 15;
 const ROUND_SECONDS: f64 = 0.02;
-const CHECKS: u64 = 1000;
+/// Calls between two looks at the clock where each is the same.
+const CALLS: u64 = 1000;
+/// Rows at least between two looks at the clock, which takes as long as a row or two.
+const TIMED_ROWS: u64 = 200;
 
 /// Rows per second of one round, which repeats until it is long enough to time.
 fn round(mut once: impl FnMut() -> (u64, f64)) -> f64 {
@@ -165,11 +168,12 @@ fn measure(work: &Work, lent: &mut Lent) {
     let rows = library(work, lent);
     let rust_rows = unchanged(work.tolerance, rust_blocks(work));
     let (mut ours, mut theirs) = (0f64, 0f64);
+    let times = TIMED_ROWS.div_ceil(rows);
     for _ in 0..ROUNDS {
-        ours = ours.max(round(|| timed(|| library(work, lent))));
+        ours = ours.max(round(|| timed(|| (0..times).map(|_| library(work, lent)).sum())));
         theirs = theirs.max(round(|| {
-            let blocks = rust_blocks(work);
-            timed(|| unchanged(work.tolerance, blocks))
+            let all: Vec<_> = (0..times).map(|_| rust_blocks(work)).collect();
+            timed(|| all.into_iter().map(|blocks| unchanged(work.tolerance, blocks)).sum())
         }));
     }
     let same = if rows == rust_rows { "" } else { " (counts differ)" };
@@ -190,14 +194,35 @@ fn measure_checks(held: usize, lent: &mut Lent) {
     for _ in 0..ROUNDS {
         best = best.max(round(|| {
             timed(|| {
-                for _ in 0..CHECKS {
+                for _ in 0..CALLS {
                     assert_eq!(push(black_box(&marked), lent).code, 4);
                 }
-                CHECKS
+                CALLS
             })
         }));
     }
     println!("| {held} | {:.0} |", 1e9 / best);
+}
+
+/// Rows per second where a row is only copied to each place, so many places a call: what no call that writes its rows
+/// can pass.
+fn measure_copies(places: usize, lent: &mut Lent) {
+    let row = block(2, &[(0, 1.0), (1, 0.5), (2, 1.0)]);
+    let mut best = 0f64;
+    for _ in 0..ROUNDS {
+        best = best.max(round(|| {
+            timed(|| {
+                for _ in 0..CALLS {
+                    for place in lent.rows.chunks_exact_mut(ROW_WORDS).take(places) {
+                        place.copy_from_slice(black_box(&row));
+                    }
+                    black_box(&lent.rows);
+                }
+                CALLS * places as u64
+            })
+        }));
+    }
+    println!("| {places} | {best:.3e} | {:.1} |", best * (ROW_WORDS * 8) as f64 / 1e9);
 }
 
 // ---- the work
@@ -288,5 +313,9 @@ fn main() {
     println!("\n| blocks held | ns to check state and held rows |\n|---|---|");
     for held in [0, 16, 64, MOST_HELD] {
         measure_checks(held, &mut lent);
+    }
+    println!("\n| rows a call | rows/s only copied | GB/s |\n|---|---|---|");
+    for places in [6, 100, 10_000] {
+        measure_copies(places, &mut lent);
     }
 }
