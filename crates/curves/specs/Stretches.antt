@@ -10,7 +10,8 @@ use Rattle.floats.specs.Lists.{upto, flatten, row}
 use Rattle.metric.specs.Below.{Below}
 use Rattle.metric.specs.Walk.{Sample, samples}
 use Rattle.walks.specs.declared.Shape.{Shape}
-use Rattle.walks.specs.Walks.{evalOf, Tables}
+use Rattle.fit.specs.Memory.{Rising}
+use Rattle.walks.specs.Walks.{knotRoom, fitTimes, evalOf, Tables}
 
 -- the samples of the first k knot spans of a B-spline
 unfoldable pub splineSamples : (Float → List Float) → List ℕ → Float → ℕ → List Sample
@@ -20,6 +21,13 @@ splineSamples ev ms tol k = flatten (upto (λ (j : ℕ). samples ev ms tol 20 (o
 unfoldable pub fitRunAt : Shape → List ℕ → Float → List Float → List Float → List Float → ℕ → List (List Float)
 fitRunAt s ms tol pts ks cs i = cond (le (at ks (i + 1) ⊖ at ks i) 1e-12) (row pts (s .ch) (i + 1) ∷ [])
     (map (λ (s : Sample). s .point) (samples (evalOf s ks cs) ms tol 20 (at ks i) (row pts (s .ch) i) (at ks (i + 1)) (row pts (s .ch) (i + 1))))
+
+-- what a search for a piece of a fit asks
+pub record Pieces (s : Shape) (ks : List Float) : Type 0 where
+  pub two : 2 ≤ s .size
+  pub times : s .size ≤ length (fitTimes ks)
+  pub rising : Rising (fitTimes ks) (s .size)
+  pub knots : knotRoom ≤ length ks
 
 -- what the stretches of a fit ask: its tables, and its n points
 pub record Segments (s : Shape) (ms : List ℕ) (pts ks cs : List Float) : Type 0 where

@@ -40,6 +40,7 @@ pub fn prepare(
             n: n,
             ch: ch,
             size: p,
+            piece: 0,
         };
     }
     let m = lay_fit(motion == 7, n, ch, ms, pts, ks, cs);
@@ -48,6 +49,7 @@ pub fn prepare(
         n: n,
         ch: ch,
         size: m,
+        piece: 0,
     }
 }
 

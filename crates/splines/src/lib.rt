@@ -98,6 +98,7 @@ fn prepare_curve(
             n: n,
             ch: ch,
             size: 0,
+            piece: 0,
         };
     }
     prepare(motion, degree, n, ch, ms, pts, ws, ks, cs)

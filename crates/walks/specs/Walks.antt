@@ -36,6 +36,10 @@ pointAt s ks cs t c = cond (s .basis) (curveAt ks cs (s .n) (s .size) (s .ch) t 
 abbrev pub evalOf : Shape → List Float → List Float → Float → List Float
 evalOf s ks cs t = upto (pointAt s ks cs t) (s .ch)
 
+-- the same curve, where an evaluation looks in piece w first
+abbrev pub withPiece : Shape → ℕ → Shape
+withPiece s w = record { basis = s .basis; n = s .n; ch = s .ch; size = s .size; piece = w }
+
 -- the owner of a sample at t, where o owns the one before: in a fit the point that the stretch ends at
 unfoldable pub ownOf : Shape → List Float → ℕ → Float → ℕ
 ownOf s ks o t = cond (s .basis) (advanced ks (s .size) t (s .n - 1 - o) o) o

@@ -29,6 +29,7 @@ pub fn point_at(s: Shape, ks: &[f64], cs: &[f64], t: f64) -> [f64; 16]
     let n = s.n;
     let ch = s.ch;
     let size = s.size;
+    let piece = s.piece;
     if basis {
         return basis::point::eval(ks, cs, n, size, ch, t);
     }
@@ -39,6 +40,7 @@ pub fn point_at(s: Shape, ks: &[f64], cs: &[f64], t: f64) -> [f64; 16]
         size,
         ch,
         t,
+        piece,
     )
 }
 

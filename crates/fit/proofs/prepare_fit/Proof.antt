@@ -1,3 +1,4 @@
+-- `fit::prepare_fit` meets its contract. Assumes nothing.
 use mathlib.Core.Path.{sym}
 use native.Mathlib.Omega.{arith}
 use Rattle.fit.proofs.Gathers.{kept-few, kept-length, kept-below, kept-rise, not-ready, ready}

@@ -1,3 +1,4 @@
+-- `curves::fitted::lay_fit` meets its contract. Assumes nothing.
 use mathlib.Core.Path.{refl, sym}
 use native.Mathlib.Omega.{arith}
 use lib.Seq.{length-take-le}

@@ -1,3 +1,4 @@
+-- `curves::runs::count_runs` meets its contract. Assumes nothing.
 use Rattle.curves.proofs.Running.{fresh-of, spline-tables, spline-counted, empty-counted, fit-segments, fit-counted}
 use Rattle.curves.proofs.Recalling.{spline-remembers, empty-remembers, fit-remembers}
 use borrow.Author.Needs.{needs}

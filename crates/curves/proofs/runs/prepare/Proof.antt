@@ -1,3 +1,4 @@
+-- `curves::runs::prepare` meets its contract. Assumes nothing.
 use mathlib.Core.Path.{refl, sym}
 use mathlib.Core.Bool.{true≢false, false≢true}
 use native.Mathlib.Omega.{arith}

@@ -1,3 +1,4 @@
+-- `curves::runs::write_runs` meets its contract. Assumes nothing.
 use mathlib.Core.Path.{sym, ap, _∙_, subst}
 use mathlib.Core.List.{List}
 use Prim.Native.Nat.{_≤_}

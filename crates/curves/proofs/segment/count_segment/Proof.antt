@@ -1,3 +1,4 @@
+-- `curves::segment::count_segment` meets its contract. Assumes nothing.
 use mathlib.Core.Path.{refl}
 use native.Mathlib.Omega.{arith}
 use Rattle.walks.specs.Remembering.{stored-one, stored-as, cursor-one}

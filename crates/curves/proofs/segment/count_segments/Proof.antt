@@ -1,15 +1,19 @@
-use mathlib.Core.Path.{_≡_, refl, ap, _∙_}
+-- `curves::segment::count_segments` meets its contract. Assumes nothing.
+use mathlib.Core.Path.{_≡_, refl, sym, ap, _∙_}
+use mathlib.Core.List.{List}
 use Prim.Native.Nat.{ℕ, _≤_, _-_}
 use native.Mathlib.Omega.{arith}
-use lib.ListN.{length}
+use lib.ListN.{length, set}
 use lib.Seq.{sets}
+use lib.Ieee.{Float}
 use Rattle.floats.specs.Lists.{filled}
 use Rattle.floats.specs.Fill.{Filling, filling-none}
 use Rattle.walks.specs.Lefts.{Stored}
-use Rattle.walks.specs.Remembering.{stored-length}
+use Rattle.walks.specs.Remembering.{stored-length, stored-as}
 use Rattle.curves.specs.Stretches.{fitRunAt}
 use Rattle.curves.specs.Lefts.{fitLefts, joined}
 use Rattle.curves.proofs.Segmenting.{run-few, lefts-few, filling-set, fresh-at}
+use Rattle.curves.proofs.Hinting.{pieces-of, segments-as, fresh-as, run-as, lefts-as}
 use Rattle.curves.proofs.Joining.{stored-start, stored-more, cursor-part}
 use Rattle.curves.proofs.segment.count_segments.Statement.{statement}
 use Rattle.curves.proofs.segment.count_segments.Tie as tie
@@ -26,17 +30,20 @@ sub-last c = omega (arith, (c .before .before .before .before .before .before .p
 loop-holds : tie.Need-loop-holds Inv-loop μ-loop
 loop-holds c = ((omega arith, refl), (filling-none, stored-start (fitLefts (c .before .before .before .before .before .before .args .s) (c .before .before .before .before .before .before .args .ms .now) (c .before .before .before .before .before .before .args .tol) (c .before .before .before .before .before .before .args .pts .now) (c .before .before .before .before .before .before .args .ks .now) (c .before .before .before .before .before .before .args .cs .now))))
 
-count-segment-requires : tie.Need-count-segment-requires Inv-loop μ-loop
-count-segment-requires c κs = ((c .before .before .before .before .before .before .before .before .before .before .pre) .0, (fresh-at (λ (k : ℕ). length (fitRunAt (c .before .before .before .before .before .before .before .before .before .before .args .s) (c .before .before .before .before .before .before .before .before .before .before .args .ms .now) (c .before .before .before .before .before .before .before .before .before .before .args .tol) (c .before .before .before .before .before .before .before .before .before .before .args .pts .now) (c .before .before .before .before .before .before .before .before .before .before .args .ks .now) (c .before .before .before .before .before .before .before .before .before .before .args .cs .now) k)) (run-few (c .before .before .before .before .before .before .before .before .before .before .args .s) (c .before .before .before .before .before .before .before .before .before .before .args .ms .now) (c .before .before .before .before .before .before .before .before .before .before .args .tol) (c .before .before .before .before .before .before .before .before .before .before .args .pts .now) (c .before .before .before .before .before .before .before .before .before .before .args .ks .now) (c .before .before .before .before .before .before .before .before .before .before .args .cs .now)) ((c .before .before .before .before .before .before .before .before .before .before .pre) .1) ((c .before .before .before .loop .inv) .1 .0) (c .before .before .loop-test .taken), cursor-part (fitLefts (c .before .before .before .before .before .before .before .before .before .before .args .s) (c .before .before .before .before .before .before .before .before .before .before .args .ms .now) (c .before .before .before .before .before .before .before .before .before .before .args .tol) (c .before .before .before .before .before .before .before .before .before .before .args .pts .now) (c .before .before .before .before .before .before .before .before .before .before .args .ks .now) (c .before .before .before .before .before .before .before .before .before .before .args .cs .now)) (lefts-few (c .before .before .before .before .before .before .before .before .before .before .args .s) (c .before .before .before .before .before .before .before .before .before .before .args .ms .now) (c .before .before .before .before .before .before .before .before .before .before .args .tol) (c .before .before .before .before .before .before .before .before .before .before .args .pts .now) (c .before .before .before .before .before .before .before .before .before .before .args .ks .now) (c .before .before .before .before .before .before .before .before .before .before .args .cs .now)) (c .before .before .before .loop .i) (omega (arith, (c .before .before .loop-test .taken), (c .before .before .before .before .before .before .before .before .before .before .pre) .0 .tables .few)) ((c .before .before .before .loop .inv) .1 .1 .end)))
+add-next : tie.Need-add-next Inv-loop μ-loop
+add-next c = omega (arith, (c .loop-test .taken), (c .before .before .before .before .before .before .before .before .pre) .0 .tables .few)
 
-add-i : tie.Need-add-i Inv-loop μ-loop
-add-i c = omega (arith, (c .before .before .before .before .before .before .before .loop-test .taken), (c .before .before .before .before .before .before .before .before .before .before .before .before .before .before .before .pre) .1 .table)
+at-stretch-requires : tie.Need-at-stretch-requires Inv-loop μ-loop
+at-stretch-requires c κs = (pieces-of ((c .before .before .before .before .before .before .before .before .pre) .0), omega (arith, (c .loop-test .taken), (c .before .before .before .before .before .before .before .before .pre) .0 .tables .few, (c .before .before .before .before .before .before .before .before .pre) .0 .tables .knots))
+
+count-segment-requires : tie.Need-count-segment-requires Inv-loop μ-loop
+count-segment-requires c κs = (segments-as _ (c .before .before .at-stretch .ensures) ((c .before .before .before .before .before .before .before .before .before .before .before .pre) .0), (fresh-as _ (c .before .before .at-stretch .ensures) (fresh-at (λ (k : ℕ). length (fitRunAt (c .before .before .before .before .before .before .before .before .before .before .before .args .s) (c .before .before .before .before .before .before .before .before .before .before .before .args .ms .now) (c .before .before .before .before .before .before .before .before .before .before .before .args .tol) (c .before .before .before .before .before .before .before .before .before .before .before .args .pts .now) (c .before .before .before .before .before .before .before .before .before .before .before .args .ks .now) (c .before .before .before .before .before .before .before .before .before .before .before .args .cs .now) k)) (run-few (c .before .before .before .before .before .before .before .before .before .before .before .args .s) (c .before .before .before .before .before .before .before .before .before .before .before .args .ms .now) (c .before .before .before .before .before .before .before .before .before .before .before .args .tol) (c .before .before .before .before .before .before .before .before .before .before .before .args .pts .now) (c .before .before .before .before .before .before .before .before .before .before .before .args .ks .now) (c .before .before .before .before .before .before .before .before .before .before .before .args .cs .now)) ((c .before .before .before .before .before .before .before .before .before .before .before .pre) .1) ((c .before .before .before .before .loop .inv) .1 .0) (c .before .before .before .loop-test .taken)), cursor-part (fitLefts (c .before .before .before .before .before .before .before .before .before .before .before .args .s) (c .before .before .before .before .before .before .before .before .before .before .before .args .ms .now) (c .before .before .before .before .before .before .before .before .before .before .before .args .tol) (c .before .before .before .before .before .before .before .before .before .before .before .args .pts .now) (c .before .before .before .before .before .before .before .before .before .before .before .args .ks .now) (c .before .before .before .before .before .before .before .before .before .before .before .args .cs .now)) (lefts-few (c .before .before .before .before .before .before .before .before .before .before .before .args .s) (c .before .before .before .before .before .before .before .before .before .before .before .args .ms .now) (c .before .before .before .before .before .before .before .before .before .before .before .args .tol) (c .before .before .before .before .before .before .before .before .before .before .before .args .pts .now) (c .before .before .before .before .before .before .before .before .before .before .before .args .ks .now) (c .before .before .before .before .before .before .before .before .before .before .before .args .cs .now)) (c .before .before .before .before .loop .i) (omega (arith, (c .before .before .before .loop-test .taken), (c .before .before .before .before .before .before .before .before .before .before .before .pre) .0 .tables .few)) ((c .before .before .before .before .loop .inv) .1 .1 .end)))
 
 loop-less : tie.Need-loop-less Inv-loop μ-loop
-loop-less c = omega (arith, (c .before .before .before .before .before .before .before .loop-test .taken))
+loop-less c = omega (arith, (c .before .before .before .before .before .before .before .before .loop-test .taken))
 
 loop-again : tie.Need-loop-again Inv-loop μ-loop
-loop-again c = let f = filling-set ((c .before .before .before .before .before .before .before .before .loop .inv) .1 .0) (omega (arith, (c .before .before .before .before .before .before .before .before .before .before .before .before .before .before .before .pre) .1 .table, (c .before .before .before .before .before .before .before .loop-test .taken))) ((c .before .before .before .before .count-segment .ensures) .0) in ((omega (arith, (c .before .before .before .before .before .before .before .loop-test .taken)), f .same), (f, stored-more (fitLefts (c .before .before .before .before .before .before .before .before .before .before .before .before .before .before .before .args .s) (c .before .before .before .before .before .before .before .before .before .before .before .before .before .before .before .args .ms .now) (c .before .before .before .before .before .before .before .before .before .before .before .before .before .before .before .args .tol) (c .before .before .before .before .before .before .before .before .before .before .before .before .before .before .before .args .pts .now) (c .before .before .before .before .before .before .before .before .before .before .before .before .before .before .before .args .ks .now) (c .before .before .before .before .before .before .before .before .before .before .before .before .before .before .before .args .cs .now)) (c .before .before .before .before .before .before .before .before .loop .i) ((c .before .before .before .before .before .before .before .before .loop .inv) .1 .1) ((c .before .before .before .before .count-segment .ensures) .1)))
+loop-again c = let f = filling-set ((c .before .before .before .before .before .before .before .before .before .loop .inv) .1 .0) (omega (arith, (c .before .before .before .before .before .before .before .before .before .before .before .before .before .before .before .before .pre) .1 .table, (c .before .before .before .before .before .before .before .before .loop-test .taken))) ((c .before .before .before .before .count-segment .ensures) .0 ∙ ap (λ (z : List (List Float)). set (c .before .before .before .before .before .before .before .before .before .loop .counts) (c .before .before .before .before .before .before .before .before .before .loop .i) (length z)) (run-as (c .before .before .before .before .before .before .before .before .before .before .before .before .before .before .before .before .args .s) (c .before .before .before .before .before .before .before .at-stretch .ensures) (c .before .before .before .before .before .before .before .before .before .before .before .before .before .before .before .before .args .ms .now) (c .before .before .before .before .before .before .before .before .before .before .before .before .before .before .before .before .args .tol) (c .before .before .before .before .before .before .before .before .before .before .before .before .before .before .before .before .args .pts .now) (c .before .before .before .before .before .before .before .before .before .before .before .before .before .before .before .before .args .ks .now) (c .before .before .before .before .before .before .before .before .before .before .before .before .before .before .before .before .args .cs .now) (c .before .before .before .before .before .before .before .before .before .loop .i))) in ((omega (arith, (c .before .before .before .before .before .before .before .before .loop-test .taken)), f .same), (f, stored-more (fitLefts (c .before .before .before .before .before .before .before .before .before .before .before .before .before .before .before .before .args .s) (c .before .before .before .before .before .before .before .before .before .before .before .before .before .before .before .before .args .ms .now) (c .before .before .before .before .before .before .before .before .before .before .before .before .before .before .before .before .args .tol) (c .before .before .before .before .before .before .before .before .before .before .before .before .before .before .before .before .args .pts .now) (c .before .before .before .before .before .before .before .before .before .before .before .before .before .before .before .before .args .ks .now) (c .before .before .before .before .before .before .before .before .before .before .before .before .before .before .before .before .args .cs .now)) (c .before .before .before .before .before .before .before .before .before .loop .i) ((c .before .before .before .before .before .before .before .before .before .loop .inv) .1 .1) (stored-as (sym (lefts-as (c .before .before .before .before .before .before .before .before .before .before .before .before .before .before .before .before .args .s) (c .before .before .before .before .before .before .before .at-stretch .ensures) (c .before .before .before .before .before .before .before .before .before .before .before .before .before .before .before .before .args .ms .now) (c .before .before .before .before .before .before .before .before .before .before .before .before .before .before .before .before .args .tol) (c .before .before .before .before .before .before .before .before .before .before .before .before .before .before .before .before .args .pts .now) (c .before .before .before .before .before .before .before .before .before .before .before .before .before .before .before .before .args .ks .now) (c .before .before .before .before .before .before .before .before .before .before .before .before .before .before .before .before .args .cs .now) (c .before .before .before .before .before .before .before .before .before .loop .i))) ((c .before .before .before .before .count-segment .ensures) .1))))
 
 same-length : tie.Need-same-length Inv-loop μ-loop
 same-length c = (c .before .loop .inv) .1 .0 .same
@@ -55,8 +62,9 @@ count-segments-spec =
     μ-loop
     sub-last
     loop-holds
+    add-next
+    at-stretch-requires
     count-segment-requires
-    add-i
     loop-less
     loop-again
     same-length

@@ -1,3 +1,4 @@
+-- `curves::segment::write_segment` meets its contract. Assumes nothing.
 use mathlib.Core.Path.{refl, sym, ap, _∙_, subst}
 use mathlib.Core.List.{List}
 use Prim.Native.Nat.{ℕ, _≤_, _+_}

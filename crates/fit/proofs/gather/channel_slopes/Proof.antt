@@ -1,3 +1,4 @@
+-- `fit::gather::channel_slopes` meets its contract. Assumes nothing.
 use mathlib.Core.Path.{sym}
 use native.Mathlib.Nat.{le-of-eq}
 use lib.ListN.{replicate}

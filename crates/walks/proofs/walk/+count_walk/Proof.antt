@@ -1,3 +1,4 @@
+-- `walks::walk::count_walk` meets its contract. Assumes nothing.
 use mathlib.Core.Path.{sym, _∙_}
 use native.Mathlib.Omega.{arith}
 use Rattle.walks.specs.Walks.{evalOf}

@@ -1,3 +1,4 @@
+-- `walks::walk::is_flat` meets its contract. Assumes nothing.
 use native.Mathlib.Omega.{arith}
 use Rattle.walks.specs.Walks.{evalOf}
 use Rattle.walks.proofs.Walking.{flat-no, flat-no-2, flat-last}

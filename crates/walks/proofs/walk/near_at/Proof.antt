@@ -1,3 +1,4 @@
+-- `walks::walk::near_at` meets its contract. Assumes nothing.
 use mathlib.Core.Path.{sym, ap, _∙_}
 use native.Mathlib.Omega.{arith}
 use Rattle.metric.specs.Walk.{near}

@@ -1,3 +1,4 @@
+-- `walks::walk::owner_at` meets its contract. Assumes nothing.
 use native.Mathlib.Omega.{arith}
 use Rattle.walks.specs.Walks.{ownOf}
 use Rattle.walks.proofs.walk.owner_at.Statement.{statement}

@@ -1,3 +1,4 @@
+-- `walks::walk::point_at` meets its contract. Assumes nothing.
 use Rattle.walks.proofs.Walking.{spline-point, fit-point}
 use borrow.Author.Needs.{needs}
 use Rattle.walks.proofs.walk.point_at.Statement.{statement}
