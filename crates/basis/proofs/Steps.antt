@@ -4,7 +4,7 @@ use mathlib.Core.List.{List}
 use mathlib.Core.Bool.{true, false}
 use Prim.Native.Nat.{ℕ, zero, suc, _+_, _-_, _*_, _<_, _≤_, min}
 use native.Mathlib.Numerals.{add-one}
-use native.Mathlib.Nat.{le-trans, mul-le-mul-left, mul-le-mul-right}
+use native.Mathlib.Nat.{mul-le-mul-right}
 use native.Mathlib.Omega.{arith}
 use lib.Dec.{T, le→leb}
 use lib.IntN.{pos}
@@ -69,7 +69,3 @@ pub product-in : (ch n len : ℕ) → ch ≤ 10 → n ≤ 257 → 2827 ≤ len �
 product-in ch n len h g l =
     let a : (ch + 1) * n ≤ 11 * n = mul-le-mul-right n (omega arith) in
     omega arith
-
--- the work memory for degrees up to q
-pub cells-in : (ch p q : ℕ) → ch ≤ 10 → p ≤ q → (ch + 1) * (p + 1) ≤ 11 * (q + 1)
-cells-in ch p q h g = le-trans (mul-le-mul-right (p + 1) (omega arith)) (mul-le-mul-left 11 (omega arith))

@@ -31,7 +31,7 @@ pub fn point_at(s: Shape, ks: &[f64], cs: &[f64], t: f64) -> [f64; 16]
     let ch = s.ch;
     let size = s.size;
     if basis {
-        return basis::point::eval(ks, cs, n, size, ch, t);
+        return boor::point::eval(ks, cs, n, size, ch, t);
     }
     fit::eval_fit(
         &ks[FIT_TIMES..KNOT_ROOM],

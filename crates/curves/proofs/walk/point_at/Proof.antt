@@ -4,7 +4,7 @@ use Rattle.curves.proofs.walk.point_at.Statement.{statement}
 use Rattle.curves.proofs.walk.point_at.Tie as tie
 use Rattle.curves.proofs.walk.point_at.Reads as reads
 use Rattle.curves.proofs.walk.point_at.Lts as lts
-use Rattle.basis.proofs.point.eval.Reads as eval-reads
+use Rattle.boor.proofs.point.eval.Reads as eval-reads
 use Rattle.fit.proofs.eval_fit.Reads as eval-fit-reads
 
 -- src/walk.rt:24:9

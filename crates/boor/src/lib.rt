@@ -1,0 +1,3 @@
+pub mod boor;
+pub mod low;
+pub mod point;
