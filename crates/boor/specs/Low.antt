@@ -1,4 +1,4 @@
--- De Boor's triangle of degrees 1 to 3, written out. Assumes nothing.
+-- De Boor's triangle of degrees 1 to 4, written out. Assumes nothing.
 use mathlib.Core.List.{List}
 use mathlib.Core.Path.{_≡_}
 use mathlib.Core.Bool.{cond}
@@ -7,6 +7,7 @@ use lib.Dec.{eqb, ltb}
 use lib.Ieee.{Float}
 use Rattle.floats.specs.Numbers.{_⊕_, _⊖_, _⊗_, _⊘_, f0, f1, at}
 use Rattle.basis.specs.Basis.{share}
+use Rattle.boor.specs.declared.four.Fourth.{Fourth}
 use Rattle.boor.specs.declared.low.Shares.{Shares}
 
 -- s has the share of each row that counts in span k
@@ -36,6 +37,20 @@ top3 s xs i =
 unfoldable pub topOf : Shares → ℕ → List Float → ℕ → Float
 topOf s p xs i = cond (eqb p 1) (top1 s xs i) (cond (eqb p 2) (top2 s xs i) (top3 s xs i))
 
--- channel c at degree 3, by a number; 0 where there is none
-unfoldable pub thirdOf : Shares → Float → List Float → ℕ → ℕ → ℕ → ℕ → Float
-thirdOf s by xs n from ch c = cond (ltb c ch) (topOf s 3 xs (c * n + from) ⊘ by) f0
+-- channel c's number by another; 0 where there is no channel
+unfoldable pub placed : (ℕ → Float) → Float → ℕ → ℕ → Float
+placed f by ch c = cond (ltb c ch) (f c ⊘ by) f0
+
+-- s has the shares of degree 4 in span k: of the triangle of degree 3 at its foot, of that one row up, and of its top
+pub record FourthIn (ks : List Float) (u : Float) (p k : ℕ) (s : Fourth) : Type 0 where
+  pub low : SharesIn ks u p k (s .low)
+  pub first2 : s .high .a1 ≡ share ks u p k 1 2
+  pub first3 : s .high .a2 ≡ share ks u p k 1 3
+  pub first4 : s .high .a3 ≡ share ks u p k 1 4
+  pub second3 : s .high .b2 ≡ share ks u p k 2 3
+  pub second4 : s .high .b3 ≡ share ks u p k 2 4
+  pub third4 : s .high .c3 ≡ share ks u p k 3 4
+  pub fourth4 : s .top ≡ share ks u p k 4 4
+
+abbrev pub top4 : Fourth → List Float → ℕ → Float
+top4 s xs i = mixOf (s .top) (top3 (s .low) xs i) (top3 (s .high) xs (i + 1))

@@ -5,7 +5,7 @@ ghost use Prim.Native.Nat.{_≤_, _<_, _+_, _*_};
 ghost use lib.ListN.{length, replicate};
 ghost use Rattle.floats.specs.Numbers.{_⊘_, f0};
 ghost use Rattle.floats.specs.Lists.{filled};
-ghost use Rattle.boor.specs.Low.{mixOf, top1, top2, top3, topOf, thirdOf, SharesIn};
+ghost use Rattle.boor.specs.Low.{mixOf, top1, top2, top3, topOf, placed, SharesIn};
 
 // The shares of the rows that count: a of level 1, b of level 2, c of level 3.
 pub struct Shares {
@@ -17,9 +17,9 @@ pub struct Shares {
     pub c3: f64,
 }
 
-// The shares in knot span k; those that degree p has no row for are 0.
+// The shares of levels 1 to 3 in knot span k; those that degree p has no row for are 0.
 pub fn shares_in(ks: &[f64], u: f64, p: usize, k: usize) -> Shares
-    requires { ⌜ (1 ≤ p) × ((p ≤ 3) × ((p ≤ k) × (k + p < length (now ks)))) ⌝ }
+    requires { ⌜ (1 ≤ p) × ((p ≤ k) × (k + p < length (now ks))) ⌝ }
     ensures { λ r. ⌜ SharesIn (now (ks .entry)) u p k r ⌝ }
 {
     let a1 = share_at(ks, u, p, k, 1, 1);
@@ -56,7 +56,7 @@ pub fn shares_in(ks: &[f64], u: f64, p: usize, k: usize) -> Shares
 }
 
 // A row of the next level, from the row below it and itself.
-fn mix(share: f64, low: f64, high: f64) -> f64
+pub fn mix(share: f64, low: f64, high: f64) -> f64
     ensures { λ r. ⌜ r ≡ mixOf share low high ⌝ }
 {
     (1.0 - share) * low + share * high
@@ -106,7 +106,7 @@ pub fn project_tops(s: Shares, p: usize, cw: &[f64], n: usize, from: usize, ch: 
     r
 }
 
-fn top_three(s: Shares, x: &[f64], i: usize) -> f64
+pub fn top_three(s: Shares, x: &[f64], i: usize) -> f64
     requires { ⌜ i + 3 < length (now x) ⌝ }
     ensures { λ r. ⌜ r ≡ top3 s (now (x .entry)) i ⌝ }
 {
@@ -121,7 +121,7 @@ fn top_three(s: Shares, x: &[f64], i: usize) -> f64
 // Channel c at degree 3, by the top of the weights; 0 where there is none.
 fn third_at(s: Shares, by: f64, cw: &[f64], n: usize, from: usize, ch: usize, c: usize) -> f64
     requires { ⌜ (from + 3 < n) × ((ch + 1) * n ≤ length (now cw)) ⌝ }
-    ensures { λ r. ⌜ r ≡ thirdOf s by (now (cw .entry)) n from ch c ⌝ }
+    ensures { λ r. ⌜ r ≡ placed (λ j. topOf s 3 (now (cw .entry)) (j * n + from)) by ch c ⌝ }
 {
     if c < ch {
         return top_three(s, cw, c * n + from) / by;

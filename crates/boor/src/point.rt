@@ -2,6 +2,8 @@
 use crate::boor::climb_up;
 use crate::boor::load_back;
 use crate::boor::project_first;
+use crate::four::fourth_in;
+use crate::four::project_four;
 use crate::low::project_three;
 use crate::low::project_tops;
 use crate::low::shares_in;
@@ -64,12 +66,15 @@ fn eval_in(
 
 fn eval_low(ks: &[f64], cw: &[f64], n: usize, p: usize, ch: usize, t: f64) -> [f64; 16]
     requires { ⌜ Curve (now ks) (now cw) n p ch ⌝ }
-    requires { ⌜ p ≤ 3 ⌝ }
+    requires { ⌜ p ≤ 4 ⌝ }
     ensures { λ r. ⌜ r ≡ filled (curveAt (now (ks .entry)) (now (cw .entry)) n p ch t) ch (replicate 16 f0) ⌝ }
 {
     let hi = ks[n];
     let u = hold(t, hi);
     let k = span_of(u, hi, p, n);
+    if p == 4 {
+        return project_four(fourth_in(ks, u, k), cw, n, k - 4, ch);
+    }
     let s = shares_in(ks, u, p, k);
     if p == 3 {
         return project_three(s, cw, n, k - 3, ch);
@@ -112,7 +117,7 @@ pub fn eval(ks: &[f64], cw: &[f64], n: usize, p: usize, ch: usize, t: f64) -> [f
     requires { ⌜ Curve (now ks) (now cw) n p ch ⌝ }
     ensures { λ r. ⌜ r ≡ filled (curveAt (now (ks .entry)) (now (cw .entry)) n p ch t) ch (replicate 16 f0) ⌝ }
 {
-    if p < 4 {
+    if p < 5 {
         return eval_low(ks, cw, n, p, ch, t);
     }
     if p < 16 {

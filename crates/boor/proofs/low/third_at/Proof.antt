@@ -2,7 +2,7 @@ use mathlib.Core.Path.{refl}
 use Prim.Native.Nat.{_+_}
 use native.Mathlib.Omega.{arith}
 use Rattle.basis.specs.RowLaws.{source}
-use Rattle.boor.proofs.Straight.{third-in, third-out}
+use Rattle.boor.proofs.Straight.{third-in, placed-out}
 use Rattle.boor.proofs.low.third_at.Statement.{statement}
 use Rattle.boor.proofs.low.third_at.Tie as tie
 
@@ -19,7 +19,7 @@ returns : tie.Need-returns
 returns c = third-in _ _ _ _ _ _ _ (c .before .if1 .taken) (c .top-three .ensures)
 
 returns-2 : tie.Need-returns-2
-returns-2 c = third-out _ _ _ _ _ _ _ (omega arith)
+returns-2 c = placed-out _ _ _ _ (omega arith)
 
 pub third-at-spec : {M : Type 1} → statement M
 third-at-spec =
