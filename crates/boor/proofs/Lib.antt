@@ -1,2 +1,2 @@
-pub mod Mirrored
+pub mod Climbing
 pub mod Straight

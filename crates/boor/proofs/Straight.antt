@@ -4,8 +4,8 @@ use mathlib.Core.List.{List, _∷_}
 use mathlib.Core.Logic.{_⊎_, inl, inr, ⊎-elim}
 use Prim.Native.Nat.{ℕ, zero, suc, _+_, _-_, _*_, _<_, _≤_}
 use native.Mathlib.Omega.{arith}
-use lib.ListN.{length, take, drop, replicate, getD-replicate}
-use lib.Seq.{getD-take, getD-drop, ext-getD}
+use lib.ListN.{length, replicate, getD-replicate}
+use lib.Seq.{ext-getD}
 use lib.Ieee.{Float, nan}
 use borrow.Author.Tests.{eq-eqb, ne-eqb, lt-ltb, le-ltb}
 use Rattle.floats.specs.Numbers.{_⊘_, f0, heldIn, at}
@@ -16,7 +16,7 @@ use Rattle.basis.specs.Tables.{weighted, window, spanIn, curveAt, Curve}
 use Rattle.boor.specs.Low.{SharesIn, mixOf, top1, top2, top3, top4, topOf, placed, FourthIn}
 use Rattle.boor.specs.declared.four.Fourth.{Fourth}
 use Rattle.boor.specs.declared.low.Shares.{Shares}
-use Rattle.boor.proofs.Mirrored.{level-at, curve-is, window-length}
+use Rattle.boor.proofs.Climbing.{level-at, curve-is, window-at, window-length}
 
 -- ---- by the degree
 module _ (s : Shares) (p : ℕ) (xs : List Float) (i : ℕ) where
@@ -44,6 +44,9 @@ four-of s xs i ea eb er = rw (er, ea, eb)
 -- ---- the channels, one after another
 pub ratio-is : (f : ℕ → Float) {a b : ℕ} {x : Float} (y : Float) → x ≡ f a → a ≡ b → x ⊘ y ≡ f b ⊘ y
 ratio-is f y ex e = rw (ex, e)
+
+pub ratios-by : (f : ℕ → Float) (l : List Float) {b y : Float} {c ch : ℕ} {r : List Float} → b ≡ y → c ≡ ch → r ≡ filled (λ i. f i ⊘ b) c l → r ≡ filled (λ i. f i ⊘ y) ch l
+ratios-by f l {y = y} {c = c} eb ec er = er ∙ ap (λ (z : Float). filled (λ i. f i ⊘ z) c l) eb ∙ ap (λ (z : ℕ). filled (λ i. f i ⊘ y) z l) ec
 
 -- ---- the channels, written out
 module _ (f : ℕ → Float) (by : Float) (ch c : ℕ) where
@@ -91,13 +94,7 @@ module _ (ks cw : List Float) (n p : ℕ) (u : Float) (k c : ℕ) (in-span : p �
 
   number-at : (j : ℕ) {i : ℕ} → j ≤ p → i ≡ c * n + (k - p) + j → at cw i ≡ lev 0 j
   unfolding levels
-  number-at j h e =
-      let z : c * n + (k - p + j) ≡ c * n + (k - p) + j = omega arith in
-      sym (getD-take (p + 1) (drop (k - p) (row cw n c)) j nan (omega arith)
-      ∙ getD-drop (k - p) (row cw n c) j nan
-      ∙ getD-take n (drop (c * n) cw) (k - p + j) nan (omega arith)
-      ∙ getD-drop (c * n) cw (k - p + j) nan
-      ∙ ap (at cw) (z ∙ sym e))
+  number-at j h e = window-at cw n p k c j in-span under h e
 
   up : (r j : ℕ) {a x y : Float} → suc r ≤ j → j ≤ p → a ≡ share ks u p k (suc r) j → x ≡ lev r (j - 1) → y ≡ lev r j → mixOf a x y ≡ lev (suc r) j
   up r j h g ea ex ey = rw (ea, ex, ey) (sym (level-at ks u p k (window cw n p k c) r j wide (omega arith) h))

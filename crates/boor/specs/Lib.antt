@@ -1,2 +1,2 @@
+pub mod Climb
 pub mod Low
-pub mod Mirror

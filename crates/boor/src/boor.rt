@@ -1,13 +1,13 @@
-// De Boor's triangle with its rows mirrored: each level goes upwards in place, over the rows that still count.
+// De Boor's triangle in work memory: a row of numbers for each control point, one a channel, the last point first. So
+// each level goes upwards in place, over the rows that still count.
 ghost use mathlib.Core.Path.{_≡_};
 ghost use Prim.Native.Nat.{_≤_, _<_, _+_, _*_, _-_};
-ghost use lib.ListN.{length, take, drop, replicate};
-ghost use lib.Ieee as Ieee;
-ghost use Rattle.floats.specs.Numbers.{f0, at};
-ghost use Rattle.floats.specs.Lists.{upto, filled, row};
+ghost use lib.ListN.{length, replicate};
+ghost use Rattle.floats.specs.Numbers.{_⊘_, f0, at};
+ghost use Rattle.floats.specs.Lists.{filled};
 ghost use Rattle.basis.specs.Basis.{share};
-ghost use Rattle.basis.specs.Tables.{Rows};
-ghost use Rattle.boor.specs.Mirror.{mixed, Mirrors};
+ghost use Rattle.boor.specs.Low.{placed};
+ghost use Rattle.boor.specs.Climb.{Width, Put, Raised, Level, Climbed, Loaded};
 
 // The share of row j at level r, in knot span k.
 pub fn share_at(ks: &[f64], t: f64, p: usize, k: usize, r: usize, j: usize) -> f64
@@ -25,106 +25,158 @@ pub fn share_at(ks: &[f64], t: f64, p: usize, k: usize, r: usize, j: usize) -> f
     }
 }
 
-// The shares of the m rows that count at level r, the last row first.
-fn shares_up(ks: &[f64], t: f64, p: usize, k: usize, r: usize, m: usize, al: &mut [f64])
+// The numbers of a row that has ch channels and the weights: whole fours.
+pub fn row_width(ch: usize) -> usize
+    requires { ⌜ ch ≤ 10 ⌝ }
+    ensures { λ r. ⌜ Width r × (ch < r) ⌝ }
+{
+    if ch < 4 {
+        return 4;
+    }
+    if ch < 8 {
+        return 8;
+    }
+    12
+}
+
+// Number s of each channel, at i and on.
+fn load_row(cw: &[f64], n: usize, s: usize, ch: usize, d: &mut [f64], i: usize)
+    requires { ⌜ ((ch + 1) * n ≤ length (now cw)) × ((s < n) × ((n ≤ 257) × (i + ch < length (now d)))) ⌝ }
+    ensures { λ _. ⌜ Put (λ c. at (now (cw .entry)) (c * n + s)) (now (d .entry)) (now (d .exit)) i (ch + 1) ⌝ }
+{
+    let rows = ch + 1;
+    let mut x = s;
+    let mut c = 0;
+    while c < rows {
+        d[i + c] = cw[x];
+        x += n;
+        c += 1;
+    }
+}
+
+// A row for each control point that bears on span k.
+pub fn load_rows(cw: &[f64], n: usize, k: usize, p: usize, ch: usize, wide: usize, d: &mut [f64])
+    requires { ⌜ ((ch + 1) * n ≤ length (now cw)) × ((k < n) × ((n ≤ 257) × (p ≤ k))) ⌝ }
+    requires { ⌜ (ch < wide) × ((p + 1) * wide ≤ length (now d)) ⌝ }
+    ensures { λ _. ⌜ Loaded (now (cw .entry)) (now (d .exit)) n k ch wide (p + 1) ⌝ }
+{
+    let rows = p + 1;
+    let mut i = 0;
+    let mut h = 0;
+    while h < rows {
+        load_row(cw, n, k - h, ch, d, i);
+        i += wide;
+        h += 1;
+    }
+}
+
+// Four numbers of a row at the next level. All are read before the first is written, so that they go in pairs.
+fn raise_four(d: &mut [f64], i: usize, wide: usize, share: f64)
+    requires { ⌜ i + wide + 3 < length (now d) ⌝ }
+    ensures { λ _. ⌜ Raised (now (d .entry)) (now (d .exit)) i 4 wide share ⌝ }
+{
+    let rest = 1.0 - share;
+    let e = i + wide;
+    let x0 = rest * d[e] + share * d[i];
+    let x1 = rest * d[e + 1] + share * d[i + 1];
+    let x2 = rest * d[e + 2] + share * d[i + 2];
+    let x3 = rest * d[e + 3] + share * d[i + 3];
+    d[i] = x0;
+    d[i + 1] = x1;
+    d[i + 2] = x2;
+    d[i + 3] = x3;
+}
+
+fn raise_row(d: &mut [f64], i: usize, wide: usize, share: f64)
+    requires { ⌜ Width wide ⌝ }
+    requires { ⌜ i + wide + wide ≤ length (now d) ⌝ }
+    ensures { λ _. ⌜ Raised (now (d .entry)) (now (d .exit)) i wide wide share ⌝ }
+{
+    raise_four(d, i, wide, share);
+    if wide < 8 {
+        return;
+    }
+    raise_four(d, i + 4, wide, share);
+    if wide < 12 {
+        return;
+    }
+    raise_four(d, i + 8, wide, share);
+}
+
+// One level, of m rows.
+fn raise_rows(
+    ks: &[f64],
+    u: f64,
+    p: usize,
+    k: usize,
+    r: usize,
+    m: usize,
+    wide: usize,
+    d: &mut [f64],
+)
     requires { ⌜ (1 ≤ r) × ((r ≤ p) × ((p ≤ k) × (k + p < length (now ks)))) ⌝ }
-    requires { ⌜ (m ≤ p) × (m ≤ length (now al)) ⌝ }
-    ensures { λ _. ⌜ now (al .exit) ≡ filled (λ h. share (now (ks .entry)) t p k r (p - h)) m (now (al .entry)) ⌝ }
+    requires { ⌜ Width wide ⌝ }
+    requires { ⌜ (m ≤ p) × ((p + 1) * wide ≤ length (now d)) ⌝ }
+    ensures { λ _. ⌜ Level (now (d .entry)) (now (d .exit)) wide m (λ h. share (now (ks .entry)) u p k r (p - h)) ⌝ }
 {
+    let mut i = 0;
     let mut h = 0;
     while h < m {
-        al[h] = share_at(ks, t, p, k, r, p - h);
+        raise_row(d, i, wide, share_at(ks, u, p, k, r, p - h));
+        i += wide;
         h += 1;
     }
 }
 
-// One level of one channel.
-fn raise_up(x: &mut [f64], al: &[f64], m: usize)
-    requires { ⌜ (m < length (now x)) × (m ≤ length (now al)) ⌝ }
-    ensures { λ _. ⌜ now (x .exit) ≡ filled (mixed (now (al .entry)) (now (x .entry))) m (now (x .entry)) ⌝ }
+// All p levels.
+pub fn climb_up(ks: &[f64], u: f64, p: usize, k: usize, wide: usize, d: &mut [f64])
+    requires { ⌜ (p ≤ k) × (k + p < length (now ks)) ⌝ }
+    requires { ⌜ Width wide ⌝ }
+    requires { ⌜ (p + 1) * wide ≤ length (now d) ⌝ }
+    ensures { λ _. ⌜ Climbed (now (ks .entry)) u p k wide (now (d .entry)) (now (d .exit)) p ⌝ }
 {
-    let mut h = 0;
-    while h < m {
-        x[h] = (1.0 - al[h]) * x[h + 1] + al[h] * x[h];
-        h += 1;
-    }
-}
-
-// One level of every channel.
-fn raise_rows(d: &mut [f64], al: &[f64], m: usize, w: usize, rows: usize)
-    requires { ⌜ (m < w) × ((m ≤ length (now al)) × (rows * w ≤ length (now d))) ⌝ }
-    ensures { λ _. ⌜ Rows (now (d .exit)) w rows (λ c. filled (mixed (now (al .entry)) (row (now (d .entry)) w c)) m (row (now (d .entry)) w c)) ⌝ }
-{
-    let mut a = 0;
-    let mut c = 0;
-    while c < rows {
-        let e = a + w;
-        raise_up(&mut d[a..e], al, m);
-        a = e;
-        c += 1;
-    }
-}
-
-fn copy_back(src: &[f64], dst: &mut [f64])
-    requires { ⌜ length (now src) ≡ length (now dst) ⌝ }
-    ensures { λ _. ⌜ now (dst .exit) ≡ upto (λ h. at (now (src .entry)) (length (now (src .entry)) - 1 - h)) (length (now (src .entry))) ⌝ }
-{
-    let n = dst.len();
-    let mut h = 0;
-    while h < n {
-        dst[h] = src[n - 1 - h];
-        h += 1;
-    }
-}
-
-// The w control numbers of each channel from `from` on, the last first.
-pub fn load_back(cw: &[f64], n: usize, from: usize, w: usize, rows: usize, d: &mut [f64])
-    requires { ⌜ (rows * n ≤ length (now cw)) × ((from + w ≤ n) × (rows * w ≤ length (now d))) ⌝ }
-    requires { ⌜ n ≤ 257 ⌝ }
-    ensures { λ _. ⌜ Rows (now (d .exit)) w rows (λ c. upto (λ h. at (take w (drop from (row (now (cw .entry)) n c))) (w - 1 - h)) w) ⌝ }
-{
-    let mut s = from;
-    let mut a = 0;
-    let mut c = 0;
-    while c < rows {
-        let f = s + w;
-        let e = a + w;
-        copy_back(&cw[s..f], &mut d[a..e]);
-        s += n;
-        a = e;
-        c += 1;
-    }
-}
-
-// All p levels of every channel.
-pub fn climb_up(ks: &[f64], u: f64, p: usize, k: usize, rows: usize, al: &mut [f64], d: &mut [f64])
-    requires { ⌜ (p ≤ 256) × ((p ≤ k) × (k + p < length (now ks))) ⌝ }
-    requires { ⌜ (p < length (now al)) × (rows * (p + 1) ≤ length (now d)) ⌝ }
-    ensures { λ _. ⌜ Mirrors (now (ks .entry)) u p k rows (now (d .entry)) (now (d .exit)) p ⌝ }
-{
-    let w = p + 1;
     let mut r = 0;
     while r < p {
         let m = p - r;
         r += 1;
-        shares_up(ks, u, p, k, r, m, al);
-        raise_rows(d, al, m, w, rows);
+        raise_rows(ks, u, p, k, r, m, wide, d);
     }
 }
 
-// The first number of each channel, by that of channel ch.
-pub fn project_first(d: &[f64], w: usize, ch: usize) -> [f64; 16]
-    requires { ⌜ (1 ≤ w) × ((ch ≤ 10) × ((ch + 1) * w ≤ length (now d))) ⌝ }
-    ensures { λ r. ⌜ r ≡ filled (λ c. Ieee.div Ieee.binary64 (at (row (now (d .entry)) w c) 0) (at (row (now (d .entry)) w ch) 0)) ch (replicate 16 f0) ⌝ }
+// Channel c, by the weight; 0 where there is none.
+fn first_at(d: &[f64], by: f64, ch: usize, c: usize) -> f64
+    requires { ⌜ ch < length (now d) ⌝ }
+    ensures { λ r. ⌜ r ≡ placed (at (now (d .entry))) by ch c ⌝ }
 {
-    let by = d[ch * w];
-    let mut r = [0.0f64; 16];
-    let mut a = 0;
-    let mut c = 0;
-    while c < ch {
-        r[c] = d[a] / by;
-        a += w;
-        c += 1;
+    if c < ch {
+        return d[c] / by;
     }
-    r
+    0.0
+}
+
+// The first ch numbers, by number ch.
+pub fn project_first(d: &[f64], ch: usize) -> [f64; 16]
+    requires { ⌜ ch < length (now d) ⌝ }
+    requires { ⌜ ch ≤ 10 ⌝ }
+    ensures { λ r. ⌜ r ≡ filled (λ c. at (now (d .entry)) c ⊘ at (now (d .entry)) ch) ch (replicate 16 f0) ⌝ }
+{
+    let by = d[ch];
+    [
+        first_at(d, by, ch, 0),
+        first_at(d, by, ch, 1),
+        first_at(d, by, ch, 2),
+        first_at(d, by, ch, 3),
+        first_at(d, by, ch, 4),
+        first_at(d, by, ch, 5),
+        first_at(d, by, ch, 6),
+        first_at(d, by, ch, 7),
+        first_at(d, by, ch, 8),
+        first_at(d, by, ch, 9),
+        0.0,
+        0.0,
+        0.0,
+        0.0,
+        0.0,
+        0.0,
+    ]
 }

@@ -1,7 +1,8 @@
 // The point of a B-spline at a parameter.
 use crate::boor::climb_up;
-use crate::boor::load_back;
+use crate::boor::load_rows;
 use crate::boor::project_first;
+use crate::boor::row_width;
 use crate::four::fourth_in;
 use crate::four::project_four;
 use crate::low::project_three;
@@ -13,6 +14,7 @@ ghost use lib.ListN.{length, replicate};
 ghost use Rattle.floats.specs.Numbers.{f0, ofNat, heldIn};
 ghost use Rattle.floats.specs.Lists.{filled};
 ghost use Rattle.basis.specs.Tables.{spanIn, curveAt, Curve};
+ghost use Rattle.boor.specs.Climb.{Width};
 
 // t held between 0 and hi.
 fn hold(t: f64, hi: f64) -> f64
@@ -39,7 +41,7 @@ fn span_of(u: f64, hi: f64, p: usize, n: usize) -> usize
     p + whole::trunc_count(u) as usize
 }
 
-// The point at t, in work memory of p + 1 shares and of p + 1 rows for each channel and the weights.
+// The point at t, in work memory of p + 1 rows.
 fn eval_in(
     ks: &[f64],
     cw: &[f64],
@@ -47,21 +49,20 @@ fn eval_in(
     p: usize,
     ch: usize,
     t: f64,
-    al: &mut [f64],
+    wide: usize,
     d: &mut [f64],
 ) -> [f64; 16]
     requires { ⌜ Curve (now ks) (now cw) n p ch ⌝ }
-    requires { ⌜ (p < length (now al)) × ((ch + 1) * (p + 1) ≤ length (now d)) ⌝ }
+    requires { ⌜ Width wide × (ch < wide) ⌝ }
+    requires { ⌜ (p + 1) * wide ≤ length (now d) ⌝ }
     ensures { λ r. ⌜ r ≡ filled (curveAt (now (ks .entry)) (now (cw .entry)) n p ch t) ch (replicate 16 f0) ⌝ }
 {
     let hi = ks[n];
     let u = hold(t, hi);
     let k = span_of(u, hi, p, n);
-    let w = p + 1;
-    let rows = ch + 1;
-    load_back(cw, n, k - p, w, rows, d);
-    climb_up(ks, u, p, k, rows, al, d);
-    project_first(d, w, ch)
+    load_rows(cw, n, k, p, ch, wide, d);
+    climb_up(ks, u, p, k, wide, d);
+    project_first(d, ch)
 }
 
 fn eval_low(ks: &[f64], cw: &[f64], n: usize, p: usize, ch: usize, t: f64) -> [f64; 16]
@@ -82,34 +83,94 @@ fn eval_low(ks: &[f64], cw: &[f64], n: usize, p: usize, ch: usize, t: f64) -> [f
     project_tops(s, p, cw, n, k - p, ch)
 }
 
-// Work memory for degrees up to 15, 63 and 256: small where the degree is, since it is cleared at each call.
-fn eval_mid(ks: &[f64], cw: &[f64], n: usize, p: usize, ch: usize, t: f64) -> [f64; 16]
+// Work memory of three sizes and for the highest degree: small where the rows are few, since it is cleared at each call.
+const FEW: usize = 64;
+
+const SOME: usize = 256;
+
+const MANY: usize = 1024;
+
+const MOST: usize = 3084;
+
+fn eval_few(ks: &[f64], cw: &[f64], n: usize, p: usize, ch: usize, t: f64, wide: usize) -> [f64; 16]
     requires { ⌜ Curve (now ks) (now cw) n p ch ⌝ }
-    requires { ⌜ p ≤ 15 ⌝ }
+    requires { ⌜ Width wide × (ch < wide) ⌝ }
+    requires { ⌜ (p + 1) * wide ≤ 64 ⌝ }
     ensures { λ r. ⌜ r ≡ filled (curveAt (now (ks .entry)) (now (cw .entry)) n p ch t) ch (replicate 16 f0) ⌝ }
 {
-    let mut al = [0.0f64; 16];
-    let mut d = [0.0f64; 176];
-    eval_in(ks, cw, n, p, ch, t, &mut al, &mut d)
+    let mut d = [0.0f64; FEW];
+    eval_in(ks, cw, n, p, ch, t, wide, &mut d)
 }
 
-fn eval_wide(ks: &[f64], cw: &[f64], n: usize, p: usize, ch: usize, t: f64) -> [f64; 16]
+fn eval_some(
+    ks: &[f64],
+    cw: &[f64],
+    n: usize,
+    p: usize,
+    ch: usize,
+    t: f64,
+    wide: usize,
+) -> [f64; 16]
     requires { ⌜ Curve (now ks) (now cw) n p ch ⌝ }
-    requires { ⌜ p ≤ 63 ⌝ }
+    requires { ⌜ Width wide × (ch < wide) ⌝ }
+    requires { ⌜ (p + 1) * wide ≤ 256 ⌝ }
     ensures { λ r. ⌜ r ≡ filled (curveAt (now (ks .entry)) (now (cw .entry)) n p ch t) ch (replicate 16 f0) ⌝ }
 {
-    let mut al = [0.0f64; 64];
-    let mut d = [0.0f64; 704];
-    eval_in(ks, cw, n, p, ch, t, &mut al, &mut d)
+    let mut d = [0.0f64; SOME];
+    eval_in(ks, cw, n, p, ch, t, wide, &mut d)
+}
+
+fn eval_many(
+    ks: &[f64],
+    cw: &[f64],
+    n: usize,
+    p: usize,
+    ch: usize,
+    t: f64,
+    wide: usize,
+) -> [f64; 16]
+    requires { ⌜ Curve (now ks) (now cw) n p ch ⌝ }
+    requires { ⌜ Width wide × (ch < wide) ⌝ }
+    requires { ⌜ (p + 1) * wide ≤ 1024 ⌝ }
+    ensures { λ r. ⌜ r ≡ filled (curveAt (now (ks .entry)) (now (cw .entry)) n p ch t) ch (replicate 16 f0) ⌝ }
+{
+    let mut d = [0.0f64; MANY];
+    eval_in(ks, cw, n, p, ch, t, wide, &mut d)
+}
+
+fn eval_most(
+    ks: &[f64],
+    cw: &[f64],
+    n: usize,
+    p: usize,
+    ch: usize,
+    t: f64,
+    wide: usize,
+) -> [f64; 16]
+    requires { ⌜ Curve (now ks) (now cw) n p ch ⌝ }
+    requires { ⌜ Width wide × (ch < wide) ⌝ }
+    ensures { λ r. ⌜ r ≡ filled (curveAt (now (ks .entry)) (now (cw .entry)) n p ch t) ch (replicate 16 f0) ⌝ }
+{
+    let mut d = [0.0f64; MOST];
+    eval_in(ks, cw, n, p, ch, t, wide, &mut d)
 }
 
 fn eval_high(ks: &[f64], cw: &[f64], n: usize, p: usize, ch: usize, t: f64) -> [f64; 16]
     requires { ⌜ Curve (now ks) (now cw) n p ch ⌝ }
     ensures { λ r. ⌜ r ≡ filled (curveAt (now (ks .entry)) (now (cw .entry)) n p ch t) ch (replicate 16 f0) ⌝ }
 {
-    let mut al = [0.0f64; 257];
-    let mut d = [0.0f64; 2827];
-    eval_in(ks, cw, n, p, ch, t, &mut al, &mut d)
+    let wide = row_width(ch);
+    let cells = (p + 1) * wide;
+    if cells <= FEW {
+        return eval_few(ks, cw, n, p, ch, t, wide);
+    }
+    if cells <= SOME {
+        return eval_some(ks, cw, n, p, ch, t, wide);
+    }
+    if cells <= MANY {
+        return eval_many(ks, cw, n, p, ch, t, wide);
+    }
+    eval_most(ks, cw, n, p, ch, t, wide)
 }
 
 // The point at t.
@@ -119,12 +180,6 @@ pub fn eval(ks: &[f64], cw: &[f64], n: usize, p: usize, ch: usize, t: f64) -> [f
 {
     if p < 5 {
         return eval_low(ks, cw, n, p, ch, t);
-    }
-    if p < 16 {
-        return eval_mid(ks, cw, n, p, ch, t);
-    }
-    if p < 64 {
-        return eval_wide(ks, cw, n, p, ch, t);
     }
     eval_high(ks, cw, n, p, ch, t)
 }

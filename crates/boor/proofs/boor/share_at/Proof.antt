@@ -2,9 +2,6 @@ use Rattle.basis.specs.Basis.{share}
 use borrow.Author.Needs.{needs}
 use Rattle.boor.proofs.boor.share_at.Statement.{statement}
 use Rattle.boor.proofs.boor.share_at.Tie as tie
-use Rattle.boor.proofs.boor.share_at.Reads as reads
-use Rattle.boor.proofs.boor.share_at.Lts as lts
-use Rattle.floats.proofs.abs.Reads as abs-reads
 
 add-i : tie.Need-add-i
 add-i c = search needs

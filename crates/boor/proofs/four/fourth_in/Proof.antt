@@ -2,10 +2,6 @@ use native.Mathlib.Omega.{arith}
 use borrow.Author.Needs.{needs}
 use Rattle.boor.proofs.four.fourth_in.Statement.{statement}
 use Rattle.boor.proofs.four.fourth_in.Tie as tie
-use Rattle.boor.proofs.four.fourth_in.Reads as reads
-use Rattle.boor.proofs.four.fourth_in.Lts as lts
-use Rattle.boor.proofs.boor.share_at.Reads as share-at-reads
-use Rattle.boor.proofs.low.shares_in.Reads as shares-in-reads
 
 shares-in-requires : tie.Need-shares-in-requires
 shares-in-requires c κs = search needs

@@ -2,10 +2,6 @@ use Rattle.boor.proofs.Straight.{four-of}
 use borrow.Author.Needs.{needs}
 use Rattle.boor.proofs.four.top_four.Statement.{statement}
 use Rattle.boor.proofs.four.top_four.Tie as tie
-use Rattle.boor.proofs.four.top_four.Reads as reads
-use Rattle.boor.proofs.four.top_four.Lts as lts
-use Rattle.boor.proofs.low.mix.Reads as mix-reads
-use Rattle.boor.proofs.low.top_three.Reads as top-three-reads
 
 top-three-requires : tie.Need-top-three-requires
 top-three-requires c κs = search needs

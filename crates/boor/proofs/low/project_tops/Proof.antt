@@ -1,5 +1,5 @@
-use mathlib.Core.Path.{_≡_, refl, sym, ap, _∙_}
-use Prim.Native.Nat.{ℕ, _≤_, _-_, _<_, _+_, _*_}
+use mathlib.Core.Path.{_≡_, refl}
+use Prim.Native.Nat.{_≤_, _-_, _+_, _*_}
 use native.Mathlib.Omega.{arith}
 use native.Mathlib.Nat.{zero-mul}
 use lib.ListN.{length}
@@ -7,14 +7,10 @@ use Rattle.floats.specs.Numbers.{_⊘_}
 use Rattle.floats.specs.Fill.{Filling, filling-none, filling-more}
 use Rattle.boor.specs.Low.{topOf}
 use Rattle.basis.specs.RowLaws.{last-index, source, next-source}
-use Rattle.boor.proofs.Mirrored.{ratios-by}
-use Rattle.boor.proofs.Straight.{ratio-is}
+use Rattle.boor.proofs.Straight.{ratio-is, ratios-by}
 use borrow.Author.Needs.{needs}
 use Rattle.boor.proofs.low.project_tops.Statement.{statement}
 use Rattle.boor.proofs.low.project_tops.Tie as tie
-use Rattle.boor.proofs.low.project_tops.Reads as reads
-use Rattle.boor.proofs.low.project_tops.Lts as lts
-use Rattle.boor.proofs.low.top.Reads as top-reads
 
 abbrev Inv-loop : tie.InvT-loop
 Inv-loop s p cw n from ch by r₀ a₀ c₀ r a c = ((c ≤ ch) × ((a ≡ c * n + from) × (length r ≡ 16))) × Filling (λ i. topOf s p cw (i * n + from) ⊘ by) c r₀ r

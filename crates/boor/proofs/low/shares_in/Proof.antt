@@ -2,9 +2,6 @@ use native.Mathlib.Omega.{arith}
 use borrow.Author.Needs.{needs}
 use Rattle.boor.proofs.low.shares_in.Statement.{statement}
 use Rattle.boor.proofs.low.shares_in.Tie as tie
-use Rattle.boor.proofs.low.shares_in.Reads as reads
-use Rattle.boor.proofs.low.shares_in.Lts as lts
-use Rattle.boor.proofs.boor.share_at.Reads as share-at-reads
 
 share-at-requires : tie.Need-share-at-requires
 share-at-requires c κs = search needs

@@ -4,10 +4,6 @@ use Rattle.boor.proofs.Straight.{by-one, by-two}
 use borrow.Author.Needs.{needs}
 use Rattle.boor.proofs.low.top.Statement.{statement}
 use Rattle.boor.proofs.low.top.Tie as tie
-use Rattle.boor.proofs.low.top.Reads as reads
-use Rattle.boor.proofs.low.top.Lts as lts
-use Rattle.boor.proofs.low.top_one.Reads as top-one-reads
-use Rattle.boor.proofs.low.top_two.Reads as top-two-reads
 
 top-one-requires : tie.Need-top-one-requires
 top-one-requires c κs = search needs

@@ -2,9 +2,6 @@ use Rattle.boor.proofs.Straight.{three-of}
 use borrow.Author.Needs.{needs}
 use Rattle.boor.proofs.low.top_three.Statement.{statement}
 use Rattle.boor.proofs.low.top_three.Tie as tie
-use Rattle.boor.proofs.low.top_three.Reads as reads
-use Rattle.boor.proofs.low.top_three.Lts as lts
-use Rattle.boor.proofs.low.mix.Reads as mix-reads
 
 add-low : tie.Need-add-low
 add-low c = search needs

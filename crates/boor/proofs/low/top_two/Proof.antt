@@ -1,9 +1,6 @@
 use borrow.Author.Needs.{needs}
 use Rattle.boor.proofs.low.top_two.Statement.{statement}
 use Rattle.boor.proofs.low.top_two.Tie as tie
-use Rattle.boor.proofs.low.top_two.Reads as reads
-use Rattle.boor.proofs.low.top_two.Lts as lts
-use Rattle.boor.proofs.low.mix.Reads as mix-reads
 
 add-mid : tie.Need-add-mid
 add-mid c = search needs

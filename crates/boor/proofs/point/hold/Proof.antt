@@ -1,7 +1,5 @@
 use Rattle.boor.proofs.point.hold.Statement.{statement}
 use Rattle.boor.proofs.point.hold.Tie as tie
-use Rattle.boor.proofs.point.hold.Reads as reads
-use Rattle.boor.proofs.point.hold.Lts as lts
 
 returns : tie.Need-returns
 returns c = rw (c .if1 .taken)

@@ -1,13 +1,9 @@
-use mathlib.Core.Path.{_≡_, refl, sym, ap, _∙_}
 use native.Mathlib.Omega.{arith}
 use Rattle.basis.specs.Tables.{spanIn}
 use Rattle.basis.specs.Spans.{in-span}
 use borrow.Author.Needs.{needs}
 use Rattle.boor.proofs.point.span_of.Statement.{statement}
 use Rattle.boor.proofs.point.span_of.Tie as tie
-use Rattle.boor.proofs.point.span_of.Reads as reads
-use Rattle.boor.proofs.point.span_of.Lts as lts
-use Rattle.whole.proofs.trunc_count.Reads as trunc-count-reads
 
 sub-result : tie.Need-sub-result
 sub-result c = search needs
