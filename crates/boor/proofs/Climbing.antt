@@ -2,7 +2,7 @@
 use mathlib.Core.Path.{_≡_, refl, sym, ap, _∙_}
 use mathlib.Core.List.{List, _++_}
 use mathlib.Core.Logic.{_⊎_, ⊎-elim}
-use Prim.Native.Nat.{ℕ, suc, _+_, _*_, _-_, _<_, _≤_}
+use Prim.Native.Nat.{ℕ, suc, _+_, _*_, _-_, _<_, _≤_, min}
 use native.Mathlib.Numerals.{add-one}
 use native.Mathlib.Nat.{suc-mul, zero-mul, le-trans, mul-le-mul-left, mul-le-mul-right, eq-or-lt-of-le, ne-of-gt, ne-of-lt}
 use native.Mathlib.Omega.{arith}
@@ -41,6 +41,35 @@ module _ {f : ℕ → Float} {l : List Float} {i : ℕ} where
   put-end e p = record { same = p .same; done = λ c h. p .done c (omega arith); under = p .under; over = λ j h. p .over j (omega arith) }
 
 -- ---- a row, by fours
+pub four-put : (f : ℕ → Float) (l : List Float) (i : ℕ) {x0 x1 x2 x3 : Float} → i + 3 < length l → x0 ≡ f 0 → x1 ≡ f 1 → x2 ≡ f 2 → x3 ≡ f 3
+    → Put f l (set (set (set (set l i x0) (i + 1) x1) (i + 2) x2) (i + 3) x3) i 4
+four-put f l i h e0 e1 e2 e3 =
+    let z : i ≡ i + 0 = omega arith in
+    put-more (put-more (put-more (put-more put-none z (omega arith) e0) refl (omega arith) e1) refl (omega arith) e2) refl (omega arith) e3
+
+pub put-join : (f g : ℕ → Float) {l xs ys : List Float} {i j n m : ℕ} → Put f l xs i n → j ≡ i + n → ((c : ℕ) → c < m → g c ≡ f (n + c)) → Put g xs ys j m → Put f l ys i (n + m)
+put-join f g {l} {xs} {ys} {i} {j} {n} {m} p ej e q = record {
+  same = q .same ∙ p .same;
+  done = λ c h. ⊎-elim
+      (λ (lt : c < n). q .under (i + c) (omega arith) ∙ p .done c lt)
+      (λ (ge : n ≤ c).
+      let e0 : j + (c - n) ≡ i + c = omega arith in
+      let e1 : n + (c - n) ≡ c = omega arith in
+      ap (at ys) (sym e0) ∙ q .done (c - n) (omega arith) ∙ e (c - n) (omega arith) ∙ ap f e1)
+      (lt-or-le c n);
+  under = λ k h. q .under k (omega arith) ∙ p .under k h;
+  over = λ k h. q .over k (omega arith) ∙ p .over k (omega arith);
+}
+
+-- from channel 0 on
+pub put-first : (f : ℕ → Float) {l xs : List Float} {i n : ℕ} → Put (λ j. f (0 + j)) l xs i n → Put f l xs i n
+put-first f p = record {
+  same = p .same;
+  done = λ c h. let e : 0 + c ≡ c = omega arith in p .done c h ∙ ap f e;
+  under = p .under;
+  over = p .over;
+}
+
 pub four-raised : (l : List Float) (i wide : ℕ) (a : Float) {x0 x1 x2 x3 : Float} → i + wide + 3 < length l
     → x0 ≡ mixOf a (at l (i + wide)) (at l i) → x1 ≡ mixOf a (at l (i + wide + 1)) (at l (i + 1)) → x2 ≡ mixOf a (at l (i + wide + 2)) (at l (i + 2)) → x3 ≡ mixOf a (at l (i + wide + 3)) (at l (i + 3))
     → Raised l (set (set (set (set l i x0) (i + 1) x1) (i + 2) x2) (i + 3) x3) i 4 wide a
@@ -48,29 +77,18 @@ four-raised l i wide a {x0} h e0 e1 e2 e3 =
     let z : i ≡ i + 0 = omega arith in
     let y : i + wide ≡ i + wide + 0 = omega arith in
     let first : x0 ≡ mixOf a (at l (i + wide + 0)) (at l (i + 0)) = e0 ∙ ap (λ (j : ℕ). mixOf a (at l j) (at l i)) y ∙ ap (λ (j : ℕ). mixOf a (at l (i + wide + 0)) (at l j)) z in
-    record { is = put-more (put-more (put-more (put-more put-none z (omega arith) first) refl (omega arith) e1) refl (omega arith) e2) refl (omega arith) e3 }
+    record { is = four-put (λ c. mixOf a (at l (i + wide + c)) (at l (i + c))) l i (omega arith) first e1 e2 e3 }
 
 pub raised-join : {l xs ys : List Float} {i j n m wide : ℕ} {a : Float} → Raised l xs i n wide a → j ≡ i + n → Raised xs ys j m wide a → Raised l ys i (n + m) wide a
 raised-join {l} {xs} {ys} {i} {j} {n} {m} {wide} {a} v ej w =
-    let p = v .is in
-    let q = w .is in
     record {
-      is = record {
-        same = q .same ∙ p .same;
-        done = λ c h. ⊎-elim
-            (λ (lt : c < n). q .under (i + c) (omega arith) ∙ p .done c lt)
-            (λ (ge : n ≤ c).
-            let e0 : j + (c - n) ≡ i + c = omega arith in
-            let e1 : j + wide + (c - n) ≡ i + wide + c = omega arith in
-            ap (at ys) (sym e0) ∙ q .done (c - n) (omega arith)
-            ∙ ap (λ (z : ℕ). mixOf a (at xs z) (at xs (j + (c - n)))) e1
-            ∙ ap (λ (z : ℕ). mixOf a (at xs (i + wide + c)) (at xs z)) e0
-            ∙ ap (λ (x : Float). mixOf a x (at xs (i + c))) (p .over (i + wide + c) (omega arith))
-            ∙ ap (λ (x : Float). mixOf a (at l (i + wide + c)) x) (p .over (i + c) (omega arith)))
-            (lt-or-le c n);
-        under = λ k h. q .under k (omega arith) ∙ p .under k h;
-        over = λ k h. q .over k (omega arith) ∙ p .over k (omega arith);
-      };
+      is = put-join (λ c. mixOf a (at l (i + wide + c)) (at l (i + c))) (λ c. mixOf a (at xs (j + wide + c)) (at xs (j + c))) (v .is) ej (λ c h.
+          let e0 : j + c ≡ i + (n + c) = omega arith in
+          let e1 : j + wide + c ≡ i + wide + (n + c) = omega arith in
+          ap (λ (z : ℕ). mixOf a (at xs z) (at xs (j + c))) e1
+          ∙ ap (λ (z : ℕ). mixOf a (at xs (i + wide + (n + c))) (at xs z)) e0
+          ∙ ap (λ (x : Float). mixOf a x (at xs (i + (n + c)))) (v .is .over (i + wide + (n + c)) (omega arith))
+          ∙ ap (λ (x : Float). mixOf a (at l (i + wide + (n + c))) x) (v .is .over (i + (n + c)) (omega arith))) (w .is);
     }
 
 pub raised-end : {l xs : List Float} {i n m wide : ℕ} {a : Float} → n ≡ m → Raised l xs i n wide a → Raised l xs i m wide a
@@ -143,10 +161,12 @@ module _ (ks : List Float) (u : Float) (p k wide : ℕ) (l : List Float) where
 pub loaded-none : {cw xs : List Float} {n k ch wide : ℕ} → Loaded cw xs n k ch wide 0
 loaded-none = record { is = λ g c h. absurd (omega arith) }
 
-pub loaded-more : {cw xs ys : List Float} {n k ch wide h i : ℕ} → Loaded cw xs n k ch wide h → i ≡ h * wide → ch < wide → Put (λ c. at cw (c * n + (k - h))) xs ys i (ch + 1) → Loaded cw ys n k ch wide (h + 1)
+pub loaded-more : {cw xs ys : List Float} {n k ch wide h i : ℕ} → Loaded cw xs n k ch wide h → i ≡ h * wide → ch < wide → Put (λ c. at cw (min c ch * n + (k - h))) xs ys i wide → Loaded cw ys n k ch wide (h + 1)
 loaded-more {cw} {xs} {ys} {n} {k} {ch} {wide} {h} {i} v ei fit q = record {
   is = λ g c hg hc. ⊎-elim
-      (λ (e : g ≡ h). rw (e, ← ei) (q .done c hc))
+      (λ (e : g ≡ h).
+      let ec : min c ch ≡ c = omega arith in
+      rw (e, ← ei) (q .done c (omega arith) ∙ ap (λ (z : ℕ). at cw (z * n + (k - h))) ec))
       (λ (lt : g < h). q .under (g * wide + c) (rw ei (row-order g h wide c lt (omega arith))) ∙ v .is g c lt hc)
       (eq-or-lt-of-le {n = g} {m = h} (omega arith));
 }

@@ -1,7 +1,7 @@
 // De Boor's triangle in work memory: a row of numbers for each control point, one a channel, the last point first. So
 // each level goes upwards in place, over the rows that still count.
 ghost use mathlib.Core.Path.{_≡_};
-ghost use Prim.Native.Nat.{_≤_, _<_, _+_, _*_, _-_};
+ghost use Prim.Native.Nat.{_≤_, _<_, _+_, _*_, _-_, min};
 ghost use lib.ListN.{length, replicate};
 ghost use Rattle.floats.specs.Numbers.{_⊘_, f0, at};
 ghost use Rattle.floats.specs.Lists.{filled};
@@ -39,32 +39,68 @@ pub fn row_width(ch: usize) -> usize
     12
 }
 
-// Number s of each channel, at i and on.
-fn load_row(cw: &[f64], n: usize, s: usize, ch: usize, d: &mut [f64], i: usize)
-    requires { ⌜ ((ch + 1) * n ≤ length (now cw)) × ((s < n) × ((n ≤ 257) × (i + ch < length (now d)))) ⌝ }
-    ensures { λ _. ⌜ Put (λ c. at (now (cw .entry)) (c * n + s)) (now (d .entry)) (now (d .exit)) i (ch + 1) ⌝ }
+fn held(c: usize, ch: usize) -> usize
+    ensures { λ r. ⌜ r ≡ min c ch ⌝ }
 {
-    let rows = ch + 1;
-    let mut x = s;
-    let mut c = 0;
-    while c < rows {
-        d[i + c] = cw[x];
-        x += n;
-        c += 1;
+    if c < ch {
+        return c;
     }
+    ch
+}
+
+// Number s of channel c. What stands past the weights counts for nothing: there they stand again.
+fn number_of(cw: &[f64], n: usize, s: usize, ch: usize, c: usize) -> f64
+    requires { ⌜ ((ch + 1) * n ≤ length (now cw)) × (s < n) ⌝ }
+    ensures { λ r. ⌜ r ≡ at (now (cw .entry)) (min c ch * n + s) ⌝ }
+{
+    cw[held(c, ch) * n + s]
+}
+
+// Number s of channel c and of the next three, at i and on.
+fn load_four(cw: &[f64], n: usize, s: usize, ch: usize, c: usize, d: &mut [f64], i: usize)
+    requires { ⌜ ((ch + 1) * n ≤ length (now cw)) × (s < n) ⌝ }
+    requires { ⌜ (c ≤ 8) × (i + 3 < length (now d)) ⌝ }
+    ensures { λ _. ⌜ Put (λ j. at (now (cw .entry)) (min (c + j) ch * n + s)) (now (d .entry)) (now (d .exit)) i 4 ⌝ }
+{
+    let x0 = number_of(cw, n, s, ch, c);
+    let x1 = number_of(cw, n, s, ch, c + 1);
+    let x2 = number_of(cw, n, s, ch, c + 2);
+    let x3 = number_of(cw, n, s, ch, c + 3);
+    d[i] = x0;
+    d[i + 1] = x1;
+    d[i + 2] = x2;
+    d[i + 3] = x3;
+}
+
+fn load_row(cw: &[f64], n: usize, s: usize, ch: usize, wide: usize, d: &mut [f64], i: usize)
+    requires { ⌜ ((ch + 1) * n ≤ length (now cw)) × (s < n) ⌝ }
+    requires { ⌜ Width wide ⌝ }
+    requires { ⌜ i + wide ≤ length (now d) ⌝ }
+    ensures { λ _. ⌜ Put (λ c. at (now (cw .entry)) (min c ch * n + s)) (now (d .entry)) (now (d .exit)) i wide ⌝ }
+{
+    load_four(cw, n, s, ch, 0, d, i);
+    if wide < 8 {
+        return;
+    }
+    load_four(cw, n, s, ch, 4, d, i + 4);
+    if wide < 12 {
+        return;
+    }
+    load_four(cw, n, s, ch, 8, d, i + 8);
 }
 
 // A row for each control point that bears on span k.
 pub fn load_rows(cw: &[f64], n: usize, k: usize, p: usize, ch: usize, wide: usize, d: &mut [f64])
     requires { ⌜ ((ch + 1) * n ≤ length (now cw)) × ((k < n) × ((n ≤ 257) × (p ≤ k))) ⌝ }
-    requires { ⌜ (ch < wide) × ((p + 1) * wide ≤ length (now d)) ⌝ }
+    requires { ⌜ Width wide × (ch < wide) ⌝ }
+    requires { ⌜ (p + 1) * wide ≤ length (now d) ⌝ }
     ensures { λ _. ⌜ Loaded (now (cw .entry)) (now (d .exit)) n k ch wide (p + 1) ⌝ }
 {
     let rows = p + 1;
     let mut i = 0;
     let mut h = 0;
     while h < rows {
-        load_row(cw, n, k - h, ch, d, i);
+        load_row(cw, n, k - h, ch, wide, d, i);
         i += wide;
         h += 1;
     }
