@@ -10,8 +10,9 @@ use Rattle.rows.specs.Codes as Codes
 use Rattle.rows.specs.Row as Row
 use Rattle.arcs.specs.Arc.{passed}
 use Rattle.saved.specs.State as State
-use Rattle.flattener.specs.Start as Start
-use Rattle.flattener.specs.Start.{After, fresh}
+use Rattle.starts.specs.Start as Start
+use Rattle.replies.specs.Replies.{After}
+use Rattle.starts.specs.Start.{fresh}
 use Rattle.flattener.specs.Push as Push
 use Rattle.saved.specs.Blocks as Blocks
 use Rattle.flattener.specs.Push.{pushRows, pushSpec}

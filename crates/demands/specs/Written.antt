@@ -20,8 +20,8 @@ use Rattle.rows.specs.Truth.{by-bit, cond-t, cond-f, and-left, and-right}
 use Rattle.splines.specs.Emission.{Spline, splineGroups}
 use Rattle.saved.specs.State.{stateOk, held, position, curveStart, tolerance, motionNow, degree, savedCheck}
 use Rattle.flattener.specs.Held.{heldSpline}
-use Rattle.flattener.specs.Start.{After, AfterState, plain}
-use Rattle.flattener.specs.Seed.{seeded, seedSpec}
+use Rattle.replies.specs.Replies.{After, AfterState, plain}
+use Rattle.starts.specs.Seed.{seeded, seedSpec}
 use Rattle.saved.specs.Blocks.{orNow, answerAs, ownAnswer, motionThen, emits, pushCheck}
 use Rattle.flattener.specs.Push.{emission, pushRows, pushDone, pushSpec}
 use Rattle.flattener.specs.Close.{closeRows, closeState, closeSpec}

@@ -1,10 +1,10 @@
 // Flattens the row text of standard input: axes X Y Z, tolerance 0.1, no seed, a full spline store, room for 256 rows.
 // Input and output go by large pieces, in memory of a fixed size.
 use fields::Placed;
-use flattener::Reply;
 use libc::STDERR_FILENO;
 use libc::STDIN_FILENO;
 use libc::STDOUT_FILENO;
+use replies::Reply;
 use rowlines::End;
 ghost use mathlib.Core.Path.{_≡_};
 ghost use Prim.Native.Nat.{ℕ, _+_, _-_, _<_, _≤_};

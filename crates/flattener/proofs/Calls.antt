@@ -15,11 +15,10 @@ use Rattle.rows.specs.Row.{rowCheck}
 use Rattle.rows.specs.Truth.{by-bit, cond-t, cond-f}
 use Rattle.arcs.specs.declared.Plan.{Plan}
 use Rattle.saved.specs.State.{axisCount, held, motionNow, degree, tolerance, savedCheck}
-use Rattle.flattener.specs.Start.{plain, After}
+use Rattle.replies.specs.Replies.{plain, After, tooFew, doneReply}
 use Rattle.saved.specs.Blocks.{emits, isFull, news, ownAnswer, pushCheck, pushState, pushStore}
-use Rattle.flattener.specs.Push.{emission, pushRows, pushDone, pushSpec, untouched, tooFew}
+use Rattle.flattener.specs.Push.{emission, pushRows, pushDone, pushSpec, untouched}
 use Rattle.flattener.specs.Close.{closeRows, closeState, closeSpec}
-use Rattle.flattener.specs.Replies.{doneReply}
 use Rattle.saved.specs.Checked.{saved-ok}
 use Rattle.saved.specs.Own.{Ready, ready, OwnPlanned, ownRows}
 use lib.Ieee.{Float}

@@ -6,8 +6,8 @@ use lib.ListN.{length}
 use lib.Dec.{eqb}
 use Rattle.floats.specs.Lists.{flatten, spliced}
 use Rattle.saved.specs.State.{held, savedCheck}
-use Rattle.flattener.specs.Start.{plain, After}
-use Rattle.flattener.specs.Push.{emission, untouched, tooFew, fits}
+use Rattle.replies.specs.Replies.{plain, After, tooFew}
+use Rattle.flattener.specs.Push.{emission, untouched, fits}
 use Rattle.saved.specs.Blocks.{forgotten}
 
 unfoldable pub closeRows : List ℕ → List ℕ → List (List ℕ)

@@ -1,8 +1,5 @@
-pub mod Start
-pub mod Seed
 pub mod Held
 pub mod Push
 pub mod Close
 pub mod Keeps
 pub mod Emitted
-pub mod Replies

@@ -1,7 +1,9 @@
 // Pushing a block, and closing.
-use crate::Reply;
-use crate::start::plain_reply;
 use floats::of_bits;
+use replies::Reply;
+use replies::done_reply;
+use replies::plain_reply;
+use replies::too_few;
 use rows::AXIS_CODES;
 use rows::ROW_WORDS;
 use saved::W_AXES;
@@ -23,10 +25,10 @@ ghost use mathlib.Core.Path.{_≡_};
 ghost use mathlib.Core.Bool.{cond};
 ghost use Prim.Native.Nat.{_≤_};
 ghost use Rattle.splines.specs.Emits.{mostOwn};
-ghost use Rattle.flattener.specs.Push.{emission, tooFew, pushSpec, PushIs};
+ghost use Rattle.flattener.specs.Push.{emission, pushSpec};
 ghost use Rattle.saved.specs.State.{savedCheck};
 ghost use Rattle.saved.specs.PushLaws.{Block};
-ghost use Rattle.flattener.specs.Replies.{doneReply};
+ghost use Rattle.replies.specs.Replies.{PushIs};
 ghost use Rattle.flattener.specs.Emitted.{before, Put};
 ghost use Rattle.flattener.specs.Close.{closeSpec};
 
@@ -34,30 +36,6 @@ ghost use Rattle.flattener.specs.Close.{closeSpec};
 const START: usize = W_START + 1;
 
 const START_END: usize = START + AXIS_CODES;
-
-fn too_few(needed: u64) -> Reply
-    ensures { λ r. ⌜ r ≡ tooFew needed ⌝ }
-{
-    Reply {
-        code: 7,
-        count: needed,
-        warning: 0,
-        wanted: 0,
-        held: 0,
-    }
-}
-
-fn done_reply(count: u64, warning: u64, wanted: u64, held: u64) -> Reply
-    ensures { λ r. ⌜ r ≡ doneReply count warning wanted held ⌝ }
-{
-    Reply {
-        code: 0,
-        count,
-        warning,
-        wanted,
-        held,
-    }
-}
 
 fn warning_of(new: bool, warning: u64) -> u64
     ensures { λ r. ⌜ r ≡ cond new 7 warning ⌝ }

@@ -15,7 +15,7 @@ use calltext::input::last_field;
 use calltext::input::raw_words;
 use calltext::input::unread;
 use calltext::output::put_line_number;
-use flattener::Reply;
+use replies::Reply;
 ghost use Prim.Native.Nat.{_≤_, _<_, _+_};
 ghost use lib.ListN.{length};
 ghost use mathlib.Core.Path.{_≡_};

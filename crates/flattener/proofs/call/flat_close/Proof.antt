@@ -6,10 +6,9 @@ use lib.ListN.{length}
 use borrow.Author.Tests.{eq-eqb, ne-eqb}
 use Rattle.rows.specs.Truth.{cond-t, cond-f}
 use Rattle.rows.specs.Codes.{rowWords}
-use Rattle.flattener.specs.Start.{plain}
+use Rattle.replies.specs.Replies.{plain, tooFew, answers, doneReply}
 use Rattle.saved.specs.StateLaws.{good}
-use Rattle.flattener.specs.Push.{untouched, tooFew}
-use Rattle.flattener.specs.Replies.{answers, doneReply}
+use Rattle.flattener.specs.Push.{untouched}
 use Rattle.saved.specs.Checked.{saved-ok}
 use Rattle.flattener.specs.Close.{closeState}
 use Rattle.flattener.proofs.Calls.{close-turned-is, close-none-is, close-few-is, close-done-is, no-rows, room-left, room-short, put-refused, put-written}

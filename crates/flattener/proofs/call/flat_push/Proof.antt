@@ -3,10 +3,9 @@ use mathlib.Core.Path.{refl, sym, ap, _∙_}
 use mathlib.Core.Bool.{Bool, cond}
 use native.Mathlib.Omega.{arith}
 use Prim.Native.Nat.{ℕ, _+_}
-use Rattle.flattener.specs.Start.{plain}
+use Rattle.replies.specs.Replies.{plain, answers, doneReply}
 use Rattle.saved.specs.StateLaws.{good, good-few}
 use Rattle.flattener.specs.Push.{untouched}
-use Rattle.flattener.specs.Replies.{answers, doneReply}
 use Rattle.saved.specs.Checked.{saved-ok}
 use Rattle.flattener.specs.Emitted.{few-own}
 use Rattle.flattener.proofs.Calls.{passes, passes-ready, turned-is, few-is, done-is, both-written, row-room, room-left, room-short, put-refused, put-written}

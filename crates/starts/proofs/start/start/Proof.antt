@@ -1,12 +1,12 @@
--- `flattener::start::flat_start` meets its contract. Assumes nothing.
+-- `starts::start::start` meets its contract. Assumes nothing.
 use mathlib.Core.Path.{refl, sym, _∙_}
 use borrow.Author.Tests.{eq-eqb, ne-eqb, not-true, not-false}
 use Rattle.rows.specs.Truth.{cond-t, cond-f}
-use Rattle.flattener.specs.Start.{startSpec}
-use Rattle.flattener.specs.Replies.{state-is}
+use Rattle.starts.specs.Start.{startSpec}
+use Rattle.replies.specs.Replies.{state-is}
 use borrow.Author.Needs.{needs}
-use Rattle.flattener.proofs.start.flat_start.Statement.{statement}
-use Rattle.flattener.proofs.start.flat_start.Tie as tie
+use Rattle.starts.proofs.start.start.Statement.{statement}
+use Rattle.starts.proofs.start.start.Tie as tie
 
 plain-reply-requires : tie.Need-plain-reply-requires
 plain-reply-requires c κs = search needs
@@ -48,8 +48,8 @@ returns-4 : tie.Need-returns-4
 unfolding startSpec
 returns-4 c = state-is (cond-t _ _ (eq-eqb _ _ (c .before .before .before .before .before .before .before .before .before .if1 .left)) ∙ cond-t _ _ (sym (c .before .before .before .before .before .before .before .before .tol-ok .ensures) ∙ not-false (c .before .before .before .before .before .before .before .before .tol-ok .result) (c .before .before .before .before .before .before .before .if2 .left)) ∙ cond-t _ _ (sym (c .before .before .before .before .before .before .codes-ok .ensures) ∙ not-false (c .before .before .before .before .before .before .codes-ok .result) (c .before .before .before .before .before .if3 .left))) (c .plain-reply4 .ensures) (c .before .before .before .write-fresh .ensures)
 
-pub flat-start-spec : {M : Type 1} → statement M
-flat-start-spec =
+pub start-spec : {M : Type 1} → statement M
+start-spec =
     tie.close
     (tie.spec
     plain-reply-requires

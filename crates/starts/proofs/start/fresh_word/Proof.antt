@@ -1,11 +1,11 @@
--- `flattener::start::fresh_word` meets its contract. Assumes nothing.
+-- `starts::start::fresh_word` meets its contract. Assumes nothing.
 use mathlib.Core.Path.{sym, _∙_}
 use borrow.Author.Tests.{lt-ltb, le-ltb, eq-eqb, ne-eqb}
 use Rattle.rows.specs.Truth.{cond-t, cond-f}
-use Rattle.flattener.specs.Start.{freshWord}
+use Rattle.starts.specs.Start.{freshWord}
 use borrow.Author.Needs.{needs}
-use Rattle.flattener.proofs.start.fresh_word.Statement.{statement}
-use Rattle.flattener.proofs.start.fresh_word.Tie as tie
+use Rattle.starts.proofs.start.fresh_word.Statement.{statement}
+use Rattle.starts.proofs.start.fresh_word.Tie as tie
 
 returns : tie.Need-returns
 unfolding freshWord

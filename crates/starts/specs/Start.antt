@@ -4,26 +4,10 @@ use mathlib.Core.Bool.{Bool, cond}
 use mathlib.Core.List.{List}
 use lib.ListN.{length, getD}
 use lib.Dec.{ltb, eqb}
-use Rattle.flattener.specs.declared.Reply.{Reply}
+use Rattle.replies.specs.Replies.{plain, AfterState}
 use Rattle.floats.specs.Lists.{upto}
 use Rattle.rows.specs.Codes.{gOne, wAxes, wMotion, wPlane, wDegree, stateWords}
 use Rattle.saved.specs.State.{tolOk, codesOk}
-
--- "Every refusal .. gives warning 0 and no held axes and, 7 apart, has count 0": a reply that has its number alone
-abbrev pub plain : ℕ → Reply
-plain n = record { code = n; count = 0; warning = 0; wanted = 0; held = 0 }
-
--- what a call answers, and what it leaves in each slice
-pub record After : Type 0 where
-  pub reply : Reply
-  pub state : List ℕ
-  pub store : List ℕ
-  pub rows : List ℕ
-
--- a call on the state alone
-pub record AfterState : Type 0 where
-  pub reply : Reply
-  pub state : List ℕ
 
 -- "Fresh state: linear, plane 17, no position known": word i
 unfoldable pub freshWord : ℕ → List ℕ → ℕ → ℕ

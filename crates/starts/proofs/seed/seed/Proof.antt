@@ -1,13 +1,13 @@
--- `flattener::seed::flat_seed` meets its contract. Assumes nothing.
+-- `starts::seed::seed` meets its contract. Assumes nothing.
 use mathlib.Core.Path.{refl, sym, _∙_}
 use borrow.Author.Tests.{le-leb, lt-leb, not-true, not-false}
 use Rattle.rows.specs.Truth.{cond-t, cond-f}
-use Rattle.flattener.specs.Seed.{seedSpec, seeded}
-use Rattle.flattener.specs.Replies.{state-is}
+use Rattle.starts.specs.Seed.{seedSpec, seeded}
+use Rattle.replies.specs.Replies.{state-is}
 use Rattle.saved.specs.StateLaws.{good, good-listed, geometric-small}
 use borrow.Author.Needs.{needs}
-use Rattle.flattener.proofs.seed.flat_seed.Statement.{statement}
-use Rattle.flattener.proofs.seed.flat_seed.Tie as tie
+use Rattle.starts.proofs.seed.seed.Statement.{statement}
+use Rattle.starts.proofs.seed.seed.Tie as tie
 
 state-ok-requires : tie.Need-state-ok-requires
 state-ok-requires c κs = search needs
@@ -71,8 +71,8 @@ returns-5 : tie.Need-returns-5
 unfolding seedSpec seeded
 returns-5 c = state-is (cond-t _ _ (sym (c .before .before .before .before .before .before .before .before .before .before .before .before .state-ok .ensures) ∙ not-false (c .before .before .before .before .before .before .before .before .before .before .before .before .state-ok .result) (c .before .before .before .before .before .before .before .before .before .before .before .if1 .left)) ∙ cond-t _ _ (le-leb _ _ (c .before .before .before .before .before .before .before .before .before .before .if2 .left)) ∙ cond-t _ _ (sym (c .before .before .before .before .before .before .before .before .before .within-range .ensures) ∙ not-false (c .before .before .before .before .before .before .before .before .before .within-range .result) (c .before .before .before .before .before .before .before .before .if3 .left))) (c .plain-reply5 .ensures) ((c .before .before .before .place .ensures) ∙ sym (cond-t _ _ (sym (c .before .before .before .before .before .before .is-geometric .ensures) ∙ not-false (c .before .before .before .before .before .before .is-geometric .result) (c .before .before .before .before .before .if4 .left))))
 
-pub flat-seed-spec : {M : Type 1} → statement M
-flat-seed-spec =
+pub seed-spec : {M : Type 1} → statement M
+seed-spec =
     tie.close
     (tie.spec
     state-ok-requires

@@ -7,7 +7,7 @@ use Rattle.rows.specs.Codes.{lastCode}
 use Rattle.floats.specs.Lists.{member}
 use Rattle.rows.specs.Row.{within}
 use Rattle.saved.specs.State.{stateOk, geometric, placed}
-use Rattle.flattener.specs.Start.{plain, AfterState}
+use Rattle.replies.specs.Replies.{plain, AfterState}
 
 -- "Seeding codes 10-14 or an axis not listed replies 0 and changes nothing"
 unfoldable pub seeded : List ℕ → ℕ → ℕ → List ℕ

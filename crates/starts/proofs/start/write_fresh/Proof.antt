@@ -1,4 +1,4 @@
--- `flattener::start::write_fresh` meets its contract. Assumes nothing.
+-- `starts::start::write_fresh` meets its contract. Assumes nothing.
 use mathlib.Core.Path.{_≡_, ap, _∙_}
 use native.Mathlib.Omega.{arith}
 use Prim.Native.Nat.{_-_, _≤_}
@@ -6,10 +6,10 @@ use lib.ListN.{length}
 use Rattle.floats.specs.Lists.{upto}
 use Rattle.floats.specs.Fill.{Filling, filling-none, filling-more, filled-all}
 use Rattle.rows.specs.Codes.{stateWords}
-use Rattle.flattener.specs.Start.{fresh, freshWord}
+use Rattle.starts.specs.Start.{fresh, freshWord}
 use borrow.Author.Needs.{needs}
-use Rattle.flattener.proofs.start.write_fresh.Statement.{statement}
-use Rattle.flattener.proofs.start.write_fresh.Tie as tie
+use Rattle.starts.proofs.start.write_fresh.Statement.{statement}
+use Rattle.starts.proofs.start.write_fresh.Tie as tie
 
 abbrev Inv-loop : tie.InvT-loop
 Inv-loop state₀ tolerance axes i₀ state i = (i ≤ stateWords) × ((length state₀ ≡ stateWords) × Filling (freshWord tolerance axes) i state₀ state)
