@@ -13,7 +13,7 @@ use Rattle.rows.specs.Codes.{rowWords}
 use Rattle.rows.specs.Row.{all, shapeOk, numbersOk, turnOk, rowCheck}
 use Rattle.saved.specs.State.{stateOk, storeOk, held, heldRowOk, savedCheck}
 use Rattle.replies.specs.Replies.{plain, After, AfterState, StateIs, tooFew, PushIs}
-use Rattle.saved.specs.Blocks.{isFull, pushCheck}
+use Rattle.blocks.specs.Blocks.{isFull, pushCheck}
 use Rattle.flattener.specs.Push.{pushRows, pushDone, pushSpec, untouched}
 use Rattle.flattener.specs.Close.{closeRows, closeState, closeSpec}
 use Rattle.demands.specs.Laws.{cond-both}

@@ -17,7 +17,7 @@ use Rattle.saved.specs.State.{stateOk, storeOk, tolOk, codesOk, geometric, held
 use Rattle.replies.specs.Replies.{plain, AfterState, tooFew}
 use Rattle.starts.specs.Start.{freshWord, fresh, startSpec}
 use Rattle.starts.specs.Seed.{seeded, seedSpec}
-use Rattle.saved.specs.Blocks.{isFull, pushCheck}
+use Rattle.blocks.specs.Blocks.{isFull, pushCheck}
 use Rattle.flattener.specs.Push.{pushRows, pushDone, pushSpec, untouched, fits}
 use Rattle.flattener.specs.Close.{closeRows, closeState, closeSpec}
 use Rattle.demands.specs.Demands.{Turned, Safe, SafeState, Demand1}

@@ -18,7 +18,7 @@ use Rattle.saved.specs.State.{tolOk, codesOk, stateOk, held, savedCheck}
 use Rattle.replies.specs.Replies.{After, plain}
 use Rattle.starts.specs.Start.{fresh, startSpec}
 use Rattle.starts.specs.Seed.{seeded, seedSpec}
-use Rattle.saved.specs.Blocks.{pushCheck}
+use Rattle.blocks.specs.Blocks.{pushCheck}
 use Rattle.flattener.specs.Push.{pushRows, pushDone, pushSpec}
 use Rattle.flattener.specs.Close.{closeRows, closeState, closeSpec}
 use Rattle.flattener.specs.Keeps.{close-saved}

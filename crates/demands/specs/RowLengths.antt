@@ -15,7 +15,8 @@ use Rattle.rows.specs.Row.{rowOf, outRow, madeRow, cell, withRiders, lineOf, mo
 use Rattle.arcs.specs.Arc.{Answer, silent, passed, arcAnswer, fromStart, fromCentre, arcRows, arcRow, Centre, centred, warned, Ends, Arc}
 use Rattle.splines.specs.Emission.{Spline, splineGroups, heldGroup, pointGroup}
 use Rattle.saved.specs.State.{held}
-use Rattle.saved.specs.Blocks.{answerAs, emits, ownAnswer}
+use Rattle.own.specs.Answer.{answerAs, ownAnswer}
+use Rattle.blocks.specs.Blocks.{emits}
 use Rattle.flattener.specs.Push.{emission, pushRows}
 use Rattle.flattener.specs.Close.{closeRows}
 use Rattle.demands.specs.Laws.{cond-both, Every, nil, more, every-append, every-upto, every-flatten}

@@ -18,7 +18,7 @@ use Rattle.flattener.specs.Keeps.{no-point, none-held, seeded-ok, close-saved, 
 use Rattle.replies.specs.Replies.{After, AfterState, plain}
 use Rattle.starts.specs.Start.{fresh, freshWord}
 use Rattle.starts.specs.Seed.{seeded, seedSpec}
-use Rattle.saved.specs.Blocks.{pushCheck}
+use Rattle.blocks.specs.Blocks.{pushCheck}
 use Rattle.flattener.specs.Push.{pushRows, pushDone}
 use Rattle.flattener.specs.Close.{closeRows, closeSpec}
 use Rattle.demands.specs.Accepted.{Saved, saved, Pushed, pushed, fine-check}

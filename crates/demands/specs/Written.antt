@@ -22,7 +22,8 @@ use Rattle.saved.specs.State.{stateOk, held, position, curveStart, tolerance, m
 use Rattle.flattener.specs.Held.{heldSpline}
 use Rattle.replies.specs.Replies.{After, AfterState, plain}
 use Rattle.starts.specs.Seed.{seeded, seedSpec}
-use Rattle.saved.specs.Blocks.{orNow, answerAs, ownAnswer, motionThen, emits, pushCheck}
+use Rattle.blocks.specs.Blocks.{orNow, motionThen, emits, pushCheck}
+use Rattle.own.specs.Answer.{answerAs, ownAnswer}
 use Rattle.flattener.specs.Push.{emission, pushRows, pushDone, pushSpec}
 use Rattle.flattener.specs.Close.{closeRows, closeState, closeSpec}
 use Rattle.demands.specs.Laws.{Every, every-imp, flatten-append, length-flatten}

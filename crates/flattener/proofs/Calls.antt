@@ -16,11 +16,13 @@ use Rattle.rows.specs.Truth.{by-bit, cond-t, cond-f}
 use Rattle.arcs.specs.declared.Plan.{Plan}
 use Rattle.saved.specs.State.{axisCount, held, motionNow, degree, tolerance, savedCheck}
 use Rattle.replies.specs.Replies.{plain, After, tooFew, doneReply}
-use Rattle.saved.specs.Blocks.{emits, isFull, news, ownAnswer, pushCheck, pushState, pushStore}
+use Rattle.blocks.specs.Blocks.{emits, isFull, news, pushCheck}
+use Rattle.own.specs.Answer.{ownAnswer}
+use Rattle.pushed.specs.Pushed.{pushState, pushStore}
 use Rattle.flattener.specs.Push.{emission, pushRows, pushDone, pushSpec, untouched}
 use Rattle.flattener.specs.Close.{closeRows, closeState, closeSpec}
 use Rattle.saved.specs.Checked.{saved-ok}
-use Rattle.saved.specs.Own.{Ready, ready, OwnPlanned, ownRows}
+use Rattle.own.specs.Own.{Ready, ready, OwnPlanned, ownRows}
 use lib.Ieee.{Float}
 use Rattle.gather.specs.Points.{splineOf}
 use Rattle.splines.specs.Emission.{splineGroups, putWithin}

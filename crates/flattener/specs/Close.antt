@@ -1,6 +1,6 @@
 -- Document 01, step 5: "Close emits a held spline; closing again writes nothing". Assumes nothing.
 use Prim.Native.Nat.{ℕ}
-use mathlib.Core.Bool.{Bool, cond}
+use mathlib.Core.Bool.{cond}
 use mathlib.Core.List.{List, []}
 use lib.ListN.{length}
 use lib.Dec.{eqb}
@@ -8,7 +8,7 @@ use Rattle.floats.specs.Lists.{flatten, spliced}
 use Rattle.saved.specs.State.{held, savedCheck}
 use Rattle.replies.specs.Replies.{plain, After, tooFew}
 use Rattle.flattener.specs.Push.{emission, untouched, fits}
-use Rattle.saved.specs.Blocks.{forgotten}
+use Rattle.pushed.specs.Pushed.{forgotten}
 
 unfoldable pub closeRows : List ℕ → List ℕ → List (List ℕ)
 closeRows st store = cond (eqb (held st) 0) [] (emission st store)

@@ -29,7 +29,8 @@ use Rattle.splines.specs.Widths.{runs-few}
 use Rattle.saved.specs.State.{axisCount, motionNow, degree, held, tolerance, geometric, position, pointWord, curveStart, heldRows, codeOk, codesOk, axesOk, stateOk, savedCheck}
 use Rattle.saved.specs.StateLaws.{Good, good, good-few, point-small}
 use Rattle.flattener.specs.Held.{heldSpline}
-use Rattle.saved.specs.Blocks.{motionThen, planeThen, emits, answerAs, ownAnswer}
+use Rattle.blocks.specs.Blocks.{motionThen, planeThen, emits}
+use Rattle.own.specs.Answer.{answerAs, ownAnswer}
 use Rattle.flattener.specs.Push.{emission}
 use Rattle.saved.specs.Checked.{saved-ok, saved-store}
 

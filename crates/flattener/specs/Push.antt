@@ -10,7 +10,9 @@ use Rattle.rows.specs.Codes.{rowWords}
 use Rattle.replies.specs.Replies.{plain, tooFew, After}
 use Rattle.splines.specs.Emission.{splineGroups}
 use Rattle.flattener.specs.Held.{heldSpline}
-use Rattle.saved.specs.Blocks.{emits, ownAnswer, news, pushState, pushStore, pushCheck}
+use Rattle.blocks.specs.Blocks.{emits, news, pushCheck}
+use Rattle.own.specs.Answer.{ownAnswer}
+use Rattle.pushed.specs.Pushed.{pushState, pushStore}
 
 unfoldable pub emission : List ℕ → List ℕ → List (List ℕ)
 emission st store = flatten (splineGroups (heldSpline st store))

@@ -28,7 +28,7 @@ ghost use Rattle.rows.specs.Row.{has, all};
 ghost use Rattle.rows.specs.Masks.{maskSum};
 ghost use Rattle.saved.specs.State.{tolOk, codesOk, axesOk, geometric, pointAtOk, pointOk, heldOk, stateOk, heldRowOk, savedCheck, withBit, placed};
 ghost use Rattle.saved.specs.StateLaws.{Listed, rowFits};
-ghost use Rattle.saved.specs.Own.{geometricMask, PointOf};
+ghost use Rattle.saved.specs.Axes.{geometricMask, PointOf};
 
 pub fn tol_ok(x: u64) -> bool
     ensures { λ r. ⌜ r ≡ tolOk x ⌝ }
