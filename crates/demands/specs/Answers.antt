@@ -14,8 +14,8 @@ use Rattle.rows.specs.Row.{all, shapeOk, numbersOk, turnOk, rowCheck}
 use Rattle.saved.specs.State.{stateOk, storeOk, held, heldRowOk, savedCheck}
 use Rattle.replies.specs.Replies.{plain, After, AfterState, StateIs, tooFew, PushIs}
 use Rattle.blocks.specs.Blocks.{isFull, pushCheck}
-use Rattle.flattener.specs.Push.{pushRows, pushDone, pushSpec, untouched}
-use Rattle.flattener.specs.Close.{closeRows, closeState, closeSpec}
+use Rattle.flattener.specs.Push.{pushRows, pushDone, pushSpec}
+use Rattle.closes.specs.Close.{untouched, closeRows, closeState, closeSpec}
 use Rattle.demands.specs.Laws.{cond-both}
 
 -- ---- "two replies allowed for one input agree"

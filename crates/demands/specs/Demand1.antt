@@ -18,8 +18,8 @@ use Rattle.replies.specs.Replies.{plain, AfterState, tooFew}
 use Rattle.starts.specs.Start.{freshWord, fresh, startSpec}
 use Rattle.starts.specs.Seed.{seeded, seedSpec}
 use Rattle.blocks.specs.Blocks.{isFull, pushCheck}
-use Rattle.flattener.specs.Push.{pushRows, pushDone, pushSpec, untouched, fits}
-use Rattle.flattener.specs.Close.{closeRows, closeState, closeSpec}
+use Rattle.flattener.specs.Push.{pushRows, pushDone, pushSpec}
+use Rattle.closes.specs.Close.{untouched, fits, closeRows, closeState, closeSpec}
 use Rattle.demands.specs.Demands.{Turned, Safe, SafeState, Demand1}
 use Rattle.demands.specs.Laws.{cond-both}
 use Rattle.demands.specs.RowLengths.{pushRows-long, closeRows-long}

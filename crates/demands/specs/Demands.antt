@@ -17,7 +17,7 @@ use Rattle.starts.specs.Start.{startSpec}
 use Rattle.starts.specs.Seed.{seedSpec}
 use Rattle.splines.specs.Emission.{weightOf}
 use Rattle.flattener.specs.Push.{pushSpec}
-use Rattle.flattener.specs.Close.{closeSpec}
+use Rattle.closes.specs.Close.{closeSpec}
 use Rattle.demands.specs.Groups.{Event, seed, block, closed, blocksOf, Piece, pieces, groups}
 use Rattle.demands.specs.Laws.{Every}
 

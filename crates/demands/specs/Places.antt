@@ -20,7 +20,7 @@ use Rattle.starts.specs.Start.{fresh, startSpec}
 use Rattle.starts.specs.Seed.{seeded, seedSpec}
 use Rattle.blocks.specs.Blocks.{pushCheck}
 use Rattle.flattener.specs.Push.{pushRows, pushDone, pushSpec}
-use Rattle.flattener.specs.Close.{closeRows, closeState, closeSpec}
+use Rattle.closes.specs.Close.{closeRows, closeState, closeSpec}
 use Rattle.flattener.specs.Keeps.{close-saved}
 use Rattle.demands.specs.Laws.{Every, every-imp, length-flatten}
 use Rattle.demands.specs.RowLengths.{Long, pushRows-long, closeRows-long}

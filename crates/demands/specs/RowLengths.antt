@@ -17,8 +17,9 @@ use Rattle.splines.specs.Emission.{Spline, splineGroups, heldGroup, pointGroup}
 use Rattle.saved.specs.State.{held}
 use Rattle.own.specs.Answer.{answerAs, ownAnswer}
 use Rattle.blocks.specs.Blocks.{emits}
-use Rattle.flattener.specs.Push.{emission, pushRows}
-use Rattle.flattener.specs.Close.{closeRows}
+use Rattle.closes.specs.Held.{emission}
+use Rattle.flattener.specs.Push.{pushRows}
+use Rattle.closes.specs.Close.{closeRows}
 use Rattle.demands.specs.Laws.{cond-both, Every, nil, more, every-append, every-upto, every-flatten}
 
 pub record Long (row : List ℕ) : Type 0 where

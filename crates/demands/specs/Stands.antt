@@ -21,7 +21,7 @@ use Rattle.starts.specs.Start.{freshWord, fresh}
 use Rattle.starts.specs.Seed.{seeded}
 use Rattle.blocks.specs.Blocks.{orNow, motionThen, planeThen, emits, kept}
 use Rattle.pushed.specs.Pushed.{degreeWith, forgotten, buffered, pushState, pushStore}
-use Rattle.flattener.specs.Close.{closeState}
+use Rattle.closes.specs.Close.{closeState}
 use Rattle.demands.specs.Groups.{Standing, atFirst, movedByBlock, movedBySeed, motionWith, goesOn, withBlock, withSeed, withClose, degreeFrom}
 use Rattle.demands.specs.Laws.{cond-both}
 use Rattle.demands.specs.Accepted.{Pushed, few-axes, held-spline}

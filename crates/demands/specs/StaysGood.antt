@@ -20,7 +20,7 @@ use Rattle.starts.specs.Start.{fresh, freshWord}
 use Rattle.starts.specs.Seed.{seeded, seedSpec}
 use Rattle.blocks.specs.Blocks.{pushCheck}
 use Rattle.flattener.specs.Push.{pushRows, pushDone}
-use Rattle.flattener.specs.Close.{closeRows, closeSpec}
+use Rattle.closes.specs.Close.{closeRows, closeSpec}
 use Rattle.demands.specs.Accepted.{Saved, saved, Pushed, pushed, fine-check}
 use Rattle.demands.specs.Answers.{places, push-done, push-accepted, closeDone, close-done, close-accepted}
 use Rattle.demands.specs.Demands.{Call, pushing, seeding, closing, answer, accepts, run}

@@ -24,7 +24,7 @@ use Rattle.saved.specs.StateLaws.{Good, good, good-ok, good-few, axes-few, poin
 use Rattle.starts.specs.Seed.{seeded}
 use Rattle.blocks.specs.Blocks.{orNow, motionThen, planeThen, emits, kept, isFull, news}
 use Rattle.pushed.specs.Pushed.{forgotten, opened, degreeWith, buffered, pushState, pushStore, trackTo}
-use Rattle.flattener.specs.Close.{closeState}
+use Rattle.closes.specs.Close.{closeState}
 use Rattle.pushed.specs.PushLaws.{SameAxes, same-trans, same-set, same-placed, same-to, same-forgotten, same-opened, same-codes, same-geometric, placed-keeps, to-keeps, forgotten-keeps, held-forgotten, below-spliced, in-spliced, past-spliced, startWords, length-startWords, noWords, none-at}
 use Rattle.blocks.specs.BlockLaws.{full-room}
 use Rattle.saved.specs.Checked.{saved-ok, saved-rows}

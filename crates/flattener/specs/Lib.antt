@@ -1,5 +1,3 @@
-pub mod Held
 pub mod Push
-pub mod Close
+pub mod Before
 pub mod Keeps
-pub mod Emitted

@@ -1,32 +1,20 @@
 -- Document 01, "Steps of a push" and the order of refusals: what a push answers and leaves. Assumes nothing.
-use Prim.Native.Nat.{ℕ, _/_}
-use mathlib.Core.Bool.{Bool, cond}
+use Prim.Native.Nat.{ℕ}
+use mathlib.Core.Bool.{cond}
 use mathlib.Core.List.{List, _++_}
 use lib.ListN.{length}
-use lib.Dec.{leb, eqb}
-use Rattle.replies.specs.declared.Reply.{Reply}
+use lib.Dec.{eqb}
 use Rattle.floats.specs.Lists.{flatten, spliced}
-use Rattle.rows.specs.Codes.{rowWords}
 use Rattle.replies.specs.Replies.{plain, tooFew, After}
-use Rattle.splines.specs.Emission.{splineGroups}
-use Rattle.flattener.specs.Held.{heldSpline}
+use Rattle.closes.specs.Held.{emission}
+use Rattle.closes.specs.Close.{untouched, fits}
 use Rattle.blocks.specs.Blocks.{emits, news, pushCheck}
 use Rattle.own.specs.Answer.{ownAnswer}
 use Rattle.pushed.specs.Pushed.{pushState, pushStore}
 
-unfoldable pub emission : List ℕ → List ℕ → List (List ℕ)
-emission st store = flatten (splineGroups (heldSpline st store))
-
 -- ---- the rows: "Room is judged for both together"
 unfoldable pub pushRows : List ℕ → List ℕ → List ℕ → List (List ℕ)
 pushRows st store r = let own = ownAnswer st r .rows in cond (emits st r) (emission st store ++ own) own
-
--- "Every refusal leaves all lent memory and the state untouched"
-unfoldable pub untouched : Reply → List ℕ → List ℕ → List ℕ → After
-untouched p st store rows = record { reply = p; state = st; store = store; rows = rows }
-
-abbrev pub fits : List (List ℕ) → List ℕ → Bool
-fits out rows = leb (length out) (length rows / rowWords)
 
 unfoldable pub pushDone : List ℕ → List ℕ → List ℕ → List ℕ → List (List ℕ) → After
 pushDone st store rows r out =

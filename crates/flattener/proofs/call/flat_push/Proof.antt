@@ -5,10 +5,11 @@ use native.Mathlib.Omega.{arith}
 use Prim.Native.Nat.{ℕ, _+_}
 use Rattle.replies.specs.Replies.{plain, answers, doneReply}
 use Rattle.saved.specs.StateLaws.{good, good-few}
-use Rattle.flattener.specs.Push.{untouched}
+use Rattle.closes.specs.Close.{untouched}
 use Rattle.saved.specs.Checked.{saved-ok}
-use Rattle.flattener.specs.Emitted.{few-own}
-use Rattle.flattener.proofs.Calls.{passes, passes-ready, turned-is, few-is, done-is, both-written, row-room, room-left, room-short, put-refused, put-written}
+use Rattle.own.specs.Few.{few-own}
+use Rattle.flattener.proofs.Calls.{passes, passes-ready, turned-is, few-is, done-is, both-written, row-room}
+use Rattle.closes.specs.Emitted.{room-left, room-short, put-refused, put-written}
 use borrow.Author.Needs.{needs}
 use Rattle.flattener.proofs.call.flat_push.Statement.{statement}
 use Rattle.flattener.proofs.call.flat_push.Tie as tie

@@ -1,14 +1,23 @@
 -- Document 01, step 5: "Close emits a held spline; closing again writes nothing". Assumes nothing.
-use Prim.Native.Nat.{ℕ}
-use mathlib.Core.Bool.{cond}
+use Prim.Native.Nat.{ℕ, _/_}
+use mathlib.Core.Bool.{Bool, cond}
 use mathlib.Core.List.{List, []}
 use lib.ListN.{length}
-use lib.Dec.{eqb}
+use lib.Dec.{leb, eqb}
 use Rattle.floats.specs.Lists.{flatten, spliced}
+use Rattle.rows.specs.Codes.{rowWords}
 use Rattle.saved.specs.State.{held, savedCheck}
+use Rattle.replies.specs.declared.Reply.{Reply}
 use Rattle.replies.specs.Replies.{plain, After, tooFew}
-use Rattle.flattener.specs.Push.{emission, untouched, fits}
+use Rattle.closes.specs.Held.{emission}
 use Rattle.pushed.specs.Pushed.{forgotten}
+
+-- "Every refusal leaves all lent memory and the state untouched"
+unfoldable pub untouched : Reply → List ℕ → List ℕ → List ℕ → After
+untouched p st store rows = record { reply = p; state = st; store = store; rows = rows }
+
+abbrev pub fits : List (List ℕ) → List ℕ → Bool
+fits out rows = leb (length out) (length rows / rowWords)
 
 unfoldable pub closeRows : List ℕ → List ℕ → List (List ℕ)
 closeRows st store = cond (eqb (held st) 0) [] (emission st store)

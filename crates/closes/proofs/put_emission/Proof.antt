@@ -1,10 +1,10 @@
--- `flattener::call::put_emission` meets its contract. Assumes nothing.
+-- `closes::put_emission` meets its contract. Assumes nothing.
 use native.Mathlib.Omega.{arith}
 use Rattle.saved.specs.Walk.{part-codes}
-use Rattle.flattener.proofs.Calls.{state-long, state-axes, holds-at, put-at}
+use Rattle.closes.proofs.Calls.{state-long, state-axes, holds-at, put-at}
 use borrow.Author.Needs.{needs}
-use Rattle.flattener.proofs.call.put_emission.Statement.{statement}
-use Rattle.flattener.proofs.call.put_emission.Tie as tie
+use Rattle.closes.proofs.put_emission.Statement.{statement}
+use Rattle.closes.proofs.put_emission.Tie as tie
 
 shared-slice-read-e : tie.Need-shared-slice-read-e
 shared-slice-read-e c = omega (arith, state-long ((c .before .before .before .before .args .state .now)) ((c .before .before .before .before .args .store .now)) ((c .before .before .before .before .pre) .0), state-axes ((c .before .before .before .before .args .state .now)) ((c .before .before .before .before .args .store .now)) ((c .before .before .before .before .pre) .0))

@@ -1,21 +1,20 @@
 -- The emission as the code has it: the spline of the state's words, how many rows it has at most, and how wide they are. Assumes nothing.
-use Prim.Native.Nat.{ℕ, zero, suc, _+_, _*_, _^_, _<_, _≤_}
+use Prim.Native.Nat.{ℕ, zero, suc, _+_, _*_, _/_, _^_, _<_, _≤_}
 use mathlib.Core.Path.{_≡_, sym, _∙_, ap, ap₂, subst}
-use mathlib.Core.Bool.{Bool, true, false, _&&_, not, cond, false≢true}
+use mathlib.Core.Bool.{true, false, _&&_, not, false≢true}
 use mathlib.Core.List.{List, [], _∷_, _++_, append-nil}
-use mathlib.Core.Option.{Option, none, some}
+use mathlib.Core.Option.{Option}
 use native.Mathlib.Omega.{arith}
 use lib.ListN.{length, getD, take, drop, length-append, length-take, length-drop}
 use lib.Dec.{leb, eqb}
 use lib.Ieee.{Float}
-use borrow.Author.Tests.{eq-eqb, not-true}
-use Rattle.floats.specs.Lists.{upto, flatten, keep}
+use borrow.Author.Tests.{eq-eqb, le-leb, lt-leb, not-true}
+use Rattle.floats.specs.Lists.{upto, flatten, keep, spliced}
 use Rattle.floats.specs.Fill.{length-upto}
-use Rattle.rows.specs.Codes.{axisCodes, rowWords, wAxes, wStart, stateWords, mostHeld, lastCode, planeU, planeV, Kind, same, linear, clockwise, counter, akima, basis, cubic, other, refused, kindOf}
+use Rattle.rows.specs.Codes.{axisCodes, rowWords, wAxes, wStart, stateWords, mostHeld, lastCode}
 use Rattle.rows.specs.Row.{all, shown, hasPoint}
 use Rattle.rows.specs.RowLaws.{length-out, length-made}
-use Rattle.rows.specs.Truth.{by-bit, all-at, and-right}
-use Rattle.arcs.specs.Arc.{Ends, Centre, centred, warned, passed, silent, arcRows, countOf, fromCentre, fromStart, arcAnswer}
+use Rattle.rows.specs.Truth.{by-bit, cond-t, cond-f, all-at, and-right}
 use Rattle.gather.specs.Points.{Spline, channels, pointRows, startPoint, pointsFrom, metricOf, splineOf}
 use Rattle.gather.specs.Channels.{Once}
 use Rattle.gather.specs.Flat.{Sized, sized-append, sized-cons, flatten-append, length-flatten}
@@ -26,12 +25,9 @@ use Rattle.splines.specs.Emission.{runsOf, splineGroups, putWithin}
 use Rattle.splines.specs.Emits.{Holds}
 use Rattle.splines.specs.Laws.{shown-part, blocks-are}
 use Rattle.splines.specs.Widths.{runs-few}
-use Rattle.saved.specs.State.{axisCount, motionNow, degree, held, tolerance, geometric, position, pointWord, curveStart, heldRows, codeOk, codesOk, axesOk, stateOk, savedCheck}
+use Rattle.saved.specs.State.{axisCount, motionNow, degree, held, tolerance, geometric, pointWord, curveStart, heldRows, codeOk, codesOk, axesOk, stateOk, savedCheck}
 use Rattle.saved.specs.StateLaws.{Good, good, good-few, point-small}
-use Rattle.flattener.specs.Held.{heldSpline}
-use Rattle.blocks.specs.Blocks.{motionThen, planeThen, emits}
-use Rattle.own.specs.Answer.{answerAs, ownAnswer}
-use Rattle.flattener.specs.Push.{emission}
+use Rattle.closes.specs.Held.{heldSpline, emission}
 use Rattle.saved.specs.Checked.{saved-ok, saved-store}
 
 -- the axis list of a state, and the words of its curve start
@@ -170,43 +166,22 @@ pub record Put (own : ℕ) (out : List (List ℕ)) (l : List ℕ) (n : ℕ) (l1 
   pub few : n ≤ mostEmitted
   pub rows : l1 ≡ putWithin own out l
 
--- the rows before the block's own
-abbrev pub before : List ℕ → List ℕ → List ℕ → List (List ℕ)
-before st store r = cond (emits st r) (emission st store) []
+-- rows that are put where they and `own` more, k together, have room
+module _ (own : ℕ) (out : List (List ℕ)) (l : List ℕ) (n : ℕ) (l1 : List ℕ) (p : Put own out l n l1) (e : length l1 ≡ length l) (k : ℕ) (ek : k ≡ n + own) where
+  pub room-left : k ≤ length l1 / rowWords → k ≤ length l / rowWords
+  room-left h = rw e at h
 
-pub before-words : (st store r : List ℕ) → length (flatten (before st store r)) ≡ length (before st store r) * rowWords
-unfolding flatten
-before-words st store r = by-bit (emits st r) (λ b. rw b (emission-words st store)) (λ b. rw b)
+  pub room-short : length l1 / rowWords < k → length l / rowWords < k
+  room-short h = rw e at h
 
--- "held in 1..100,000": a block's own rows
-few-centre : (tol : Float) (gs : List ℕ) (plane : ℕ) (cw : Bool) (pos : ℕ → Option ℕ) (r : List ℕ) (d : Ends) (m : Centre) → length (fromCentre tol gs plane cw pos r d m .rows) ≤ 100000
-unfolding fromCentre arcRows countOf passed
-few-centre tol gs plane cw pos r d (centred cu cv) = rw (length-upto) (omega arith)
-few-centre tol gs plane cw pos r d (warned n) = omega arith
+  pub put-refused : length l1 / rowWords < k → l1 ≡ l
+  unfolding putWithin
+  put-refused h =
+      let s : length l / rowWords < length out + own = (let q : length l / rowWords < k = room-short h in omega (arith, p .count)) in
+      p .rows ∙ cond-f _ _ (lt-leb (length out + own) (length l / rowWords) s)
 
-few-start : (tol : Float) (gs : List ℕ) (plane : ℕ) (cw : Bool) (pos : ℕ → Option ℕ) (r : List ℕ) (a b : Option ℕ) → length (fromStart tol gs plane cw pos r a b .rows) ≤ 100000
-unfolding fromStart passed
-few-start tol gs plane cw pos r none b = omega arith
-few-start tol gs plane cw pos r (some x) none = omega arith
-few-start tol gs plane cw pos r (some x) (some y) = few-centre tol gs plane cw pos r _ _
-
-few-arc : (tol : Float) (gs : List ℕ) (plane : ℕ) (cw : Bool) (pos : ℕ → Option ℕ) (r : List ℕ) → length (arcAnswer tol gs plane cw pos r .rows) ≤ 100000
-unfolding arcAnswer passed
-few-arc tol gs plane cw pos r =
-    by-bit (silent gs plane r) (λ b. rw b (omega arith)) (λ b. rw b (few-start tol gs plane cw pos r (pos (planeU plane)) (pos (planeV plane))))
-
-few-as : (k : Kind) (tol : Float) (gs : List ℕ) (plane : ℕ) (pos : ℕ → Option ℕ) (r : List ℕ) → length (answerAs k tol gs plane pos r .rows) ≤ 100000
-unfolding answerAs passed
-few-as same tol gs plane pos r = omega arith
-few-as linear tol gs plane pos r = omega arith
-few-as clockwise tol gs plane pos r = few-arc tol gs plane true pos r
-few-as counter tol gs plane pos r = few-arc tol gs plane false pos r
-few-as akima tol gs plane pos r = omega arith
-few-as basis tol gs plane pos r = omega arith
-few-as cubic tol gs plane pos r = omega arith
-few-as other tol gs plane pos r = omega arith
-few-as refused tol gs plane pos r = omega arith
-
-pub few-own : (st r : List ℕ) → length (ownAnswer st r .rows) ≤ 100000
-unfolding ownAnswer
-few-own st r = few-as (kindOf (motionThen st r)) (tolerance st) (geometric st) (planeThen st r) (position st) r
+  pub put-written : k ≤ length l1 / rowWords → l1 ≡ spliced l 0 (flatten out)
+  unfolding putWithin
+  put-written h =
+      let s : length out + own ≤ length l / rowWords = (let q : k ≤ length l / rowWords = room-left h in omega (arith, p .count)) in
+      p .rows ∙ cond-t _ _ (le-leb (length out + own) (length l / rowWords) s)

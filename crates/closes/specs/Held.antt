@@ -1,7 +1,8 @@
--- Document 01, "Spline": the spline that a state and its store hold. Assumes nothing.
+-- Document 01, "Spline": the spline that a state and its store hold, and its rows. Assumes nothing.
 use Prim.Native.Nat.{ℕ}
 use mathlib.Core.List.{List}
-use Rattle.splines.specs.Emission.{Spline}
+use Rattle.floats.specs.Lists.{flatten}
+use Rattle.splines.specs.Emission.{Spline, splineGroups}
 use Rattle.saved.specs.State.{tolerance, geometric, motionNow, degree, curveStart, heldRows}
 
 -- the spline that a state and its store hold
@@ -15,3 +16,6 @@ heldSpline st store =
       start = curveStart st;
       blocks = heldRows st store;
     }
+
+unfoldable pub emission : List ℕ → List ℕ → List (List ℕ)
+emission st store = flatten (splineGroups (heldSpline st store))

@@ -1,4 +1,4 @@
--- `flattener::call::flat_close` meets its contract. Assumes nothing.
+-- `closes::close` meets its contract. Assumes nothing.
 use mathlib.Core.Path.{_≡_, refl, sym, ap, _∙_, subst}
 use native.Mathlib.Omega.{arith}
 use Prim.Native.Nat.{ℕ, _+_, _/_, _≤_, _<_}
@@ -8,13 +8,13 @@ use Rattle.rows.specs.Truth.{cond-t, cond-f}
 use Rattle.rows.specs.Codes.{rowWords}
 use Rattle.replies.specs.Replies.{plain, tooFew, answers, doneReply}
 use Rattle.saved.specs.StateLaws.{good}
-use Rattle.flattener.specs.Push.{untouched}
+use Rattle.closes.specs.Close.{untouched, closeState}
 use Rattle.saved.specs.Checked.{saved-ok}
-use Rattle.flattener.specs.Close.{closeState}
-use Rattle.flattener.proofs.Calls.{close-turned-is, close-none-is, close-few-is, close-done-is, no-rows, room-left, room-short, put-refused, put-written}
+use Rattle.closes.proofs.Calls.{close-turned-is, close-none-is, close-few-is, close-done-is, no-rows}
+use Rattle.closes.specs.Emitted.{room-left, room-short, put-refused, put-written}
 use borrow.Author.Needs.{needs}
-use Rattle.flattener.proofs.call.flat_close.Statement.{statement}
-use Rattle.flattener.proofs.call.flat_close.Tie as tie
+use Rattle.closes.proofs.close.Statement.{statement}
+use Rattle.closes.proofs.close.Tie as tie
 
 saved-check-requires : tie.Need-saved-check-requires
 saved-check-requires c κs = search needs
@@ -74,8 +74,8 @@ returns-4 : tie.Need-returns-4
 unfolding closeState
 returns-4 c = answers (close-done-is _ _ _ (sym (c .before .before .before .before .before .before .before .before .before .before .before .before .before .before .saved-check .ensures) ∙ (c .before .before .before .before .before .before .before .before .before .before .before .before .before .if1 .left)) (c .before .before .before .before .before .before .before .before .before .before .before .if2 .left) (subst (λ (n : ℕ). n ≤ length ((c .before .before .before .before .before .before .before .before .before .before .before .before .before .before .before .before .before .before .before .args .rows .now)) / rowWords) ((c .before .before .before .before .before .before .before .before .put-emission .ensures) .count) (room-left _ _ _ _ _ (c .before .before .before .before .before .before .before .before .put-emission .ensures) (c .before .before .before .before .before .before .before .before .put-emission .kept .1 .1 .0) _ (let z : (c .before .before .before .before .before .before .before .before .put-emission .result) ≡ (c .before .before .before .before .before .before .before .before .put-emission .result) + 0 = omega arith in z) (c .before .before .before .before .before .if3 .left)))) ((c .done-reply .ensures) ∙ ap (λ (n : ℕ). doneReply n 0 0 0) ((c .before .before .before .before .before .before .before .before .put-emission .ensures) .count)) ((c .before .before .before .forget .ensures) ∙ sym (cond-f _ _ (ne-eqb _ _ (c .before .before .before .before .before .before .before .before .before .before .before .if2 .left)))) refl (put-written _ _ _ _ _ (c .before .before .before .before .before .before .before .before .put-emission .ensures) (c .before .before .before .before .before .before .before .before .put-emission .kept .1 .1 .0) _ (let z : (c .before .before .before .before .before .before .before .before .put-emission .result) ≡ (c .before .before .before .before .before .before .before .before .put-emission .result) + 0 = omega arith in z) (c .before .before .before .before .before .if3 .left))
 
-pub flat-close-spec : {M : Type 1} → statement M
-flat-close-spec =
+pub close-spec : {M : Type 1} → statement M
+close-spec =
     tie.close
     (tie.spec
     saved-check-requires
