@@ -1,20 +1,15 @@
 // Pushing a block, and closing.
 use blocks::emits;
-use blocks::is_news;
 use blocks::push_check;
 use closes::close;
 use closes::put_emission;
 use own::plan_own;
-use own::write_own;
-use pushed::push_state;
-use pushed::push_store;
 use replies::Reply;
-use replies::done_reply;
 use replies::plain_reply;
 use replies::too_few;
 use rows::ROW_WORDS;
+use settle::settle;
 ghost use mathlib.Core.Path.{_≡_};
-ghost use mathlib.Core.Bool.{cond};
 ghost use Prim.Native.Nat.{_≤_};
 ghost use Rattle.splines.specs.Emits.{mostOwn};
 ghost use Rattle.replies.specs.Replies.{PushIs};
@@ -24,12 +19,6 @@ ghost use Rattle.closes.specs.Emitted.{Put};
 ghost use Rattle.closes.specs.Close.{closeSpec};
 ghost use Rattle.flattener.specs.Before.{before};
 ghost use Rattle.flattener.specs.Push.{pushSpec};
-
-fn warning_of(new: bool, warning: u64) -> u64
-    ensures { λ r. ⌜ r ≡ cond new 7 warning ⌝ }
-{
-    if new { 7 } else { warning }
-}
 
 // Counts the rows that go out before the block's own and, where they and `own` more have room, writes them to the front
 // of `rows`.
@@ -63,11 +52,7 @@ pub extern "C" fn flat_push(
     if rows.len() / ROW_WORDS < needed {
         return too_few(needed as u64);
     }
-    let warning = warning_of(is_news(state, row), plan.warning);
-    write_own(rows, first * ROW_WORDS, state, row, plan);
-    push_store(state, store, row);
-    push_state(state, row);
-    done_reply(needed as u64, warning, plan.wanted, plan.held)
+    settle(state, store, rows, row, first, plan)
 }
 
 // Ends the run: a held spline is emitted.
