@@ -34,7 +34,7 @@ block-requires c κs = search needs
 
 -- src/points.rt:129:9
 add-point-requires : tie.Need-add-point-requires Inv-loop μ-loop
-add-point-requires c κs = ((ap length (c .before .before .block .ensures) ∙ block-length _ _ (omega arith), (c .before .before .before .before .before .before .before .before .before .before .pre) .0 .1 .1), added-room _ _ _ _ _ _ _ ((c .before .before .before .before .loop .inv) .1) (omega (arith, keep-upto-most (hasPoint (geometricOf (c .before .before .before .before .before .before .before .before .before .before .args .axes .now))) (blockAt (c .before .before .before .before .before .before .before .before .before .before .args .store .now)) (c .before .before .before .before .loop .i))) ((c .before .before .before .before .before .before .before .before .before .before .pre) .1 .0) ((c .before .before .before .before .before .before .before .before .before .before .pre) .1 .1 .0) ((c .before .before .before .before .before .before .before .before .before .before .pre) .1 .1 .1))
+add-point-requires c κs = ((ap length (c .before .before .block .ensures) ∙ block-length _ _ (omega arith), (c .before .before .before .before .before .before .before .before .before .before .pre) .0 .1 .1), added-room _ _ _ _ _ _ _ _ ((c .before .before .before .before .loop .inv) .1) (omega (arith, keep-upto-most (hasPoint (geometricOf (c .before .before .before .before .before .before .before .before .before .before .args .axes .now))) (blockAt (c .before .before .before .before .before .before .before .before .before .before .args .store .now)) (c .before .before .before .before .loop .i))) ((c .before .before .before .before .before .before .before .before .before .before .pre) .1 .0) ((c .before .before .before .before .before .before .before .before .before .before .pre) .1 .1 .0) ((c .before .before .before .before .before .before .before .before .before .before .pre) .1 .1 .1))
 
 -- src/points.rt:130:9
 add-i : tie.Need-add-i Inv-loop μ-loop
@@ -46,7 +46,7 @@ loop-less c = search needs
 
 -- src/points.rt:128:5
 loop-again : tie.Need-loop-again Inv-loop μ-loop
-loop-again c = (omega arith, points-step _ _ _ _ _ _ _ _ _ _ _ _ _ (omega arith) ((c .before .before .before .before .before .before .before .before .before .before .before .before .before .before .before .pre) .1 .0) ((c .before .before .before .before .before .before .before .before .before .before .before .before .before .before .before .pre) .1 .1 .0) ((c .before .before .before .before .before .before .before .before .before .before .before .before .before .before .before .pre) .1 .1 .1) (c .before .before .before .before .before .before .before .block .ensures) ((c .before .before .before .before .before .before .before .before .before .loop .inv) .1) (c .before .before .before .before .add-point .ensures))
+loop-again c = (omega arith, points-step _ _ _ _ _ _ _ _ _ _ _ _ _ _ (omega arith) ((c .before .before .before .before .before .before .before .before .before .before .before .before .before .before .before .pre) .1 .0) ((c .before .before .before .before .before .before .before .before .before .before .before .before .before .before .before .pre) .1 .1 .0) ((c .before .before .before .before .before .before .before .before .before .before .before .before .before .before .before .pre) .1 .1 .1) (c .before .before .before .before .before .before .before .block .ensures) ((c .before .before .before .before .before .before .before .before .before .loop .inv) .1) (c .before .before .before .before .add-point .ensures))
 
 -- src/points.rt:121:1
 same-length : tie.Need-same-length Inv-loop μ-loop
