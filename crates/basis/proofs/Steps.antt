@@ -65,8 +65,8 @@ pub degree-in : (degree n : ℕ) {p : ℕ} → 2 ≤ n → p ≡ degreeOf n degr
 unfolding degreeOf
 degree-in degree n h e = omega arith
 
-pub product-in : (ch n len : ℕ) → ch ≤ 10 → n ≤ 257 → 2827 ≤ len → (ch + 1) * n ≤ len
-product-in ch n len h g l =
+pub product-in : (ch n len : ℕ) → ch ≤ 10 → 11 * n ≤ len → (ch + 1) * n ≤ len
+product-in ch n len h l =
     let a : (ch + 1) * n ≤ 11 * n = mul-le-mul-right n (omega arith) in
     omega arith
 
