@@ -1,22 +1,22 @@
 -- The tables of a fit, as they are laid in the two lists. Assumes nothing.
-use mathlib.Core.Path.{_≡_, refl, sym, ap, _∙_, subst}
+use mathlib.Core.Path.{_≡_, sym, ap, _∙_, subst}
 use mathlib.Core.Bool.{Bool}
 use mathlib.Core.List.{List, _++_}
 use Prim.Native.Nat.{ℕ, _+_, _-_, _*_, _<_, _≤_}
-use native.Mathlib.Nat.{mul-le-mul-right, mul-le-mul-left, mul-comm, le-trans}
+use native.Mathlib.Nat.{mul-le-mul-right, mul-comm}
 use native.Mathlib.Omega.{arith}
-use lib.ListN.{length, take, drop, replicate, length-drop}
+use lib.ListN.{length, take, drop, length-drop}
 use lib.Seq.{take-at, length-take-le}
 use lib.Ieee.{Float, nan}
 use borrow.Rule.Slice.PartMut.{putMid, postOf, post-is}
-use Rattle.floats.specs.Numbers.{f0, at}
+use Rattle.floats.specs.Numbers.{at}
 use Rattle.floats.specs.Lists.{upto, filled, rowsOf}
 use Rattle.floats.specs.Fill.{length-upto, at-filled, length-filled}
 use Rattle.metric.specs.Metric.{chordTo, chords}
 use Rattle.metric.specs.Points.{length-rows}
 use Rattle.fit.specs.Prepare.{FitReady, FitRoom}
 use Rattle.basis.specs.RowLaws.{copied, put, length-put, put-here, put-before}
-use Rattle.curves.specs.Walks.{fitTimes, fitPoints, fitSlopes}
+use Rattle.walks.specs.Walks.{fitTimes, fitPoints, fitSlopes}
 use Rattle.curves.specs.Ready.{Fitted}
 
 pub cells-in : (n ch : ℕ) → n ≤ 257 → ch ≤ 10 → (n * ch ≤ 2570) × (ch * n ≤ 2570)

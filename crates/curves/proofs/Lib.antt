@@ -1,8 +1,4 @@
-pub mod Walking
-pub mod Counting
-pub mod Writing
-pub mod Remembering
-pub mod Stopping
+pub mod Joining
 pub mod Spanning
 pub mod Segmenting
 pub mod Owning

@@ -1,21 +1,20 @@
 -- The runs of a prepared curve, as the walks over its tables give them. Assumes nothing.
 use mathlib.Core.Path.{_≡_, refl, sym, ap, _∙_, fun-ext}
-use mathlib.Core.List.{List, [], _∷_, _++_, map}
+use mathlib.Core.List.{List, [], _++_}
 use mathlib.Core.Bool.{Bool, true, false, cond}
 use mathlib.Core.Logic.{⊎-elim}
-use Prim.Native.Nat.{ℕ, zero, suc, _+_, _-_, _*_, _<_, _≤_}
+use Prim.Native.Nat.{ℕ, zero, suc, _+_, _-_, _<_, _≤_}
 use native.Mathlib.Omega.{arith}
 use lib.Dec.{ltb, eqb}
 use lib.ListN.{length, getD, take, drop}
 use lib.Seq.{ext-getD, drop-at}
-use lib.Ieee.{Float, le}
+use lib.Ieee.{Float}
 use borrow.Author.Tests.{lt-ltb, le-ltb}
-use Rattle.floats.specs.Numbers.{_⊖_, 1e-12, at}
-use Rattle.floats.specs.Lists.{upto, filled, flatten, row, rowsOf, spliced}
+use Rattle.floats.specs.Lists.{upto, filled, flatten, rowsOf, spliced}
 use Rattle.floats.specs.Fill.{length-upto, at-upto, upto-same, upto-below, length-filled, at-filled, past-filled, lt-or-le}
 use Rattle.floats.specs.Splice.{spliced-none}
-use Rattle.metric.specs.Metric.{pointOf, chords}
-use Rattle.metric.specs.Walk.{Sample, samples}
+use Rattle.metric.specs.Metric.{chords}
+use Rattle.metric.specs.Walk.{Sample}
 use Rattle.metric.specs.Points.{length-rows, point-rows}
 use Rattle.fit.specs.Fit.{Fit, keptTo, fitOf, evalFit, fitRun, fitRuns}
 use Rattle.fit.specs.Memory.{FitHeld, fitAt, eval-is}
@@ -23,11 +22,12 @@ use Rattle.basis.specs.Basis.{Bspline, basisOf, evalBasis, basisSamples, ownerF
 use Rattle.basis.specs.BasisLaws.{runs-join, run-at}
 use Rattle.basis.specs.Tables.{curveAt, advanced}
 use Rattle.basis.specs.TableLaws.{curve-is, owner-is, points-are, spans-are}
-use Rattle.curves.specs.declared.Shape.{Shape}
-use Rattle.curves.specs.Runs.{curveRuns, encode}
-use Rattle.curves.specs.Walks.{fitTimes, fitPoints, fitSlopes, pointAt, evalOf, ownOf, Tables, Segments, splineSamples, fitRunAt, counted, Fresh, pointsOf}
+use Rattle.walks.specs.declared.Shape.{Shape}
+use Rattle.walks.specs.Walks.{encode, fitTimes, fitPoints, fitSlopes, pointAt, evalOf, ownOf, Tables, counted, pointsOf}
+use Rattle.walks.specs.Counting.{counted-length}
+use Rattle.curves.specs.Runs.{curveRuns}
+use Rattle.curves.specs.Stretches.{Segments, splineSamples, fitRunAt, Fresh}
 use Rattle.curves.specs.Ready.{Ready}
-use Rattle.curves.proofs.Counting.{counted-length}
 use Rattle.curves.proofs.Owning.{ownFrom, count-owned, count-past}
 
 -- ---- counts that start from 0

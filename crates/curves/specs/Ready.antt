@@ -12,8 +12,8 @@ use Rattle.metric.specs.Below.{Below}
 use Rattle.metric.specs.Metric.{chords}
 use Rattle.fit.specs.Prepare.{FitReady}
 use Rattle.basis.specs.Tables.{BasisIs}
-use Rattle.curves.specs.declared.Shape.{Shape}
-use Rattle.curves.specs.Walks.{knotRoom, controlRoom, fitTimes, fitPoints, fitSlopes}
+use Rattle.walks.specs.declared.Shape.{Shape}
+use Rattle.walks.specs.Walks.{knotRoom, controlRoom, fitTimes, fitPoints, fitSlopes}
 
 -- the tables of a fit: the chord sums of the n points first, then the fit
 pub record Fitted (cubic : Bool) (n ch : ℕ) (ms : List ℕ) (pts : List Float) (m : ℕ) (ks cs : List Float) : Type 0 where

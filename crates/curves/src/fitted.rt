@@ -1,15 +1,15 @@
 // The tables of a fit.
-use crate::sizes::CONTROL_ROOM;
-use crate::sizes::FIT_SLOPES;
-use crate::sizes::FIT_TIMES;
-use crate::sizes::KNOT_ROOM;
+use walks::sizes::CONTROL_ROOM;
+use walks::sizes::FIT_SLOPES;
+use walks::sizes::FIT_TIMES;
+use walks::sizes::KNOT_ROOM;
 ghost use mathlib.Core.Path.{_≡_};
 ghost use Prim.Native.Nat.{_≤_, _*_};
 ghost use lib.ListN.{length};
 ghost use Rattle.floats.specs.Numbers.{at};
 ghost use Rattle.floats.specs.Lists.{filled};
 ghost use Rattle.metric.specs.Below.{Below};
-ghost use Rattle.curves.specs.Walks.{knotRoom, controlRoom};
+ghost use Rattle.walks.specs.Walks.{knotRoom, controlRoom};
 ghost use Rattle.curves.specs.Ready.{Fitted};
 
 // Copies src over the front of dst.

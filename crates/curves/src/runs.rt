@@ -1,19 +1,19 @@
 // The runs of a spline: prepared, counted, written.
-use crate::Shape;
 use crate::fitted::lay_fit;
 use crate::segment::count_segments;
 use crate::segment::write_segments;
 use crate::spline::count_spline;
 use crate::spline::write_spline;
+use walks::Shape;
 ghost use mathlib.Core.Path.{_≡_};
 ghost use mathlib.Core.List.{[]};
 ghost use Prim.Native.Nat.{ℕ, _≤_, _-_, _*_};
 ghost use lib.ListN.{length, getD, take};
 ghost use Rattle.floats.specs.Lists.{filled, flatten, rowsOf, spliced};
 ghost use Rattle.metric.specs.Below.{Below};
-ghost use Rattle.curves.specs.Walks.{knotRoom, controlRoom};
+ghost use Rattle.walks.specs.Walks.{knotRoom, controlRoom, encode};
 ghost use Rattle.curves.specs.Ready.{Ready};
-ghost use Rattle.curves.specs.Runs.{curveRuns, encode};
+ghost use Rattle.curves.specs.Runs.{curveRuns};
 ghost use Rattle.curves.specs.Lefts.{Remembers};
 
 // Fills the tables of n points, of ch numbers each, that a spline of this motion runs through or is drawn to.

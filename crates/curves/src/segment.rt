@@ -1,20 +1,21 @@
 // The samples of a fit, stretch by stretch between the programmed points.
-use crate::Place;
-use crate::Reached;
-use crate::Shape;
 use crate::sizes::DEPTH;
-use crate::walk::count_walk;
-use crate::walk::put_sample;
-use crate::walk::remember;
-use crate::walk::write_walk;
+use walks::Place;
+use walks::Reached;
+use walks::Shape;
+use walks::walk::count_walk;
+use walks::walk::put_sample;
+use walks::walk::remember;
+use walks::walk::write_walk;
 ghost use mathlib.Core.Path.{_≡_};
 ghost use Prim.Native.Nat.{_≤_, _+_, _-_};
 ghost use lib.ListN.{length, set};
 ghost use lib.Seq.{sets};
 ghost use Rattle.floats.specs.Lists.{upto, filled, flatten, spliced};
-ghost use Rattle.curves.specs.Runs.{encode};
-ghost use Rattle.curves.specs.Walks.{Segments, Fresh, FreshAt, fitRunAt, Written};
-ghost use Rattle.curves.specs.Lefts.{fitLefts, joined, Recalls, Stored, Cursor};
+ghost use Rattle.walks.specs.Walks.{encode, Written};
+ghost use Rattle.walks.specs.Lefts.{Recalls, Stored, Cursor};
+ghost use Rattle.curves.specs.Stretches.{Segments, Fresh, FreshAt, fitRunAt};
+ghost use Rattle.curves.specs.Lefts.{fitLefts, joined};
 
 // Counts the samples of the stretch from point i to the next, c samples after the start, and returns how many there are then.
 fn count_segment(

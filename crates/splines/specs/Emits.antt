@@ -20,11 +20,11 @@ use Rattle.rows.specs.Codes.{rowWords, geometricOf}
 use Rattle.rows.specs.Row.{has, shown, hasPoint}
 use Rattle.rows.specs.Masks.{maskSum, has-mask, mask-lt, has-past, member-keep}
 use Rattle.metric.specs.Below.{Below}
-use Rattle.curves.specs.declared.Shape.{Shape}
-use Rattle.curves.specs.Walks.{knotRoom, controlRoom}
+use Rattle.walks.specs.declared.Shape.{Shape}
+use Rattle.walks.specs.Walks.{knotRoom, controlRoom, encode}
 use Rattle.curves.specs.Ready.{Ready}
 use Rattle.curves.specs.Lefts.{Remembers}
-use Rattle.curves.specs.Runs.{curveRuns, encode}
+use Rattle.curves.specs.Runs.{curveRuns}
 use Rattle.gather.specs.Points.{Spline, channels, channelsFrom, pointRows, startPoint, startValue, pointsFrom, metricOf, weightOf, blockAt, splineOf}
 use Rattle.gather.specs.Append.{Appended}
 use Rattle.gather.specs.Flat.{Sized, sized-cons, flat-row, flatten-append, length-flatten}

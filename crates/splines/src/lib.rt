@@ -1,10 +1,7 @@
 // The emission of a held spline: its rows, counted and written.
-use curves::Shape;
 use curves::runs::count_runs;
 use curves::runs::prepare;
 use curves::runs::write_runs;
-use curves::sizes::CONTROL_ROOM;
-use curves::sizes::KNOT_ROOM;
 use gather::channels::channels_of;
 use gather::metric::metric_of;
 use gather::points::points_of;
@@ -17,6 +14,9 @@ use rows::AXIS_CODES;
 use rows::ROW_WORDS;
 use slopes::sizes::MOST_POINTS;
 use spread::spread;
+use walks::Shape;
+use walks::sizes::CONTROL_ROOM;
+use walks::sizes::KNOT_ROOM;
 ghost use mathlib.Core.Path.{_≡_};
 ghost use mathlib.Core.List.{[]};
 ghost use Prim.Native.Nat.{ℕ, _*_, _-_, _≤_};
@@ -26,8 +26,8 @@ ghost use Rattle.rows.specs.Codes.{rowWords, geometricOf};
 ghost use Rattle.rows.specs.Row.{shown};
 ghost use Rattle.gather.specs.Points.{blockAt, splineOf};
 ghost use Rattle.places.specs.Puts.{Spreads, heldWords};
-ghost use Rattle.curves.specs.Walks.{knotRoom, controlRoom};
-ghost use Rattle.curves.specs.Runs.{curveRuns, encode};
+ghost use Rattle.walks.specs.Walks.{knotRoom, controlRoom, encode};
+ghost use Rattle.curves.specs.Runs.{curveRuns};
 ghost use Rattle.splines.specs.Emission.{splineGroups, putWithin};
 ghost use Rattle.splines.specs.Emits.{Holds, Gathered, Curved, Drawn, Recalled, Rooms, Planned, placesOf, layoutOf, mostOwn};
 

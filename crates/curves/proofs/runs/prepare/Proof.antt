@@ -1,28 +1,20 @@
-use mathlib.Core.Path.{_≡_, refl, sym, ap, _∙_}
+use mathlib.Core.Path.{refl, sym}
 use mathlib.Core.Bool.{true≢false, false≢true}
 use native.Mathlib.Omega.{arith}
 use borrow.Author.Tests.{eq-eqb, ne-eqb}
 use borrow.Author.Needs.{needs}
 use Rattle.curves.proofs.runs.prepare.Statement.{statement}
 use Rattle.curves.proofs.runs.prepare.Tie as tie
-use Rattle.curves.proofs.runs.prepare.Reads as reads
-use Rattle.curves.proofs.runs.prepare.Lts as lts
-use Rattle.basis.proofs.tables.prepare_basis.Reads as prepare-basis-reads
-use Rattle.curves.proofs.fitted.lay_fit.Reads as lay-fit-reads
 
--- src/runs.rt:41:13
 prepare-basis-requires : tie.Need-prepare-basis-requires
 prepare-basis-requires c κs = search needs
 
--- src/runs.rt:42:9
 same-length : tie.Need-same-length
 same-length c = search needs
 
--- src/runs.rt:42:9
 same-length-2 : tie.Need-same-length-2
 same-length-2 c = search needs
 
--- src/runs.rt:42:9
 returns : tie.Need-returns
 returns c = record {
   kind = sym (eq-eqb _ _ (c .before .before .before .before .before .before .before .if1 .taken));
@@ -39,19 +31,15 @@ returns c = record {
   fit = λ e. absurd (true≢false e);
 }
 
--- src/runs.rt:49:9
 lay-fit-requires : tie.Need-lay-fit-requires
 lay-fit-requires c κs = search needs
 
--- src/runs.rt:24:1
 same-length-3 : tie.Need-same-length-3
 same-length-3 c = search needs
 
--- src/runs.rt:24:1
 same-length-4 : tie.Need-same-length-4
 same-length-4 c = search needs
 
--- src/runs.rt:24:1
 returns-2 : tie.Need-returns-2
 returns-2 c = record {
   kind = sym (ne-eqb _ _ (c .before .before .before .before .before .before .before .if1 .left));
