@@ -3,7 +3,7 @@ use mathlib.Core.Path.{_≡_, refl, sym, ap, _∙_, fun-ext}
 use mathlib.Core.List.{List, [], _++_}
 use mathlib.Core.Bool.{Bool, true, false, cond}
 use mathlib.Core.Logic.{⊎-elim}
-use Prim.Native.Nat.{ℕ, zero, suc, _+_, _-_, _<_, _≤_}
+use Prim.Native.Nat.{ℕ, zero, suc, _+_, _-_, _*_, _<_, _≤_}
 use native.Mathlib.Omega.{arith}
 use lib.Dec.{ltb, eqb}
 use lib.ListN.{length, getD, take, drop}
@@ -51,8 +51,8 @@ module _ {motion degree n ch : ℕ} {ms : List ℕ} {pts ws : List Float} {s : S
   spline-tables e = record {
     narrow = rw (r .width) (r .narrow);
     few = rw (r .count) (r .few);
-    knots = r .knots;
-    controls = r .controls;
+    knots = rw (r .count) (r .knots);
+    controls = rw (r .count, r .width) (r .controls);
     spline = λ h. rw (r .count, r .width) (r .spline e .tables);
     fit = λ h. absurd (mathlib.Core.Bool.true≢false (sym e ∙ h));
   }
@@ -159,7 +159,7 @@ module _ {motion degree n ch : ℕ} {ms : List ℕ} {pts ws : List Float} {s : S
   unfolding encode flatten
   empty-written e h tol l = spliced-none l 0 ∙ ap (λ (z : List (List Float)). spliced l 0 (encode z)) (sym (ap flatten (empty-runs e h tol) ∙ none-flat (n - 1)))
 
-  held : s .basis ≡ false → 2 ≤ s .size → FitHeld theFit (fitTimes ks) (fitPoints cs) (fitSlopes cs) (s .size) ch
+  held : s .basis ≡ false → 2 ≤ s .size → FitHeld theFit (fitTimes n ks) (fitPoints (n * ch) cs) (fitSlopes (n * ch) cs) (s .size) ch
   held e h = r .fit e .fit .held h
 
   pub fit-segments : s .basis ≡ false → 2 ≤ s .size → Segments s ms pts ks cs
@@ -168,10 +168,10 @@ module _ {motion degree n ch : ℕ} {ms : List ℕ} {pts ws : List Float} {s : S
     tables = record {
       narrow = rw (r .width) (r .narrow);
       few = rw (r .count) (r .few);
-      knots = r .knots;
-      controls = r .controls;
+      knots = rw (r .count) (r .knots);
+      controls = rw (r .count, r .width) (r .controls);
       spline = λ g. absurd (mathlib.Core.Bool.true≢false (sym g ∙ e));
-      fit = λ g. rw (r .width) (held e h .room);
+      fit = λ g. rw (r .count, r .width) (held e h .room);
     };
     metric = rw (r .width) (r .metric);
     two = rw (r .count) (r .two);
@@ -181,8 +181,8 @@ module _ {motion degree n ch : ℕ} {ms : List ℕ} {pts ws : List Float} {s : S
   fit-eval : s .basis ≡ false → 2 ≤ s .size → evalOf s ks cs ≡ evalFit theFit
   unfolding pointAt
   fit-eval e h = fun-ext (λ t.
-      upto-same (pointAt s ks cs t) (fitAt (fitTimes ks) (fitPoints cs) (fitSlopes cs) (s .size) ch t) (λ c. rw (e, r .width)) (s .ch)
-      ∙ ap (upto (fitAt (fitTimes ks) (fitPoints cs) (fitSlopes cs) (s .size) ch t)) (r .width) ∙ sym (eval-is (held e h) t))
+      upto-same (pointAt s ks cs t) (fitAt (fitTimes n ks) (fitPoints (n * ch) cs) (fitSlopes (n * ch) cs) (s .size) ch t) (λ c. rw (e, r .count, r .width)) (s .ch)
+      ∙ ap (upto (fitAt (fitTimes n ks) (fitPoints (n * ch) cs) (fitSlopes (n * ch) cs) (s .size) ch t)) (r .width) ∙ sym (eval-is (held e h) t))
 
   fit-run : s .basis ≡ false → 2 ≤ s .size → (tol : Float) (i : ℕ) → i < n - 1 → fitRunAt s ms tol pts ks cs i ≡ fitRun theFit ms tol (rowsOf pts ch n) (chords (rowsOf pts ch n) ms) i
   unfolding fitRunAt fitRun

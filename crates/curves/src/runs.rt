@@ -11,7 +11,7 @@ ghost use Prim.Native.Nat.{ℕ, _≤_, _-_, _*_};
 ghost use lib.ListN.{length, getD, take};
 ghost use Rattle.floats.specs.Lists.{filled, flatten, rowsOf, spliced};
 ghost use Rattle.metric.specs.Below.{Below};
-ghost use Rattle.walks.specs.Walks.{knotRoom, controlRoom, encode};
+ghost use Rattle.walks.specs.Walks.{encode};
 ghost use Rattle.curves.specs.Ready.{Ready};
 ghost use Rattle.curves.specs.Runs.{curveRuns};
 ghost use Rattle.curves.specs.Lefts.{Remembers};
@@ -30,7 +30,7 @@ pub fn prepare(
 ) -> Shape
     requires { ⌜ (2 ≤ n) × ((n ≤ 257) × (ch ≤ 10)) ⌝ }
     requires { ⌜ Below (now ms) ch × ((n * ch ≤ length (now pts)) × (n ≤ length (now ws))) ⌝ }
-    requires { ⌜ (knotRoom ≤ length (now ks)) × (controlRoom ≤ length (now cs)) ⌝ }
+    requires { ⌜ (2 * n ≤ length (now ks)) × (20 * n ≤ length (now cs)) ⌝ }
     ensures { λ r. ⌜ Ready motion degree n ch (now (ms .entry)) (now (pts .entry)) (now (ws .entry)) r (now (ks .exit)) (now (cs .exit)) ⌝ }
 {
     if motion == 6 {

@@ -2,7 +2,7 @@
 use mathlib.Core.Path.{_≡_, sym, ap, _∙_}
 use mathlib.Core.List.{List, _++_}
 use mathlib.Core.Bool.{Bool, true, false}
-use Prim.Native.Nat.{ℕ, _+_, _-_, _≤_, _<_}
+use Prim.Native.Nat.{ℕ, _+_, _-_, _*_, _≤_, _<_}
 use native.Mathlib.Omega.{arith}
 use lib.ListN.{length, drop}
 use lib.Ieee.{Float}
@@ -21,7 +21,7 @@ module _ (s : Shape) (ks cs : List Float) (t : Float) (l : List Float) {r : List
   unfolding pointAt
   spline-point e h = h ∙ ap (λ (z : List Float). z ++ drop (s .ch) l) (upto-same _ _ (λ c. rw e) (s .ch))
 
-  pub fit-point : s .basis ≡ false → r ≡ filled (fitAt (fitTimes ks) (fitPoints cs) (fitSlopes cs) (s .size) (s .ch) t) (s .ch) l → r ≡ filled (pointAt s ks cs t) (s .ch) l
+  pub fit-point : s .basis ≡ false → r ≡ filled (fitAt (fitTimes (s .n) ks) (fitPoints (s .n * s .ch) cs) (fitSlopes (s .n * s .ch) cs) (s .size) (s .ch) t) (s .ch) l → r ≡ filled (pointAt s ks cs t) (s .ch) l
   unfolding pointAt
   fit-point e h = h ∙ ap (λ (z : List Float). z ++ drop (s .ch) l) (upto-same _ _ (λ c. rw e) (s .ch))
 

@@ -2,7 +2,7 @@
 use mathlib.Core.Path.{_≡_}
 use mathlib.Core.Bool.{true, false, cond}
 use mathlib.Core.List.{List, [], _∷_, map}
-use Prim.Native.Nat.{ℕ, _+_, _-_, _^_, _<_, _≤_}
+use Prim.Native.Nat.{ℕ, _+_, _-_, _*_, _^_, _<_, _≤_}
 use lib.ListN.{length, getD, take, drop, set}
 use lib.Ieee.{Float}
 use Rattle.floats.specs.Numbers.{bits}
@@ -13,25 +13,19 @@ use Rattle.fit.specs.Memory.{Prepared, fitAt}
 use Rattle.basis.specs.Tables.{Curve, curveAt, advanced}
 use Rattle.walks.specs.declared.Shape.{Shape}
 
--- what the tables take: the knots of a B-spline, or the chord sums and the times of a fit, 257 each; the control numbers of a B-spline, or the points and the slopes of a fit, 2570 each
-abbrev pub knotRoom : ℕ
-knotRoom = 514
+-- the tables of a fit of n points: n chord sums, then as many times; the w numbers of the points, then as many slopes
+abbrev pub fitTimes : ℕ → List Float → List Float
+fitTimes n ks = take (n + n - n) (drop n ks)
 
-abbrev pub controlRoom : ℕ
-controlRoom = 5140
+abbrev pub fitPoints : ℕ → List Float → List Float
+fitPoints w cs = take w cs
 
-abbrev pub fitTimes : List Float → List Float
-fitTimes ks = take (514 - 257) (drop 257 ks)
-
-abbrev pub fitPoints : List Float → List Float
-fitPoints cs = take (2570 - 0) (drop 0 cs)
-
-abbrev pub fitSlopes : List Float → List Float
-fitSlopes cs = take (5140 - 2570) (drop 2570 cs)
+abbrev pub fitSlopes : ℕ → List Float → List Float
+fitSlopes w cs = take (w + w - w) (drop w cs)
 
 -- channel c of the curve at t
 unfoldable pub pointAt : Shape → List Float → List Float → Float → ℕ → Float
-pointAt s ks cs t c = cond (s .basis) (curveAt ks cs (s .n) (s .size) (s .ch) t c) (fitAt (fitTimes ks) (fitPoints cs) (fitSlopes cs) (s .size) (s .ch) t c)
+pointAt s ks cs t c = cond (s .basis) (curveAt ks cs (s .n) (s .size) (s .ch) t c) (fitAt (fitTimes (s .n) ks) (fitPoints (s .n * s .ch) cs) (fitSlopes (s .n * s .ch) cs) (s .size) (s .ch) t c)
 
 abbrev pub evalOf : Shape → List Float → List Float → Float → List Float
 evalOf s ks cs t = upto (pointAt s ks cs t) (s .ch)
@@ -44,10 +38,10 @@ ownOf s ks o t = cond (s .basis) (advanced ks (s .size) t (s .n - 1 - o) o) o
 pub record Tables (s : Shape) (ks cs : List Float) : Type 0 where
   pub narrow : s .ch ≤ 10
   pub few : s .n ≤ 257
-  pub knots : knotRoom ≤ length ks
-  pub controls : controlRoom ≤ length cs
+  pub knots : 2 * s .n ≤ length ks
+  pub controls : 2 * (s .n * s .ch) ≤ length cs
   pub spline : s .basis ≡ true → Curve ks cs (s .n) (s .size) (s .ch)
-  pub fit : s .basis ≡ false → Prepared (fitTimes ks) (fitPoints cs) (fitSlopes cs) (s .size) (s .ch)
+  pub fit : s .basis ≡ false → Prepared (fitTimes (s .n) ks) (fitPoints (s .n * s .ch) cs) (fitSlopes (s .n * s .ch) cs) (s .size) (s .ch)
 
 -- what the owner's advance from o asks
 pub record Owners (s : Shape) (ks : List Float) (o : ℕ) : Type 0 where

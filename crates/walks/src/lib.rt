@@ -1,5 +1,4 @@
 // The halving of a stretch of a curve of either kind: its samples, counted by owner and written.
-pub mod sizes;
 pub mod walk;
 
 // A curve's tables, in short: a B-spline of degree `size`, or a fit of `size` kept points; n points of ch numbers.

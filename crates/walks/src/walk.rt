@@ -3,10 +3,6 @@
 use crate::Place;
 use crate::Reached;
 use crate::Shape;
-use crate::sizes::CONTROL_ROOM;
-use crate::sizes::FIT_SLOPES;
-use crate::sizes::FIT_TIMES;
-use crate::sizes::KNOT_ROOM;
 use metric::is_near;
 ghost use mathlib.Core.Path.{_≡_};
 ghost use mathlib.Core.List.{[], _∷_};
@@ -32,10 +28,13 @@ pub fn point_at(s: Shape, ks: &[f64], cs: &[f64], t: f64) -> [f64; 16]
     if basis {
         return basis::point::eval(ks, cs, n, size, ch, t);
     }
+    let times = n + n;
+    let points = n * ch;
+    let slopes = points + points;
     fit::eval_fit(
-        &ks[FIT_TIMES..KNOT_ROOM],
-        &cs[0..FIT_SLOPES],
-        &cs[FIT_SLOPES..CONTROL_ROOM],
+        &ks[n..times],
+        &cs[..points],
+        &cs[points..slopes],
         size,
         ch,
         t,

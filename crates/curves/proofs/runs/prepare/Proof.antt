@@ -2,6 +2,7 @@ use mathlib.Core.Path.{refl, sym}
 use mathlib.Core.Bool.{true≢false, false≢true}
 use native.Mathlib.Omega.{arith}
 use borrow.Author.Tests.{eq-eqb, ne-eqb}
+use Rattle.curves.proofs.Laying.{cells-in}
 use borrow.Author.Needs.{needs}
 use Rattle.curves.proofs.runs.prepare.Statement.{statement}
 use Rattle.curves.proofs.runs.prepare.Tie as tie
@@ -26,7 +27,7 @@ returns c = record {
   metric = (c .before .before .before .before .before .before .before .before .before .before .before .before .before .pre) .1 .0 .0;
   points = (c .before .before .before .before .before .before .before .before .before .before .before .before .before .pre) .1 .0 .1 .0;
   knots = omega (arith, (c .before .before .before .before .prepare-basis .kept .1 .1 .1 .1 .1 .0), (c .before .before .before .before .before .before .before .before .before .before .before .before .before .pre) .1 .1 .0);
-  controls = omega (arith, (c .before .before .before .before .prepare-basis .kept .1 .1 .1 .1 .1 .1 .0), (c .before .before .before .before .before .before .before .before .before .before .before .before .before .pre) .1 .1 .1);
+  controls = omega (arith, (c .before .before .before .before .prepare-basis .kept .1 .1 .1 .1 .1 .1 .0), (c .before .before .before .before .before .before .before .before .before .before .before .before .before .pre) .1 .1 .1, cells-in (c .before .before .before .before .before .before .before .before .before .before .before .before .before .args .n) (c .before .before .before .before .before .before .before .before .before .before .before .before .before .args .ch) ((c .before .before .before .before .before .before .before .before .before .before .before .before .before .pre) .0 .1 .1));
   spline = λ e. (c .before .before .before .before .prepare-basis .ensures);
   fit = λ e. absurd (true≢false e);
 }
@@ -51,7 +52,7 @@ returns-2 c = record {
   metric = (c .before .before .before .before .before .before .before .before .before .before .before .before .before .pre) .1 .0 .0;
   points = (c .before .before .before .before .before .before .before .before .before .before .before .before .before .pre) .1 .0 .1 .0;
   knots = omega (arith, (c .before .before .before .before .lay-fit .kept .1 .1 .1 .1 .1 .0), (c .before .before .before .before .before .before .before .before .before .before .before .before .before .pre) .1 .1 .0);
-  controls = omega (arith, (c .before .before .before .before .lay-fit .kept .1 .1 .1 .1 .1 .1 .0), (c .before .before .before .before .before .before .before .before .before .before .before .before .before .pre) .1 .1 .1);
+  controls = omega (arith, (c .before .before .before .before .lay-fit .kept .1 .1 .1 .1 .1 .1 .0), (c .before .before .before .before .before .before .before .before .before .before .before .before .before .pre) .1 .1 .1, cells-in (c .before .before .before .before .before .before .before .before .before .before .before .before .before .args .n) (c .before .before .before .before .before .before .before .before .before .before .before .before .before .args .ch) ((c .before .before .before .before .before .before .before .before .before .before .before .before .before .pre) .0 .1 .1));
   spline = λ e. absurd (false≢true e);
   fit = λ e. (c .before .before .before .before .lay-fit .ensures);
 }
