@@ -9,6 +9,7 @@ use csvout::headed;
 use csvout::next_line;
 use csvout::refuse;
 use csvout::stopped;
+use flattener::Reply;
 use lines::line_end;
 use lines::read_more;
 use lines::to_front;
@@ -133,6 +134,20 @@ fn turn(w: Window, run: Run, buf: &mut [u8], row: &mut [u64]) -> Window
     read_on(w, is_first, buf)
 }
 
+// The calls without what they promise, which the program does not need: proofs about their callers stay small.
+fn push(
+    state: &mut [u64; 44],
+    store: &mut [u64; 7424],
+    rows: &mut [u64; 7424],
+    row: &[u64; 29],
+) -> Reply {
+    flattener::call::flat_push(state, store, rows, row)
+}
+
+fn close(state: &mut [u64; 44], store: &[u64; 7424], rows: &mut [u64; 7424]) -> Reply {
+    flattener::call::flat_close(state, store, rows)
+}
+
 // A row, pushed.
 fn pushed(
     run: Run,
@@ -146,7 +161,7 @@ fn pushed(
     requires { ⌜ Roomy run ⌝ }
     ensures { λ r. ⌜ Waits r ⌝ }
 {
-    let reply = flattener::call::flat_push(state, store, rows, row);
+    let reply = push(state, store, rows, row);
     let read = Run {
         out: run.out,
         err: run.err,
@@ -169,7 +184,7 @@ fn closed(
     requires { ⌜ Roomy run ⌝ }
     ensures { λ r. ⌜ Waits r ⌝ }
 {
-    let reply = flattener::call::flat_close(state, store, rows);
+    let reply = close(state, store, rows);
     stopped(answered(run, reply.code, reply.count, reply.warning, rows, out, err))
 }
 

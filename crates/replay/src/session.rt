@@ -50,6 +50,11 @@ fn call_seed(state: &mut [u64], lent: usize, code: u64, bits: u64) -> Reply {
     flattener::seed::flat_seed(&mut state[..n], code, bits)
 }
 
+// The call without what it promises, which the program does not need: proofs about its callers stay small.
+fn push(state: &mut [u64], store: &mut [u64], rows: &mut [u64], row: &[u64]) -> Reply {
+    flattener::call::flat_push(state, store, rows, row)
+}
+
 fn call_push(
     state: &mut [u64],
     store: &mut [u64],
@@ -62,7 +67,7 @@ fn call_push(
     let m = part(lent.store, store);
     let k = part(lent.rows, rows);
     let w = part(count as usize, row);
-    flattener::call::flat_push(&mut state[..n], &mut store[..m], &mut rows[..k], &row[..w])
+    push(&mut state[..n], &mut store[..m], &mut rows[..k], &row[..w])
 }
 
 fn call_close(state: &mut [u64], store: &[u64], rows: &mut [u64], lent: Lent) -> Reply {
