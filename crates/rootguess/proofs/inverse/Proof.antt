@@ -1,12 +1,13 @@
+-- `rootguess::inverse` meets its contract. Assumes nothing.
 use Prim.Native.Nat.{ℕ, _-_, _*_, _/_, _%_, _^_, _<_}
 use native.Mathlib.Omega.{arith}
-use Rattle.root.proofs.Squares.{mul-lt-pow}
+use Rattle.rootguess.specs.Products.{mul-lt-pow}
 use borrow.Author.Needs.{needs}
-use Rattle.root.proofs.inverse.Statement.{statement}
-use Rattle.root.proofs.inverse.Tie as tie
-use Rattle.root.proofs.inverse.Reads as reads
-use Rattle.root.proofs.inverse.Lts as lts
-use Rattle.root.proofs.entry.Reads as entry-reads
+use Rattle.rootguess.proofs.inverse.Statement.{statement}
+use Rattle.rootguess.proofs.inverse.Tie as tie
+use Rattle.rootguess.proofs.inverse.Reads as reads
+use Rattle.rootguess.proofs.inverse.Lts as lts
+use Rattle.rootguess.proofs.entry.Reads as entry-reads
 
 -- how far the place in the piece is from the piece's end
 abbrev across : ℕ → ℕ
@@ -24,39 +25,30 @@ across-squared g = mul-lt-pow 22 22 (small g) (small g)
 bend : (t g : ℕ) → t % 0x800 * (across g * across g / 0x200) < 2 ^ 46
 bend t g = mul-lt-pow 11 35 (omega arith) (omega (arith, across-squared g))
 
--- src/lib.rt:313:19
 add-entry : tie.Need-add-entry
 add-entry c = search needs
 
--- src/lib.rt:561:9
 entry-requires : tie.Need-entry-requires
 entry-requires c κs = search needs
 
--- src/lib.rt:562:13
 sub-w : tie.Need-sub-w
 sub-w c = search needs
 
--- src/lib.rt:563:14
 mul-result : tie.Need-mul-result
 mul-result c = omega (arith, line (c .entry .result) (c .before .args .g))
 
--- src/lib.rt:563:6
 add-result : tie.Need-add-result
 add-result c = omega (arith, line (c .entry .result) (c .before .args .g))
 
--- src/lib.rt:563:51
 mul-result-2 : tie.Need-mul-result-2
 mul-result-2 c = omega (arith, across-squared (c .before .args .g))
 
--- src/lib.rt:563:38
 mul-result-3 : tie.Need-mul-result-3
 mul-result-3 c = omega (arith, bend (c .entry .result) (c .before .args .g))
 
--- src/lib.rt:563:6
 add-result-2 : tie.Need-add-result-2
 add-result-2 c = omega (arith, line (c .entry .result) (c .before .args .g), bend (c .entry .result) (c .before .args .g))
 
--- src/lib.rt:560:1
 returns : tie.Need-returns
 returns c = search needs
 

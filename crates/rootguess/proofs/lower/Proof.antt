@@ -1,12 +1,13 @@
+-- `rootguess::lower` meets its contract. Assumes nothing.
 use Prim.Native.Nat.{ℕ, _+_, _-_, _*_, _/_, _^_, _≤_, _<_}
 use native.Mathlib.Nat.{mul-le-mul}
 use native.Mathlib.Omega.{arith}
 use borrow.Author.Needs.{needs}
-use Rattle.root.proofs.lower.Statement.{statement}
-use Rattle.root.proofs.lower.Tie as tie
-use Rattle.root.proofs.lower.Reads as reads
-use Rattle.root.proofs.lower.Lts as lts
-use Rattle.root.proofs.inverse_scale.Reads as inverse-scale-reads
+use Rattle.rootguess.proofs.lower.Statement.{statement}
+use Rattle.rootguess.proofs.lower.Tie as tie
+use Rattle.rootguess.proofs.lower.Reads as reads
+use Rattle.rootguess.proofs.lower.Lts as lts
+use Rattle.rootguess.proofs.inverse_scale.Reads as inverse-scale-reads
 
 scaled : (y k : ℕ) → y < 2 ^ 31 → k ≤ 2 ^ 31 → y * k ≤ (2 ^ 31 - 1) * 2 ^ 31
 scaled y k h l =
@@ -19,24 +20,19 @@ product u y k h l s =
     let least : (y * k + 0x1_4000_0000) / 0x2_0000_0000 ≤ 2 ^ 29 = omega (arith, scaled y k l s) in
     mul-le-mul few least
 
--- src/lib.rt:343:15
 inverse-scale-requires : tie.Need-inverse-scale-requires
 inverse-scale-requires c κs = search needs
 
--- src/lib.rt:343:11
 mul-result : tie.Need-mul-result
 mul-result c = omega (arith, scaled (c .before .args .y) (c .inverse-scale .result) (c .before .pre .1) (c .inverse-scale .ensures))
 
--- src/lib.rt:343:11
 add-result : tie.Need-add-result
 add-result c = omega (arith, scaled (c .before .args .y) (c .inverse-scale .result) (c .before .pre .1) (c .inverse-scale .ensures))
 
--- src/lib.rt:343:5
 mul-result-2 : tie.Need-mul-result-2
 mul-result-2 c =
     omega (arith, product (c .before .args .u) (c .before .args .y) (c .inverse-scale .result) (c .before .pre .0) (c .before .pre .1) (c .inverse-scale .ensures))
 
--- src/lib.rt:338:1
 returns : tie.Need-returns
 returns c =
     omega (arith, product (c .before .args .u) (c .before .args .y) (c .inverse-scale .result) (c .before .pre .0) (c .before .pre .1) (c .inverse-scale .ensures))
