@@ -9,13 +9,12 @@ use crate::input::field;
 use crate::input::last_field;
 use crate::input::raw_words;
 use crate::input::unread;
+use crate::memory::MOST_ROOM;
 use crate::memory::ROW_WORDS;
 ghost use lib.ListN.{length};
 ghost use mathlib.Core.Path.{_≡_};
 
-// Docs/INTERFACE.md: "0 to 16384", "0 to 256", "0 to 64".
-const MOST_ROOM: u64 = 16384;
-
+// Docs/INTERFACE.md: "0 to 256", "0 to 64".
 const MOST_BLOCKS: u64 = 256;
 
 const MOST_LENGTH: u64 = 64;

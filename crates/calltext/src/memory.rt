@@ -6,6 +6,9 @@ ghost use mathlib.Core.Path.{_≡_};
 
 pub const ROW_WORDS: usize = 29;
 
+// The most rows that a call has room for, as docs/INTERFACE.md's "0 to 16384", and their words.
+pub const MOST_ROOM: u64 = 16384;
+
 pub const ROOM_WORDS: usize = 475136;
 
 // The lesser of a and b.
@@ -75,7 +78,7 @@ pub fn is_resting(rows: &[u64]) -> bool {
 
 // The words of n rows, of as many as are ever lent.
 pub fn row_words(n: u64) -> usize {
-    if n < 16384 {
+    if n < MOST_ROOM {
         return n as usize * ROW_WORDS;
     }
     ROOM_WORDS
