@@ -1,4 +1,2 @@
 pub mod Controls
-pub mod Mirrored
 pub mod Steps
-pub mod Straight

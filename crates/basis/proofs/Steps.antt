@@ -2,9 +2,9 @@
 use mathlib.Core.Path.{_≡_, refl, sym, ap, _∙_}
 use mathlib.Core.List.{List}
 use mathlib.Core.Bool.{true, false}
-use Prim.Native.Nat.{ℕ, zero, suc, _+_, _-_, _*_, _<_, _≤_, min}
+use Prim.Native.Nat.{ℕ, suc, _+_, _-_, _*_, _<_, _≤_, min}
 use native.Mathlib.Numerals.{add-one}
-use native.Mathlib.Nat.{le-trans, mul-le-mul-left, mul-le-mul-right}
+use native.Mathlib.Nat.{mul-le-mul-right}
 use native.Mathlib.Omega.{arith}
 use lib.Dec.{T, le→leb}
 use lib.IntN.{pos}
@@ -65,11 +65,7 @@ pub degree-in : (degree n : ℕ) {p : ℕ} → 2 ≤ n → p ≡ degreeOf n degr
 unfolding degreeOf
 degree-in degree n h e = omega arith
 
-pub product-in : (ch n len : ℕ) → ch ≤ 10 → n ≤ 257 → 2827 ≤ len → (ch + 1) * n ≤ len
-product-in ch n len h g l =
+pub product-in : (ch n len : ℕ) → ch ≤ 10 → 11 * n ≤ len → (ch + 1) * n ≤ len
+product-in ch n len h l =
     let a : (ch + 1) * n ≤ 11 * n = mul-le-mul-right n (omega arith) in
     omega arith
-
--- the work memory for degrees up to q
-pub cells-in : (ch p q : ℕ) → ch ≤ 10 → p ≤ q → (ch + 1) * (p + 1) ≤ 11 * (q + 1)
-cells-in ch p q h g = le-trans (mul-le-mul-right (p + 1) (omega arith)) (mul-le-mul-left 11 (omega arith))

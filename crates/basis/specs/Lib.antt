@@ -4,8 +4,6 @@ pub mod EndPoint
 pub mod Joins
 pub mod LastOwner
 pub mod LastRun
-pub mod Low
-pub mod Mirror
 pub mod RowLaws
 pub mod Spans
 pub mod TableLaws

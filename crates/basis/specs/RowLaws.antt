@@ -1,18 +1,18 @@
 -- A list as rows of w cells, of which a loop changes one after another. Assumes nothing.
-use mathlib.Core.Path.{_≡_, refl, sym, ap, _∙_, subst}
-use mathlib.Core.List.{List, [], _∷_, _++_, append-assoc, append-nil}
-use mathlib.Core.Logic.{_⊎_, inl, inr, ⊎-elim}
-use Prim.Native.Nat.{ℕ, zero, suc, _+_, _*_, _-_, _<_, _≤_}
+use mathlib.Core.Path.{_≡_, refl, sym, ap, _∙_}
+use mathlib.Core.List.{List, _++_, append-assoc}
+use mathlib.Core.Logic.{_⊎_, ⊎-elim}
+use Prim.Native.Nat.{ℕ, suc, _+_, _*_, _-_, _<_, _≤_}
 use native.Mathlib.Numerals.{add-one}
-use native.Mathlib.Nat.{add-comm, suc-mul, mul-le-mul-right, le-trans, eq-or-lt-of-le, zero-mul}
+use native.Mathlib.Nat.{suc-mul, mul-le-mul-right, le-trans, eq-or-lt-of-le}
 use native.Mathlib.Omega.{arith}
-use lib.ListN.{length, getD, take, drop, length-append, length-drop, List·getD-append}
-use lib.Seq.{drop-drop, take-take, ext-getD, getD-take, getD-drop, getD-append-add, length-take-le, take-at, drop-at}
+use lib.ListN.{length, take, drop, length-append, length-drop, List·getD-append}
+use lib.Seq.{ext-getD, getD-take, getD-drop, getD-append-add, length-take-le, take-at, drop-at}
 use lib.Ieee.{Float, nan}
 use borrow.Rule.Slice.PartMut.{putMid, postOf, post-is}
-use Rattle.floats.specs.Numbers.{_⊘_, at}
-use Rattle.floats.specs.Lists.{upto, filled, row}
-use Rattle.floats.specs.Fill.{length-upto, at-upto, lt-or-le, length-filled, at-filled}
+use Rattle.floats.specs.Numbers.{at}
+use Rattle.floats.specs.Lists.{filled, row}
+use Rattle.floats.specs.Fill.{length-filled, at-filled}
 use Rattle.basis.specs.Tables.{Rows}
 
 pub copied : (src dst : List Float) {i : ℕ} {xs : List Float} → length src ≡ length dst → i ≡ length dst → xs ≡ filled (at src) i dst → xs ≡ src
@@ -77,7 +77,7 @@ row-ext xs ys w m i h l n e =
     let b : length (row xs w i) ≡ w = length-row xs w m i h l in
     ext-getD nan (row ys w i) (row xs w i) (a ∙ sym b) (λ k g. at-row ys w i k (omega arith) ∙ e k (omega arith) ∙ sym (at-row xs w i k (omega arith)))
 
-row-order : (i c w k : ℕ) → i < c → k < w → i * w + k < c * w
+pub row-order : (i c w k : ℕ) → i < c → k < w → i * w + k < c * w
 row-order i c w k h g =
     let e : suc i * w ≤ c * w = mul-le-mul-right w h in
     let f : suc i * w ≡ i * w + w = suc-mul i w in
@@ -106,9 +106,6 @@ rowing-more {l} {xs} {w} {m} {c} {a} {f} ys r h fit ea n e =
         let s : suc c * w ≤ i * w = mul-le-mul-right w g in
         let t : suc c * w ≡ c * w + w = suc-mul c w in
         omega arith
-
-pub rowing-end : {l xs : List Float} {w m : ℕ} {f : ℕ → List Float} → Rowing l xs w m m f → Rows xs w m f
-rowing-end r = record { is = r .done }
 
 -- ---- a row lent as a part of the slice, and back
 
@@ -155,17 +152,3 @@ source c m n from w s len h l g e = let x : c * n + n ≤ len = within c m n (c 
 
 pub next-source : (c n from s : ℕ) → s ≡ c * n + from → s + n ≡ (c + 1) * n + from
 next-source c n from s e = let z : (c + 1) * n ≡ c * n + n = rw (add-one, suc-mul) in omega arith
-
-pub part-window : (xs : List Float) (c n from w s : ℕ) → from + w ≤ n → s ≡ c * n + from → part xs s w ≡ take w (drop from (row xs n c))
-part-window xs c n from w s g e =
-    let k : s + w - s ≡ w = omega arith in
-    ap (λ (z : ℕ). take z (drop s xs)) k
-    ∙ ap (λ (z : ℕ). take w (drop z xs)) e
-    ∙ ap (take w) (sym (drop-drop from (c * n) xs))
-    ∙ sym (windowed from n w (drop (c * n) xs) g)
-  where
-    windowed : (from n w : ℕ) (ys : List Float) → from + w ≤ n → take w (drop from (take n ys)) ≡ take w (drop from ys)
-    windowed zero n w ys h = take-take w n ys (omega arith)
-    windowed (suc from) zero w ys h = absurd (omega arith)
-    windowed (suc from) (suc n) w [] h = refl
-    windowed (suc from) (suc n) w (y ∷ ys) h = windowed from n w ys (omega arith)

@@ -11,13 +11,6 @@ use Rattle.floats.specs.Lists.{upto, row, Agrees}
 use Rattle.whole.specs.Whole.{truncCount}
 use Rattle.basis.specs.Basis.{degreeOf, knots, levels, knotSum}
 
--- the cells that the tables of the largest curve take: 257 control points of degree 256, 10 channels and the weights
-abbrev pub knotRoom : ℕ
-knotRoom = 514
-
-abbrev pub controlRoom : ℕ
-controlRoom = 2827
-
 -- number i of channel c, weighted; channel ch has the weights
 unfoldable pub controlAt : List Float → List Float → ℕ → ℕ → ℕ → Float
 controlAt pts ws ch c i = cond (ltb c ch) (at pts (i * ch + c) ⊗ at ws i) (at ws i)

@@ -1,5 +1,2 @@
-pub mod boor;
-pub mod low;
 pub mod owner;
-pub mod point;
 pub mod tables;

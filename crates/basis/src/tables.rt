@@ -5,12 +5,7 @@ ghost use lib.ListN.{length};
 ghost use Rattle.floats.specs.Numbers.{ofNat};
 ghost use Rattle.floats.specs.Lists.{upto, filled};
 ghost use Rattle.basis.specs.Basis.{degreeOf};
-ghost use Rattle.basis.specs.Tables.{knotRoom, controlRoom, controlAt, Rows, BasisIs};
-
-// The knots and the control numbers of 257 control points of degree 256 and 10 channels.
-pub const KNOT_ROOM: usize = 514;
-
-pub const CONTROL_ROOM: usize = 2827;
+ghost use Rattle.basis.specs.Tables.{controlAt, Rows, BasisIs};
 
 // The degree that n points support.
 fn degree_of(degree: usize, n: usize) -> usize
@@ -104,7 +99,7 @@ pub fn prepare_basis(
 ) -> usize
     requires { ⌜ (2 ≤ n) × ((n ≤ 257) × (ch ≤ 10)) ⌝ }
     requires { ⌜ (n * ch ≤ length (now pts)) × (n ≤ length (now ws)) ⌝ }
-    requires { ⌜ (knotRoom ≤ length (now ks)) × (controlRoom ≤ length (now cw)) ⌝ }
+    requires { ⌜ (2 * n ≤ length (now ks)) × (11 * n ≤ length (now cw)) ⌝ }
     ensures { λ r. ⌜ BasisIs degree n ch (now (pts .entry)) (now (ws .entry)) r (now (ks .exit)) (now (cw .exit)) ⌝ }
 {
     let p = degree_of(degree, n);

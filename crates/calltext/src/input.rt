@@ -1,4 +1,4 @@
-// Lines of a buffer, and the fields of a line.
+// The fields of a line.
 ghost use Prim.Native.Nat.{_+_, _-_, _<_, _≤_};
 ghost use lib.ListN.{length};
 ghost use mathlib.Core.Path.{_≡_};
@@ -6,35 +6,6 @@ ghost use mathlib.Core.Path.{_≡_};
 pub const DECIMAL: u64 = 10;
 
 pub const HEX: u64 = 16;
-
-// The place after the first LF of buf at or after `from` and below `to`, or `to` + 1 where there is none.
-pub fn line_end(buf: &[u8], from: usize, to: usize) -> usize
-    requires { ⌜ (from ≤ to) × (to ≤ length (now buf)) ⌝ }
-    ensures { λ r. ⌜ (from < r) × (r ≤ to + 1) ⌝ }
-{
-    let mut i = from;
-    while i < to {
-        if buf[i] == b'\n' {
-            return i + 1;
-        }
-        i += 1;
-    }
-    to + 1
-}
-
-// Moves the bytes from `from` up to `to` to the front of buf, and answers how many there are.
-pub fn to_front(buf: &mut [u8], from: usize, to: usize) -> usize
-    requires { ⌜ (from ≤ to) × (to ≤ length (now buf)) ⌝ }
-    ensures { λ r. ⌜ (r ≡ to - from) × (length (now (buf .exit)) ≡ length (now (buf .entry))) ⌝ }
-{
-    let n = to - from;
-    let mut i = 0;
-    while i < n {
-        buf[i] = buf[from + i];
-        i += 1;
-    }
-    n
-}
 
 // What was read of a line: its number, and the place behind it. A field's is behind its blank; the line's end
 // counts as a blank, so that a whole line ends at its length + 1.

@@ -1,7 +1,13 @@
 // Answers, put into a buffer from a place on; what does not fit is left out, and the callers flush in time.
+use crate::memory::ROW_WORDS;
+use crate::memory::least;
+use libc::STDOUT_FILENO;
 ghost use Prim.Native.Nat.{_≤_, _<_, _+_};
 ghost use lib.ListN.{length};
 ghost use mathlib.Core.Path.{_≡_};
+
+// The output is flushed once it passes this place: the longest line fits behind it.
+const FLUSH_AT: usize = 32768;
 
 pub fn put_byte(out: &mut [u8], at: usize, b: u8) -> usize
     ensures { λ _. ⌜ length (now (out .exit)) ≡ length (now (out .entry)) ⌝ }
@@ -113,4 +119,35 @@ pub fn put_line_numbers(out: &mut [u8], at: usize, word: &[u8], n: u64, m: u64) 
     let mid = put_number(out, to, n);
     let end = put_number(out, mid, m);
     put_byte(out, end, b'\n')
+}
+
+pub fn flush(out: &[u8], at: usize) {
+    let n = least(at, out.len());
+    io::write_all(STDOUT_FILENO, &out[..n]);
+}
+
+pub fn flushed(out: &[u8], at: usize) -> usize {
+    if at < FLUSH_AT {
+        return at;
+    }
+    flush(out, at);
+    0
+}
+
+// The first `count` rows, a line each.
+pub fn put_rows(rows: &[u64], count: u64, out: &mut [u8], at: usize) -> usize {
+    let mut to = at;
+    let mut w = 0;
+    let mut left = count;
+    while left > 0 {
+        if rows.len() - w < ROW_WORDS {
+            return to;
+        }
+        let e = w + ROW_WORDS;
+        let from = flushed(out, to);
+        to = put_row_line(out, from, &rows[w..e]);
+        w = e;
+        left -= 1;
+    }
+    to
 }

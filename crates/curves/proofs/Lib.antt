@@ -1,10 +1,7 @@
-pub mod Walking
-pub mod Counting
-pub mod Writing
-pub mod Remembering
-pub mod Stopping
+pub mod Joining
 pub mod Spanning
 pub mod Segmenting
+pub mod Hinting
 pub mod Owning
 pub mod Running
 pub mod Recalling

@@ -1,11 +1,11 @@
 -- What a whole B-spline's samples leave in the counts: for each control point after the start, the length of its run. Assumes nothing.
-use mathlib.Core.Path.{_≡_, refl, sym, ap, _∙_}
+use mathlib.Core.Path.{_≡_, refl, ap, _∙_}
 use mathlib.Core.List.{List, [], _∷_}
 use mathlib.Core.Bool.{Bool, true, false}
-use Prim.Native.Nat.{ℕ, zero, suc, _+_, _-_, _<_, _≤_}
+use Prim.Native.Nat.{ℕ, suc, _+_, _-_, _<_, _≤_}
 use native.Mathlib.Omega.{arith}
 use lib.Dec.{eqb}
-use lib.ListN.{length, getD, set, length-set, length-map}
+use lib.ListN.{length, getD, length-set}
 use lib.Seq.{getD-set-same, getD-set-other}
 use lib.Ieee.{Float}
 use borrow.Author.Tests.{eqb-true, eqb-false, eq-eqb, ne-eqb}
@@ -14,7 +14,7 @@ use Rattle.metric.specs.Walk.{Sample}
 use Rattle.basis.specs.Joins.{keep-here, keep-not}
 use Rattle.basis.specs.Basis.{Bspline, ownerFrom, Owned, owned, runOf}
 use Rattle.basis.specs.BasisLaws.{owner-in}
-use Rattle.curves.specs.Walks.{bumped, counted}
+use Rattle.walks.specs.Walks.{bumped, counted}
 
 abbrev pub ownFrom : Bspline → ℕ → Float → ℕ
 ownFrom b o t = ownerFrom b t (length (b .points) - 1 - o) o

@@ -7,10 +7,11 @@ use native.Mathlib.Omega.{arith}
 use lib.Seq.{sets}
 use lib.Ieee.{Float}
 use borrow.Author.Tests.{lt-ltb, le-ltb}
-use Rattle.curves.specs.declared.Shape.{Shape}
-use Rattle.curves.specs.Walks.{evalOf}
-use Rattle.curves.specs.Lefts.{spanLefts, fitLefts, joined, curveLefts, Recalls, Remembers}
-use Rattle.curves.proofs.Remembering.{stored-recalls, recalls-as}
+use Rattle.walks.specs.declared.Shape.{Shape}
+use Rattle.walks.specs.Walks.{evalOf}
+use Rattle.walks.specs.Lefts.{Recalls}
+use Rattle.walks.specs.Remembering.{stored-recalls, recalls-as}
+use Rattle.curves.specs.Lefts.{spanLefts, fitLefts, joined, curveLefts, Remembers}
 
 module _ (s : Shape) (ms : List ℕ) (tol : Float) (pts ks cs : List Float) where
   spline-lefts : s .basis ≡ true → curveLefts s ms tol pts ks cs ≡ joined (spanLefts (evalOf s ks cs) ms tol) (s .n - s .size)

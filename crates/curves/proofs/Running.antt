@@ -1,6 +1,6 @@
 -- The runs of a prepared curve, as the walks over its tables give them. Assumes nothing.
 use mathlib.Core.Path.{_≡_, refl, sym, ap, _∙_, fun-ext}
-use mathlib.Core.List.{List, [], _∷_, _++_, map}
+use mathlib.Core.List.{List, [], _++_}
 use mathlib.Core.Bool.{Bool, true, false, cond}
 use mathlib.Core.Logic.{⊎-elim}
 use Prim.Native.Nat.{ℕ, zero, suc, _+_, _-_, _*_, _<_, _≤_}
@@ -8,14 +8,13 @@ use native.Mathlib.Omega.{arith}
 use lib.Dec.{ltb, eqb}
 use lib.ListN.{length, getD, take, drop}
 use lib.Seq.{ext-getD, drop-at}
-use lib.Ieee.{Float, le}
+use lib.Ieee.{Float}
 use borrow.Author.Tests.{lt-ltb, le-ltb}
-use Rattle.floats.specs.Numbers.{_⊖_, 1e-12, at}
-use Rattle.floats.specs.Lists.{upto, filled, flatten, row, rowsOf, spliced}
+use Rattle.floats.specs.Lists.{upto, filled, flatten, rowsOf, spliced}
 use Rattle.floats.specs.Fill.{length-upto, at-upto, upto-same, upto-below, length-filled, at-filled, past-filled, lt-or-le}
 use Rattle.floats.specs.Splice.{spliced-none}
-use Rattle.metric.specs.Metric.{pointOf, chords}
-use Rattle.metric.specs.Walk.{Sample, samples}
+use Rattle.metric.specs.Metric.{chords}
+use Rattle.metric.specs.Walk.{Sample}
 use Rattle.metric.specs.Points.{length-rows, point-rows}
 use Rattle.fit.specs.Fit.{Fit, keptTo, fitOf, evalFit, fitRun, fitRuns}
 use Rattle.fit.specs.Memory.{FitHeld, fitAt, eval-is}
@@ -23,11 +22,12 @@ use Rattle.basis.specs.Basis.{Bspline, basisOf, evalBasis, basisSamples, ownerF
 use Rattle.basis.specs.BasisLaws.{runs-join, run-at}
 use Rattle.basis.specs.Tables.{curveAt, advanced}
 use Rattle.basis.specs.TableLaws.{curve-is, owner-is, points-are, spans-are}
-use Rattle.curves.specs.declared.Shape.{Shape}
-use Rattle.curves.specs.Runs.{curveRuns, encode}
-use Rattle.curves.specs.Walks.{fitTimes, fitPoints, fitSlopes, pointAt, evalOf, ownOf, Tables, Segments, splineSamples, fitRunAt, counted, Fresh, pointsOf}
+use Rattle.walks.specs.declared.Shape.{Shape}
+use Rattle.walks.specs.Walks.{encode, fitTimes, fitPoints, fitSlopes, pointAt, evalOf, ownOf, Tables, counted, pointsOf}
+use Rattle.walks.specs.Counting.{counted-length}
+use Rattle.curves.specs.Runs.{curveRuns}
+use Rattle.curves.specs.Stretches.{Segments, splineSamples, fitRunAt, Fresh}
 use Rattle.curves.specs.Ready.{Ready}
-use Rattle.curves.proofs.Counting.{counted-length}
 use Rattle.curves.proofs.Owning.{ownFrom, count-owned, count-past}
 
 -- ---- counts that start from 0
@@ -51,8 +51,8 @@ module _ {motion degree n ch : ℕ} {ms : List ℕ} {pts ws : List Float} {s : S
   spline-tables e = record {
     narrow = rw (r .width) (r .narrow);
     few = rw (r .count) (r .few);
-    knots = r .knots;
-    controls = r .controls;
+    knots = rw (r .count) (r .knots);
+    controls = rw (r .count, r .width) (r .controls);
     spline = λ h. rw (r .count, r .width) (r .spline e .tables);
     fit = λ h. absurd (mathlib.Core.Bool.true≢false (sym e ∙ h));
   }
@@ -159,7 +159,7 @@ module _ {motion degree n ch : ℕ} {ms : List ℕ} {pts ws : List Float} {s : S
   unfolding encode flatten
   empty-written e h tol l = spliced-none l 0 ∙ ap (λ (z : List (List Float)). spliced l 0 (encode z)) (sym (ap flatten (empty-runs e h tol) ∙ none-flat (n - 1)))
 
-  held : s .basis ≡ false → 2 ≤ s .size → FitHeld theFit (fitTimes ks) (fitPoints cs) (fitSlopes cs) (s .size) ch
+  held : s .basis ≡ false → 2 ≤ s .size → FitHeld theFit (fitTimes n ks) (fitPoints (n * ch) cs) (fitSlopes (n * ch) cs) (s .size) ch
   held e h = r .fit e .fit .held h
 
   pub fit-segments : s .basis ≡ false → 2 ≤ s .size → Segments s ms pts ks cs
@@ -168,10 +168,10 @@ module _ {motion degree n ch : ℕ} {ms : List ℕ} {pts ws : List Float} {s : S
     tables = record {
       narrow = rw (r .width) (r .narrow);
       few = rw (r .count) (r .few);
-      knots = r .knots;
-      controls = r .controls;
+      knots = rw (r .count) (r .knots);
+      controls = rw (r .count, r .width) (r .controls);
       spline = λ g. absurd (mathlib.Core.Bool.true≢false (sym g ∙ e));
-      fit = λ g. rw (r .width) (held e h .room);
+      fit = λ g. rw (r .count, r .width) (held e h .room);
     };
     metric = rw (r .width) (r .metric);
     two = rw (r .count) (r .two);
@@ -181,8 +181,8 @@ module _ {motion degree n ch : ℕ} {ms : List ℕ} {pts ws : List Float} {s : S
   fit-eval : s .basis ≡ false → 2 ≤ s .size → evalOf s ks cs ≡ evalFit theFit
   unfolding pointAt
   fit-eval e h = fun-ext (λ t.
-      upto-same (pointAt s ks cs t) (fitAt (fitTimes ks) (fitPoints cs) (fitSlopes cs) (s .size) ch t) (λ c. rw (e, r .width)) (s .ch)
-      ∙ ap (upto (fitAt (fitTimes ks) (fitPoints cs) (fitSlopes cs) (s .size) ch t)) (r .width) ∙ sym (eval-is (held e h) t))
+      upto-same (pointAt s ks cs t) (fitAt (fitTimes n ks) (fitPoints (n * ch) cs) (fitSlopes (n * ch) cs) (s .size) ch t) (λ c. rw (e, r .count, r .width)) (s .ch)
+      ∙ ap (upto (fitAt (fitTimes n ks) (fitPoints (n * ch) cs) (fitSlopes (n * ch) cs) (s .size) ch t)) (r .width) ∙ sym (eval-is (held e h) t))
 
   fit-run : s .basis ≡ false → 2 ≤ s .size → (tol : Float) (i : ℕ) → i < n - 1 → fitRunAt s ms tol pts ks cs i ≡ fitRun theFit ms tol (rowsOf pts ch n) (chords (rowsOf pts ch n) ms) i
   unfolding fitRunAt fitRun

@@ -17,12 +17,14 @@ use Rattle.metric.specs.Walk.{Sample, samples}
 use Rattle.metric.specs.WalkLaws.{samples-le}
 use Rattle.metric.specs.Points.{row-fits}
 use Rattle.basis.specs.RowLaws.{part, length-part, part-row}
-use Rattle.curves.specs.declared.Shape.{Shape}
-use Rattle.curves.specs.Runs.{encode}
-use Rattle.curves.specs.Walks.{evalOf, ownOf, bumped, counted, Stretch, Segments, fitRunAt, Counted, Counts, Fresh, FreshAt, pointsOf, Written}
-use Rattle.curves.specs.Lefts.{leftsOf, fitLefts}
-use Rattle.curves.proofs.Writing.{encode-append, written-none, written-two, room-second}
-use Rattle.curves.proofs.Remembering.{lefts-led, flat-more}
+use Rattle.walks.specs.declared.Shape.{Shape}
+use Rattle.walks.specs.Walks.{encode, evalOf, ownOf, bumped, counted, Stretch, Counted, Counts, pointsOf, Written}
+use Rattle.walks.specs.Lefts.{leftsOf}
+use Rattle.walks.specs.Writing.{encode-append, written-none, written-two, room-second}
+use Rattle.walks.specs.Remembering.{lefts-led}
+use Rattle.curves.specs.Stretches.{Segments, fitRunAt, Fresh, FreshAt}
+use Rattle.curves.specs.Lefts.{fitLefts}
+use Rattle.curves.proofs.Joining.{flat-more}
 
 -- ---- places: the points of a stretch in the list of points
 

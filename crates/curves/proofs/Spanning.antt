@@ -16,13 +16,14 @@ use Rattle.metric.specs.Below.{Below}
 use Rattle.metric.specs.Walk.{Sample, samples}
 use Rattle.metric.specs.WalkLaws.{samples-le}
 use Rattle.basis.specs.Joins.{flatten-snoc, map-append}
-use Rattle.curves.specs.declared.Shape.{Shape}
-use Rattle.curves.specs.Runs.{encode}
-use Rattle.curves.specs.Walks.{pointAt, ownOf, endOwner, counted, Tables, Stretch, splineSamples, Counted, Counts, Fresh, pointsOf, Written}
-use Rattle.curves.proofs.Counting.{counted-two, counted-le, counted-length, end-in}
-use Rattle.curves.specs.Lefts.{leftsOf, spanLefts}
-use Rattle.curves.proofs.Remembering.{lefts-led}
-use Rattle.curves.proofs.Writing.{encode-append, written-none, written-two, room-second}
+use Rattle.walks.specs.declared.Shape.{Shape}
+use Rattle.walks.specs.Walks.{encode, pointAt, ownOf, endOwner, counted, Tables, Stretch, Counted, Counts, pointsOf, Written}
+use Rattle.walks.specs.Counting.{counted-two, counted-le, counted-length, end-in}
+use Rattle.walks.specs.Lefts.{leftsOf}
+use Rattle.walks.specs.Remembering.{lefts-led}
+use Rattle.walks.specs.Writing.{encode-append, written-none, written-two, room-second}
+use Rattle.curves.specs.Stretches.{splineSamples, Fresh}
+use Rattle.curves.specs.Lefts.{spanLefts}
 
 pub zero-time : f0 ≡ ofNat 0
 unfolding Ieee.ofBits Ieee.ofInt

@@ -1,26 +1,14 @@
--- What the counting walk remembers for the writing walk: for each sample, in order, how many halvings were left where its stretch was found flat. Assumes nothing.
-use mathlib.Core.Path.{_≡_}
+-- What the count of a whole curve remembers for its writing. Assumes nothing.
 use mathlib.Core.Bool.{cond}
-use mathlib.Core.List.{List, [], _∷_, _++_}
-use Prim.Native.Nat.{ℕ, zero, suc, _+_, _-_, _^_, _<_, _≤_}
+use mathlib.Core.List.{List, [], _∷_}
+use Prim.Native.Nat.{ℕ, _+_, _-_}
 use lib.Dec.{ltb}
-use lib.ListN.{length, getD}
-use lib.Seq.{sets}
 use lib.Ieee.{Float, le}
 use Rattle.floats.specs.Numbers.{_⊖_, ofNat, 1e-12, at}
 use Rattle.floats.specs.Lists.{upto, flatten, row}
-use Rattle.metric.specs.Walk.{flat, middle}
-use Rattle.curves.specs.declared.Shape.{Shape}
-use Rattle.curves.specs.Walks.{evalOf}
-
--- beside `samples`, by the same recursion
-unfoldable pub leftsOf : (Float → List Float) → List ℕ → Float → ℕ → Float → List Float → Float → List Float → List ℕ
-leftsOf eval ms tol zero t0 p0 t1 p1 = 0 ∷ []
-leftsOf eval ms tol (suc left) t0 p0 t1 p1 =
-    let tm = middle t0 t1 in
-    let pm = eval tm in
-    let halves = leftsOf eval ms tol left t0 p0 tm pm ++ leftsOf eval ms tol left tm pm t1 p1 in
-    cond (flat eval ms tol t0 p0 t1 p1 pm) (suc left ∷ []) halves
+use Rattle.walks.specs.declared.Shape.{Shape}
+use Rattle.walks.specs.Walks.{evalOf}
+use Rattle.walks.specs.Lefts.{leftsOf, Recalls}
 
 -- of knot span j of a B-spline
 unfoldable pub spanLefts : (Float → List Float) → List ℕ → Float → ℕ → List ℕ
@@ -42,21 +30,6 @@ curveLefts s ms tol pts ks cs =
     let stretches = joined (fitLefts s ms tol pts ks cs) (s .n - 1) in
     cond (s .basis) spans (cond (ltb (s .size) 2) [] stretches)
 
--- the memory l has the list xs from c on, as far as it reaches
-pub record Recalls (l : List ℕ) (c : ℕ) (xs : List ℕ) : Type 0 where
-  pub is : (i : ℕ) → i < length xs → c + i < length l → getD l (c + i) 0 ≡ getD xs i 0
-
 -- the memory is of the whole curve
 pub record Remembers (s : Shape) (ms : List ℕ) (tol : Float) (pts ks cs : List Float) (lefts : List ℕ) : Type 0 where
   pub all : Recalls lefts 0 (curveLefts s ms tol pts ks cs)
-
--- ---- remembering: the list xs stored over l from c on, as far as l reaches, and the cursor after it
-
-pub record Stored (l : List ℕ) (c : ℕ) (xs : List ℕ) (r : ℕ) (ys : List ℕ) : Type 0 where
-  pub end : r ≡ c + length xs
-  pub is : ys ≡ sets l c xs
-
--- what a walk asks of its cursor: room for the samples of `left` more halvings
-pub record Cursor (c left : ℕ) : Type 0 where
-  pub low : left ≤ 20
-  pub room : c + 2 ^ left ≤ 2 ^ 60

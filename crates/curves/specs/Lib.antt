@@ -1,4 +1,4 @@
 pub mod Ready
 pub mod Runs
-pub mod Walks
+pub mod Stretches
 pub mod Lefts

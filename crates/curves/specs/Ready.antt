@@ -12,13 +12,13 @@ use Rattle.metric.specs.Below.{Below}
 use Rattle.metric.specs.Metric.{chords}
 use Rattle.fit.specs.Prepare.{FitReady}
 use Rattle.basis.specs.Tables.{BasisIs}
-use Rattle.curves.specs.declared.Shape.{Shape}
-use Rattle.curves.specs.Walks.{knotRoom, controlRoom, fitTimes, fitPoints, fitSlopes}
+use Rattle.walks.specs.declared.Shape.{Shape}
+use Rattle.walks.specs.Walks.{fitTimes, fitPoints, fitSlopes}
 
 -- the tables of a fit: the chord sums of the n points first, then the fit
 pub record Fitted (cubic : Bool) (n ch : ℕ) (ms : List ℕ) (pts : List Float) (m : ℕ) (ks cs : List Float) : Type 0 where
   pub sums : (i : ℕ) → i < n → at ks i ≡ at (chords (rowsOf pts ch n) ms) i
-  pub fit : FitReady cubic (rowsOf pts ch n) (chords (rowsOf pts ch n) ms) n ch (fitTimes ks) (fitPoints cs) (fitSlopes cs) m
+  pub fit : FitReady cubic (rowsOf pts ch n) (chords (rowsOf pts ch n) ms) n ch (fitTimes n ks) (fitPoints (n * ch) cs) (fitSlopes (n * ch) cs) m
 
 -- the shape and the tables are those of the n points pts, of ch numbers each, under a motion and a degree
 pub record Ready (motion degree n ch : ℕ) (ms : List ℕ) (pts ws : List Float) (s : Shape) (ks cs : List Float) : Type 0 where
@@ -30,7 +30,7 @@ pub record Ready (motion degree n ch : ℕ) (ms : List ℕ) (pts ws : List Float
   pub narrow : ch ≤ 10
   pub metric : Below ms ch
   pub points : n * ch ≤ length pts
-  pub knots : knotRoom ≤ length ks
-  pub controls : controlRoom ≤ length cs
+  pub knots : 2 * n ≤ length ks
+  pub controls : 2 * (n * ch) ≤ length cs
   pub spline : s .basis ≡ true → BasisIs degree n ch pts ws (s .size) ks cs
   pub fit : s .basis ≡ false → Fitted (eqb motion 7) n ch ms pts (s .size) ks cs

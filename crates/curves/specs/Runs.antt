@@ -1,11 +1,9 @@
 -- Document 01, "Spline": the run of points of each block with a point, of each kind of spline. Assumes nothing.
 use Prim.Native.Nat.{ℕ}
 use mathlib.Core.Bool.{cond}
-use mathlib.Core.List.{List, map}
+use mathlib.Core.List.{List}
 use lib.Dec.{eqb}
 use lib.Ieee.{Float}
-use Rattle.floats.specs.Numbers.{bits}
-use Rattle.floats.specs.Lists.{flatten}
 use Rattle.fit.specs.Fit.{fitRuns}
 use Rattle.basis.specs.Basis.{basisRuns}
 
@@ -15,7 +13,3 @@ curveRuns motion sd ms tol pts ws =
     let bas = basisRuns sd ms tol pts ws in
     let fit = fitRuns (eqb motion 7) ms tol pts in
     cond (eqb motion 6) bas fit
-
--- points as words, one after another
-unfoldable pub encode : List (List Float) → List ℕ
-encode ps = flatten (map (map bits) ps)

@@ -1,19 +1,19 @@
 // The runs of a spline: prepared, counted, written.
-use crate::Shape;
 use crate::fitted::lay_fit;
 use crate::segment::count_segments;
 use crate::segment::write_segments;
 use crate::spline::count_spline;
 use crate::spline::write_spline;
+use walks::Shape;
 ghost use mathlib.Core.Path.{_≡_};
 ghost use mathlib.Core.List.{[]};
 ghost use Prim.Native.Nat.{ℕ, _≤_, _-_, _*_};
 ghost use lib.ListN.{length, getD, take};
 ghost use Rattle.floats.specs.Lists.{filled, flatten, rowsOf, spliced};
 ghost use Rattle.metric.specs.Below.{Below};
-ghost use Rattle.curves.specs.Walks.{knotRoom, controlRoom};
+ghost use Rattle.walks.specs.Walks.{encode};
 ghost use Rattle.curves.specs.Ready.{Ready};
-ghost use Rattle.curves.specs.Runs.{curveRuns, encode};
+ghost use Rattle.curves.specs.Runs.{curveRuns};
 ghost use Rattle.curves.specs.Lefts.{Remembers};
 
 // Fills the tables of n points, of ch numbers each, that a spline of this motion runs through or is drawn to.
@@ -30,7 +30,7 @@ pub fn prepare(
 ) -> Shape
     requires { ⌜ (2 ≤ n) × ((n ≤ 257) × (ch ≤ 10)) ⌝ }
     requires { ⌜ Below (now ms) ch × ((n * ch ≤ length (now pts)) × (n ≤ length (now ws))) ⌝ }
-    requires { ⌜ (knotRoom ≤ length (now ks)) × (controlRoom ≤ length (now cs)) ⌝ }
+    requires { ⌜ (2 * n ≤ length (now ks)) × (20 * n ≤ length (now cs)) ⌝ }
     ensures { λ r. ⌜ Ready motion degree n ch (now (ms .entry)) (now (pts .entry)) (now (ws .entry)) r (now (ks .exit)) (now (cs .exit)) ⌝ }
 {
     if motion == 6 {
@@ -40,6 +40,7 @@ pub fn prepare(
             n: n,
             ch: ch,
             size: p,
+            piece: 0,
         };
     }
     let m = lay_fit(motion == 7, n, ch, ms, pts, ks, cs);
@@ -48,6 +49,7 @@ pub fn prepare(
         n: n,
         ch: ch,
         size: m,
+        piece: 0,
     }
 }
 

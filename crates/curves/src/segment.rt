@@ -1,20 +1,37 @@
 // The samples of a fit, stretch by stretch between the programmed points.
-use crate::Place;
-use crate::Reached;
-use crate::Shape;
 use crate::sizes::DEPTH;
-use crate::walk::count_walk;
-use crate::walk::put_sample;
-use crate::walk::remember;
-use crate::walk::write_walk;
+use walks::Place;
+use walks::Reached;
+use walks::Shape;
+use walks::walk::count_walk;
+use walks::walk::put_sample;
+use walks::walk::remember;
+use walks::walk::write_walk;
+use walks::with_piece;
 ghost use mathlib.Core.Path.{_≡_};
-ghost use Prim.Native.Nat.{_≤_, _+_, _-_};
+ghost use Prim.Native.Nat.{_≤_, _<_, _+_, _-_};
 ghost use lib.ListN.{length, set};
 ghost use lib.Seq.{sets};
+ghost use Rattle.floats.specs.Numbers.{at};
 ghost use Rattle.floats.specs.Lists.{upto, filled, flatten, spliced};
-ghost use Rattle.curves.specs.Runs.{encode};
-ghost use Rattle.curves.specs.Walks.{Segments, Fresh, FreshAt, fitRunAt, Written};
-ghost use Rattle.curves.specs.Lefts.{fitLefts, joined, Recalls, Stored, Cursor};
+ghost use Rattle.fit.specs.Fit.{pieceOf};
+ghost use Rattle.walks.specs.Walks.{fitTimes, withPiece, encode, Written};
+ghost use Rattle.walks.specs.Lefts.{Recalls, Stored, Cursor};
+ghost use Rattle.curves.specs.Stretches.{Pieces, Segments, Fresh, FreshAt, fitRunAt};
+ghost use Rattle.curves.specs.Lefts.{fitLefts, joined};
+
+// The curve, looked at first in the piece that the stretch up to point i lies in.
+fn at_stretch(s: Shape, ks: &[f64], i: usize) -> Shape
+    requires { ⌜ Pieces s (now ks) × (i < length (now ks)) ⌝ }
+    ensures { λ r. ⌜ r ≡ withPiece s (pieceOf (fitTimes (s .n) (now (ks .entry))) (s .size) (at (now (ks .entry)) i)) ⌝ }
+{
+    let n = s.n;
+    let size = s.size;
+    let end = ks[i];
+    let times = n + n;
+    let piece = fit::piece(&ks[n..times], size, end);
+    with_piece(s, piece)
+}
 
 // Counts the samples of the stretch from point i to the next, c samples after the start, and returns how many there are then.
 fn count_segment(
@@ -89,8 +106,10 @@ pub fn count_segments(
     let mut c = 0;
     let mut i = 0;
     while i < last {
-        c = count_segment(s, tol, ms, pts, ks, cs, i, c, counts, lefts);
-        i += 1;
+        let next = i + 1;
+        let here = at_stretch(s, ks, next);
+        c = count_segment(here, tol, ms, pts, ks, cs, i, c, counts, lefts);
+        i = next;
     }
 }
 
@@ -161,7 +180,9 @@ pub fn write_segments(
     let mut at = Place { word: 0, sample: 0 };
     let mut i = 0;
     while i < last {
-        at = write_segment(s, tol, ms, pts, ks, cs, i, lefts, at, out);
-        i += 1;
+        let next = i + 1;
+        let here = at_stretch(s, ks, next);
+        at = write_segment(here, tol, ms, pts, ks, cs, i, lefts, at, out);
+        i = next;
     }
 }

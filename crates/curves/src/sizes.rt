@@ -1,13 +1,7 @@
 // Halvings of a stretch at most.
 pub const DEPTH: usize = 20;
 
-// What the tables take at least: a B-spline's knots, its weighted control numbers; a fit's chord sums and then its
-// times, its points and then its slopes.
-pub const KNOT_ROOM: usize = 514;
+// The points of a small curve, and the numbers of a point at most.
+pub const SMALL_POINTS: usize = 16;
 
-pub const CONTROL_ROOM: usize = 5140;
-
-// Where a fit's times and its slopes begin.
-pub const FIT_TIMES: usize = 257;
-
-pub const FIT_SLOPES: usize = 2570;
+pub const NUMBERS: usize = 10;

@@ -1,11 +1,11 @@
 // The samples of a B-spline, knot span by knot span.
-use crate::Place;
-use crate::Reached;
-use crate::Shape;
 use crate::sizes::DEPTH;
-use crate::walk::count_walk;
-use crate::walk::point_at;
-use crate::walk::write_walk;
+use walks::Place;
+use walks::Reached;
+use walks::Shape;
+use walks::walk::count_walk;
+use walks::walk::point_at;
+use walks::walk::write_walk;
 ghost use mathlib.Core.Path.{_≡_};
 ghost use mathlib.Core.Bool.{true};
 ghost use Prim.Native.Nat.{_≤_, _-_};
@@ -13,9 +13,10 @@ ghost use lib.ListN.{length};
 ghost use lib.Seq.{sets};
 ghost use Rattle.floats.specs.Lists.{spliced};
 ghost use Rattle.metric.specs.Below.{Below};
-ghost use Rattle.curves.specs.Runs.{encode};
-ghost use Rattle.curves.specs.Walks.{evalOf, ownOf, Tables, Fresh, splineSamples, counted, pointsOf};
-ghost use Rattle.curves.specs.Lefts.{spanLefts, joined, Recalls};
+ghost use Rattle.walks.specs.Walks.{encode, evalOf, ownOf, Tables, counted, pointsOf};
+ghost use Rattle.walks.specs.Lefts.{Recalls};
+ghost use Rattle.curves.specs.Stretches.{Fresh, splineSamples};
+ghost use Rattle.curves.specs.Lefts.{spanLefts, joined};
 
 // Counts the samples by owner, and remembers the halvings left at each.
 pub fn count_spline(

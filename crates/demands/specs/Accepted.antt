@@ -13,7 +13,7 @@ use Rattle.rows.specs.Row.{all, shapeOk, numbersOk, turnOk, rowCheck}
 use Rattle.rows.specs.Masks.{has-past}
 use Rattle.rows.specs.Truth.{by-bit, cond-t, cond-f, and-left, and-right}
 use Rattle.saved.specs.State.{tolOk, axisCount, axesOk, motionNow, planeNow, degree, pointAtOk, pointOk, pointWord, position, curveStart, heldOk, stateOk, storeOk, savedCheck, held, heldRowOk}
-use Rattle.saved.specs.Blocks.{kept, motionThen, isFull, pushCheck}
+use Rattle.blocks.specs.Blocks.{kept, motionThen, isFull, pushCheck}
 
 -- a chain of tests answers 0 only where every one passes
 passes : (b : Bool) (x y : ℕ) → (y ≡ 0 → ⊥) → cond b x y ≡ 0 → (b ≡ true) × (x ≡ 0)

@@ -7,16 +7,15 @@ use lib.ListN.{length}
 use lib.Dec.{leb, eqb}
 use borrow.Author.Tests.{eqb-true, eqb-false, eq-eqb, ne-eqb, leb-true, leb-false, le-leb, lt-leb}
 use Rattle.rows.specs.Truth.{by-bit, cond-t, cond-f}
-use Rattle.flattener.specs.declared.Reply.{Reply}
+use Rattle.replies.specs.declared.Reply.{Reply}
 use Rattle.floats.specs.Lists.{flatten, spliced}
 use Rattle.rows.specs.Codes.{rowWords}
 use Rattle.rows.specs.Row.{all, shapeOk, numbersOk, turnOk, rowCheck}
 use Rattle.saved.specs.State.{stateOk, storeOk, held, heldRowOk, savedCheck}
-use Rattle.flattener.specs.Start.{plain, After, AfterState}
-use Rattle.flattener.specs.Replies.{StateIs}
-use Rattle.saved.specs.Blocks.{isFull, pushCheck}
-use Rattle.flattener.specs.Push.{pushRows, pushDone, pushSpec, untouched, tooFew, PushIs}
-use Rattle.flattener.specs.Close.{closeRows, closeState, closeSpec}
+use Rattle.replies.specs.Replies.{plain, After, AfterState, StateIs, tooFew, PushIs}
+use Rattle.blocks.specs.Blocks.{isFull, pushCheck}
+use Rattle.flattener.specs.Push.{pushRows, pushDone, pushSpec}
+use Rattle.closes.specs.Close.{untouched, closeRows, closeState, closeSpec}
 use Rattle.demands.specs.Laws.{cond-both}
 
 -- ---- "two replies allowed for one input agree"

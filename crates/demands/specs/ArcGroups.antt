@@ -14,7 +14,7 @@ use Rattle.rows.specs.Codes.{axisCodes, gOne, planeU, planeV, Kind, same, linea
 use Rattle.rows.specs.Row.{cell, lineOf, markOf, madeRow}
 use Rattle.rows.specs.Truth.{by-bit, cond-t, cond-f}
 use Rattle.arcs.specs.Arc.{Answer, passed, silent, Centre, centred, warned, Ends, Arc, wantedOf, countOf, lastCell, midCell, arcRow, arcRows, fromCentre, fromStart, arcAnswer}
-use Rattle.saved.specs.Blocks.{answerAs}
+use Rattle.own.specs.Answer.{answerAs}
 use Rattle.demands.specs.Demands.{Bare, Carries}
 use Rattle.demands.specs.Laws.{none-some, cond-both}
 use Rattle.demands.specs.Accepted.{Fine}

@@ -9,8 +9,8 @@ use lib.Dec.{eqb}
 use Rattle.rows.specs.Codes.{stateWords, geometricOf}
 use Rattle.rows.specs.Truth.{by-bit}
 use Rattle.saved.specs.State.{tolOk, codesOk}
-use Rattle.flattener.specs.Start.{fresh, startSpec}
-use Rattle.flattener.specs.Close.{closeSpec}
+use Rattle.starts.specs.Start.{fresh, startSpec}
+use Rattle.closes.specs.Close.{closeSpec}
 use Rattle.demands.specs.Groups.{Event, seed, block, closed, blocksOf, Standing, atFirst, withBlock, withSeed, withClose, Piece, pieceOf, piecesFrom, pieces}
 use Rattle.demands.specs.Demands.{wrote, Ran, run, Written, Demand3}
 use Rattle.demands.specs.Stands.{Stands, small-axes, fresh-stands}

@@ -7,16 +7,17 @@ use mathlib.Core.Option.{none, some}
 use lib.ListN.{length, getD, take}
 use lib.Dec.{eqb}
 use lib.Ieee.{eq}
-use Rattle.flattener.specs.declared.Reply.{Reply}
+use Rattle.replies.specs.declared.Reply.{Reply}
 use Rattle.floats.specs.Numbers.{num, f1}
 use Rattle.floats.specs.Lists.{member, flatten}
 use Rattle.rows.specs.Codes.{rowWords, lastCode, geometricOf}
 use Rattle.rows.specs.Row.{lineOf, motionOf, planeOf, markOf, carryOf, cell}
-use Rattle.flattener.specs.Start.{After, AfterState, startSpec}
-use Rattle.flattener.specs.Seed.{seedSpec}
+use Rattle.replies.specs.Replies.{After, AfterState}
+use Rattle.starts.specs.Start.{startSpec}
+use Rattle.starts.specs.Seed.{seedSpec}
 use Rattle.splines.specs.Emission.{weightOf}
 use Rattle.flattener.specs.Push.{pushSpec}
-use Rattle.flattener.specs.Close.{closeSpec}
+use Rattle.closes.specs.Close.{closeSpec}
 use Rattle.demands.specs.Groups.{Event, seed, block, closed, blocksOf, Piece, pieces, groups}
 use Rattle.demands.specs.Laws.{Every}
 

@@ -10,7 +10,9 @@ use Rattle.floats.specs.Lists.{member, anyOf}
 use Rattle.rows.specs.Codes.{gOne, cSD, isSpline, kindOf, geometricOf}
 use Rattle.rows.specs.Row.{cell, number, motionOf, planeOf, presentOf, has, hasPoint, outRow}
 use Rattle.splines.specs.Emission.{Spline, splineGroups}
-use Rattle.saved.specs.Blocks.{orNow, answerAs, degreeWith}
+use Rattle.blocks.specs.Blocks.{orNow}
+use Rattle.own.specs.Answer.{answerAs}
+use Rattle.pushed.specs.Pushed.{degreeWith}
 
 -- what a host gives after a start: seeds, blocks, and closes on the way
 pub data Event : Type 0 where

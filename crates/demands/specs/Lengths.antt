@@ -15,8 +15,9 @@ use Rattle.rows.specs.Codes.{axisCodes, cSD, rowWords, wMotion, wPlane, wKnown,
 use Rattle.rows.specs.Row.{has, motionOf, presentOf, number, outRow}
 use Rattle.rows.specs.Truth.{by-bit}
 use Rattle.saved.specs.State.{held, degree, position, geometric, withBit, placed}
-use Rattle.saved.specs.Blocks.{emits, kept, motionThen, planeThen, forgotten, opened, degreeWith, buffered, news, trackTo, pushState, pushStore}
-use Rattle.flattener.specs.Push.{fits}
+use Rattle.blocks.specs.Blocks.{emits, kept, motionThen, planeThen, news}
+use Rattle.pushed.specs.Pushed.{forgotten, opened, degreeWith, buffered, trackTo, pushState, pushStore}
+use Rattle.closes.specs.Close.{fits}
 use Rattle.demands.specs.Laws.{cond-both, Every, length-flatten, every-imp}
 use Rattle.demands.specs.RowLengths.{Long, outRow-long}
 use Rattle.demands.specs.Accepted.{Pushed}

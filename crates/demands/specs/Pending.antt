@@ -15,7 +15,8 @@ use Rattle.rows.specs.Codes.{isSpline, kindOf}
 use Rattle.rows.specs.Row.{motionOf, outRow}
 use Rattle.rows.specs.Truth.{by-bit, cond-t, cond-f}
 use Rattle.splines.specs.Emission.{Spline, splineGroups}
-use Rattle.saved.specs.Blocks.{orNow, answerAs}
+use Rattle.blocks.specs.Blocks.{orNow}
+use Rattle.own.specs.Answer.{answerAs}
 use Rattle.demands.specs.Groups.{Event, seed, block, closed, Standing, motionWith, goesOn, withBlock, withSeed, withClose, together, degreeFrom, splineWith, pieceOf, piecesFrom, groups}
 
 pub spline-length : (sp : Spline) → length (splineGroups sp) ≡ length (sp .blocks)

@@ -15,11 +15,12 @@ use Rattle.rows.specs.Codes.{rowWords, stateWords, lastCode}
 use Rattle.rows.specs.Row.{within}
 use Rattle.rows.specs.Truth.{by-bit, cond-t}
 use Rattle.saved.specs.State.{tolOk, codesOk, stateOk, held, savedCheck}
-use Rattle.flattener.specs.Start.{After, plain, fresh, startSpec}
-use Rattle.flattener.specs.Seed.{seeded, seedSpec}
-use Rattle.saved.specs.Blocks.{pushCheck}
+use Rattle.replies.specs.Replies.{After, plain}
+use Rattle.starts.specs.Start.{fresh, startSpec}
+use Rattle.starts.specs.Seed.{seeded, seedSpec}
+use Rattle.blocks.specs.Blocks.{pushCheck}
 use Rattle.flattener.specs.Push.{pushRows, pushDone, pushSpec}
-use Rattle.flattener.specs.Close.{closeRows, closeState, closeSpec}
+use Rattle.closes.specs.Close.{closeRows, closeState, closeSpec}
 use Rattle.flattener.specs.Keeps.{close-saved}
 use Rattle.demands.specs.Laws.{Every, every-imp, length-flatten}
 use Rattle.demands.specs.RowLengths.{Long, pushRows-long, closeRows-long}

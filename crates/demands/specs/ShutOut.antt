@@ -10,10 +10,13 @@ use Rattle.rows.specs.Codes as Codes
 use Rattle.rows.specs.Row as Row
 use Rattle.arcs.specs.Arc.{passed}
 use Rattle.saved.specs.State as State
-use Rattle.flattener.specs.Start as Start
-use Rattle.flattener.specs.Start.{After, fresh}
+use Rattle.starts.specs.Start as Start
+use Rattle.replies.specs.Replies.{After}
+use Rattle.starts.specs.Start.{fresh}
 use Rattle.flattener.specs.Push as Push
-use Rattle.saved.specs.Blocks as Blocks
+use Rattle.blocks.specs.Blocks as Blocks
+use Rattle.pushed.specs.Pushed as Pushed
+use Rattle.own.specs.Answer as Own
 use Rattle.flattener.specs.Push.{pushRows, pushSpec}
 use Rattle.demands.specs.Answers.{push-count}
 
@@ -43,7 +46,7 @@ pushedNext = pushSpec (pushedLine 1 .state) (pushedLine 1 .store) room (line 2)
 -- each of them is accepted, and writes itself
 computed : (pushedLine 1 .reply .code ∷ []) ∷ pushedLine 1 .rows ∷ pushedLine 2 .rows ∷ pushedNext .rows ∷ (pushedLine 2 .reply .code ∷ []) ∷ []
     ≡ (0 ∷ []) ∷ line 1 ∷ line 2 ∷ line 2 ∷ (0 ∷ []) ∷ []
-unfolding fresh Start.freshWord Lists.upto Lists.keep Lists.member Lists.flatten Lists.spliced Codes.kindOf Codes.isSpline Codes.planeOk Codes.geometricOf Row.has Row.all Row.cell Row.maskOf Row.rowOf Row.outRow Row.shapeOk Row.within Row.cellOk Row.numbersOk Row.above1000 Row.turnOk Row.rowCheck passed State.geometric State.pointWord State.tolOk State.codeOk State.codesOk State.axesOk State.pointAtOk State.pointOk State.heldOk State.stateOk State.storeOk State.heldRows State.heldRowOk State.savedCheck State.withBit State.placed Blocks.orNow Blocks.emits Blocks.kept Blocks.answerAs Blocks.ownAnswer Blocks.news Blocks.trackTo Blocks.pushState Blocks.pushStore Push.pushRows Blocks.isFull Blocks.pushCheck Push.pushDone Push.pushSpec
+unfolding fresh Start.freshWord Lists.upto Lists.keep Lists.member Lists.flatten Lists.spliced Codes.kindOf Codes.isSpline Codes.planeOk Codes.geometricOf Row.has Row.all Row.cell Row.maskOf Row.rowOf Row.outRow Row.shapeOk Row.within Row.cellOk Row.numbersOk Row.above1000 Row.turnOk Row.rowCheck passed State.geometric State.pointWord State.tolOk State.codeOk State.codesOk State.axesOk State.pointAtOk State.pointOk State.heldOk State.stateOk State.storeOk State.heldRows State.heldRowOk State.savedCheck State.withBit State.placed Blocks.orNow Blocks.emits Blocks.kept Own.answerAs Own.ownAnswer Blocks.news Pushed.trackTo Pushed.pushState Pushed.pushStore Push.pushRows Blocks.isFull Blocks.pushCheck Push.pushDone Push.pushSpec
 computed = refl
 
 -- the first word of answer i

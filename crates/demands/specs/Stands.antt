@@ -17,10 +17,11 @@ use Rattle.rows.specs.Row.{all, has, cell, number, motionOf, planeOf, presentOf
 use Rattle.rows.specs.Truth.{by-bit, cond-t, cond-f, and-left}
 use Rattle.rows.specs.Masks.{has-none, member-keep}
 use Rattle.saved.specs.State.{tolerance, axisCount, geometric, codeOk, codesOk, placed, motionNow, planeNow, held, degree, pointWord, position, curveStart, heldRow, heldRows}
-use Rattle.flattener.specs.Start.{freshWord, fresh}
-use Rattle.flattener.specs.Seed.{seeded}
-use Rattle.saved.specs.Blocks.{orNow, motionThen, planeThen, emits, kept, degreeWith, forgotten, buffered, pushState, pushStore}
-use Rattle.flattener.specs.Close.{closeState}
+use Rattle.starts.specs.Start.{freshWord, fresh}
+use Rattle.starts.specs.Seed.{seeded}
+use Rattle.blocks.specs.Blocks.{orNow, motionThen, planeThen, emits, kept}
+use Rattle.pushed.specs.Pushed.{degreeWith, forgotten, buffered, pushState, pushStore}
+use Rattle.closes.specs.Close.{closeState}
 use Rattle.demands.specs.Groups.{Standing, atFirst, movedByBlock, movedBySeed, motionWith, goesOn, withBlock, withSeed, withClose, degreeFrom}
 use Rattle.demands.specs.Laws.{cond-both}
 use Rattle.demands.specs.Accepted.{Pushed, few-axes, held-spline}

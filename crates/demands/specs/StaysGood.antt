@@ -15,11 +15,12 @@ use Rattle.rows.specs.Truth.{by-bit, cond-t, cond-f, and-i, all-ext}
 use Rattle.saved.specs.State.{tolOk, codesOk, axesOk, axisCount, motionNow, held, geometric, heldRow, heldRowOk, stateOk, storeOk, savedCheck, placed}
 use Rattle.saved.specs.StateLaws.{Good, good-ok, geometric-small}
 use Rattle.flattener.specs.Keeps.{no-point, none-held, seeded-ok, close-saved, push-saved}
-use Rattle.flattener.specs.Start.{After, AfterState, plain, fresh, freshWord}
-use Rattle.flattener.specs.Seed.{seeded, seedSpec}
-use Rattle.saved.specs.Blocks.{pushCheck}
+use Rattle.replies.specs.Replies.{After, AfterState, plain}
+use Rattle.starts.specs.Start.{fresh, freshWord}
+use Rattle.starts.specs.Seed.{seeded, seedSpec}
+use Rattle.blocks.specs.Blocks.{pushCheck}
 use Rattle.flattener.specs.Push.{pushRows, pushDone}
-use Rattle.flattener.specs.Close.{closeRows, closeSpec}
+use Rattle.closes.specs.Close.{closeRows, closeSpec}
 use Rattle.demands.specs.Accepted.{Saved, saved, Pushed, pushed, fine-check}
 use Rattle.demands.specs.Answers.{places, push-done, push-accepted, closeDone, close-done, close-accepted}
 use Rattle.demands.specs.Demands.{Call, pushing, seeding, closing, answer, accepts, run}

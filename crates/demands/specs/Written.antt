@@ -19,12 +19,13 @@ use Rattle.rows.specs.Row.{planeOf, within, outRow}
 use Rattle.rows.specs.Truth.{by-bit, cond-t, cond-f, and-left, and-right}
 use Rattle.splines.specs.Emission.{Spline, splineGroups}
 use Rattle.saved.specs.State.{stateOk, held, position, curveStart, tolerance, motionNow, degree, savedCheck}
-use Rattle.flattener.specs.Held.{heldSpline}
-use Rattle.flattener.specs.Start.{After, AfterState, plain}
-use Rattle.flattener.specs.Seed.{seeded, seedSpec}
-use Rattle.saved.specs.Blocks.{orNow, answerAs, ownAnswer, motionThen, emits, pushCheck}
-use Rattle.flattener.specs.Push.{emission, pushRows, pushDone, pushSpec}
-use Rattle.flattener.specs.Close.{closeRows, closeState, closeSpec}
+use Rattle.closes.specs.Held.{heldSpline, emission}
+use Rattle.replies.specs.Replies.{After, AfterState, plain}
+use Rattle.starts.specs.Seed.{seeded, seedSpec}
+use Rattle.blocks.specs.Blocks.{orNow, motionThen, emits, pushCheck}
+use Rattle.own.specs.Answer.{answerAs, ownAnswer}
+use Rattle.flattener.specs.Push.{pushRows, pushDone, pushSpec}
+use Rattle.closes.specs.Close.{closeRows, closeState, closeSpec}
 use Rattle.demands.specs.Laws.{Every, every-imp, flatten-append, length-flatten}
 use Rattle.demands.specs.Groups.{Event, seed, block, closed, Standing, motionWith, withBlock, withSeed, withClose, splineWith}
 use Rattle.demands.specs.Demands.{Call, pushing, seeding, closing, answer, accepts, wrote, eventOf, taken, Ran, run}

@@ -1,33 +1,48 @@
 -- What the parts of preparing a fit come to. Assumes nothing.
 use mathlib.Core.Path.{_≡_, refl, sym, _∙_, ap}
 use mathlib.Core.Bool.{Bool}
-use mathlib.Core.List.{List}
+use mathlib.Core.List.{List, _++_}
 use Prim.Native.Nat.{ℕ, _+_, _*_, _-_, _<_, _≤_}
 use native.Mathlib.Omega.{arith}
 use native.Mathlib.Nat.{le-trans, mul-le-mul-right, mul-le-mul-left}
-use lib.ListN.{length, take, drop}
-use lib.Seq.{take-at}
+use lib.ListN.{length, take, drop, List·getD-append}
+use lib.Seq.{take-at, length-take-le, getD-append-add, getD-take}
 use lib.Ieee.{Float, nan}
+use borrow.Rule.Slice.PartMut.{putMid, postOf, mid-len, same-len-mid}
 use Rattle.floats.specs.Numbers.{at}
-use Rattle.floats.specs.Lists.{filled, rowsOf}
-use Rattle.floats.specs.Fill.{at-filled, length-filled}
+use Rattle.floats.specs.Lists.{upto, filled, rowsOf}
+use Rattle.floats.specs.Fill.{at-filled, length-filled, filled-all}
 use Rattle.metric.specs.Below.{Below}
-use Rattle.fit.specs.Blocks.{Block, Blocks, block-as}
+use Rattle.fit.specs.Blocks.{Block, Blocks}
 use Rattle.fit.specs.Fit.{keptTo, fitOf}
 use Rattle.fit.specs.Kept.{Kept, kept-in, kept-rising}
 use Rattle.fit.specs.Memory.{Rising, FitHeld}
-use Rattle.fit.specs.Prepare.{slopeOf, timeAt, numberAt, columnOf, channelAt, take-filled, fit-is, TimesRise, FitRoom, FitReady}
+use Rattle.fit.specs.Prepare.{slopeOf, timeAt, numberAt, columnOf, channelAt, fit-is, TimesRise, FitRoom, FitReady}
 
-pub channel-block : (cubic : Bool) (fts fps : List Float) (m ch c : ℕ) (l₁ l₂ : List Float) {ys ms l xs : List Float}
+-- a part of a list, written over
+block-put : {f : ℕ → Float} {a m : ℕ} {l : List Float} (ys : List Float) → a + m ≤ length l → length ys ≡ length (take (a + m - a) (drop a l)) → ((j : ℕ) → j < m → at ys j ≡ f j)
+    → Block f a m l (putMid a (a + m - a) l ys)
+block-put {f} {a} {m} {l} ys h n e =
+    let long : length (take a l) ≡ a = length-take-le a l (omega arith) in
+    let many : length ys ≡ m = n ∙ mid-len a (a + m) l h ∙ omega arith in
+    record {
+      same = same-len-mid a (a + m - a) l ys n;
+      is = λ j g.
+          let p : a + j ≡ length (take a l) + j = omega arith in
+          rw p (getD-append-add (take a l) (ys ++ postOf a (a + m - a) l) j nan ∙ List·getD-append ys (postOf a (a + m - a) l) nan j (omega arith) ∙ e j g);
+      before = λ k g. List·getD-append (take a l) (ys ++ postOf a (a + m - a) l) nan k (omega arith) ∙ rw getD-take;
+    }
+
+pub channel-block : (cubic : Bool) (fts fps : List Float) (m ch c a : ℕ) (l₁ : List Float) {ys ms l : List Float}
+    → m ≡ length l₁
     → ys ≡ filled (λ (w : ℕ). at fps (w * ch + c)) m l₁
-    → ms ≡ filled (slopeOf cubic (take m fts) (take m ys) m) m l₂
-    → Block (λ (j : ℕ). at ms (0 * m + j)) (c * m) m l xs
-    → Block (channelAt cubic fts fps ch m c) (c * m) m l xs
-channel-block cubic fts fps m ch c l₁ l₂ {ys} {ms} ey em b =
-    let column : take m ys ≡ columnOf fps ch m c = ap (take m) ey ∙ take-filled (λ (w : ℕ). at fps (w * ch + c)) m l₁ in
-    block-as b (λ j h.
-    let e : 0 * m + j ≡ j = omega arith in
-    rw (e, em, ← column) (at-filled (slopeOf cubic (take m fts) (take m ys) m) l₂ m j nan h))
+    → a + m ≤ length l
+    → length ms ≡ length (take (a + m - a) (drop a l))
+    → ms ≡ filled (slopeOf cubic (take m fts) ys m) m (take (a + m - a) (drop a l))
+    → Block (channelAt cubic fts fps ch m c) a m l (putMid a (a + m - a) l ms)
+channel-block cubic fts fps m ch c a l₁ {ys} {ms} {l} many ey room n em =
+    let column : ys ≡ columnOf fps ch m c = filled-all (λ (w : ℕ). at fps (w * ch + c)) l₁ many ey ∙ ap (upto (λ (w : ℕ). at fps (w * ch + c))) (sym many) in
+    block-put ms room n (λ j h. rw (em, ← column) (at-filled (slopeOf cubic (take m fts) ys m) (take (a + m - a) (drop a l)) m j nan h))
 
 pub below-more : (ks : List ℕ) (n len : ℕ) → Below ks n → n ≤ len → Below ks len
 unfolding Below

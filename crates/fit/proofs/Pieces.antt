@@ -76,6 +76,15 @@ module _ (ts : List Float) (n : ℕ) (t : Float) where
       let e : hi ≡ lo = omega (arith, q .order) in
       sym (found ts t (n - 2) 0 lo (omega arith) (omega (arith, q .inside)) (q .passed) (⊎-elim (λ x. inl (omega arith)) (λ x. inr (rw e at x)) (q .stops)))
 
+  -- w is the piece that t lies in
+  pub piece-named : Rising ts n → (w : ℕ) → w + 1 < n → (0 < w → le t (at ts w) ≡ false) → (w + 2 ≡ n) ⊎ (le t (at ts (w + 1)) ≡ true) → w ≡ pieceOf ts n t
+  piece-named rise w h before stops = narrowed-end {lo = w} {hi = w} (record { order = omega arith; inside = omega arith; passed = passed; stops = stops }) (omega arith)
+    where
+      passed : (k : ℕ) → k < w → le t (at ts (k + 1)) ≡ false
+      passed k l =
+          let e : w - 1 + 1 ≡ w = omega arith in
+          not-yet rise (w - 1) (omega arith) (rw e (before (omega arith))) k (omega arith)
+
 -- number j of row i of m, of n each
 pub cell-fits : (i m n j len : ℕ) → i < m → j < n → m * n ≤ len → i * n + j < len
 cell-fits i m n j len h l r = omega (arith, row-fits i m n len h r)

@@ -37,10 +37,6 @@ block-more {f} {a} {n} {l} {xs} {v} b h e = record {
 pub block-end : {f : ℕ → Float} {a i : ℕ} {l xs : List Float} → Block f a i l xs → (n : ℕ) → i ≡ n → Block f a n l xs
 block-end {f} {a} {i} {l} {xs} b n e = rw (← e) b
 
--- the same numbers under another name
-pub block-as : {f g : ℕ → Float} {a n : ℕ} {l xs : List Float} → Block f a n l xs → ((j : ℕ) → j < n → f j ≡ g j) → Block g a n l xs
-block-as b e = record { same = b .same; is = λ j h. b .is j h ∙ e j h; before = b .before }
-
 pub blocks-none : {f : ℕ → ℕ → Float} {n : ℕ} {xs : List Float} → Blocks f n 0 xs
 blocks-none = record { is = λ i j h g. absurd (omega arith) }
 

@@ -2,6 +2,7 @@
 use slopes::akima::akima_slopes;
 use slopes::cubic::natural_cubic_slopes;
 use slopes::sizes::MOST_POINTS;
+use slopes::sizes::SMALL_POINTS;
 ghost use mathlib.Core.Path.{_≡_};
 ghost use Prim.Native.Nat.{ℕ, _≤_, _<_, _+_, _*_};
 ghost use lib.ListN.{length};
@@ -80,7 +81,7 @@ fn slopes_of(cubic: bool, ts: &[f64], ys: &[f64], n: usize, out: &mut [f64])
     }
 }
 
-// The slopes of channel c, as block c.
+// The slopes of channel c, as block c. ys is room for its numbers.
 fn channel_slopes(
     cubic: bool,
     fts: &[f64],
@@ -88,29 +89,69 @@ fn channel_slopes(
     m: usize,
     ch: usize,
     c: usize,
+    ys: &mut [f64],
     slopes: &mut [f64],
 )
-    requires { ⌜ (2 ≤ m) × ((m ≤ 257) × (m ≤ length (now fts))) ⌝ }
+    requires { ⌜ (2 ≤ m) × ((m ≤ 257) × ((m ≤ length (now fts)) × (length (now ys) ≡ m))) ⌝ }
     requires { ⌜ (c < ch) × ((m * ch ≤ length (now fps)) × (ch * m ≤ length (now slopes))) ⌝ }
     ensures { λ _. ⌜ Block (channelAt cubic (now (fts .entry)) (now (fps .entry)) ch m c) (c * m) m (now (slopes .entry)) (now (slopes .exit)) ⌝ }
 {
-    let mut ys = [0.0f64; MOST_POINTS];
-    let mut ms = [0.0f64; MOST_POINTS];
-    column(fps, ch, m, c, &mut ys);
-    slopes_of(cubic, &fts[..m], &ys[..m], m, &mut ms);
-    copy_row(&ms, 0, m, slopes, c);
+    let a = c * m;
+    let e = a + m;
+    column(fps, ch, m, c, ys);
+    slopes_of(cubic, &fts[..m], ys, m, &mut slopes[a..e]);
 }
 
 // The slopes of the ch channels, one block after another.
-fn gather_slopes(cubic: bool, fts: &[f64], fps: &[f64], m: usize, ch: usize, slopes: &mut [f64])
-    requires { ⌜ (2 ≤ m) × ((m ≤ 257) × (m ≤ length (now fts))) ⌝ }
+fn slopes_in(
+    cubic: bool,
+    fts: &[f64],
+    fps: &[f64],
+    m: usize,
+    ch: usize,
+    ys: &mut [f64],
+    slopes: &mut [f64],
+)
+    requires { ⌜ (2 ≤ m) × ((m ≤ 257) × ((m ≤ length (now fts)) × (length (now ys) ≡ m))) ⌝ }
     requires { ⌜ (m * ch ≤ length (now fps)) × (ch * m ≤ length (now slopes)) ⌝ }
     ensures { λ _. ⌜ Blocks (channelAt cubic (now (fts .entry)) (now (fps .entry)) ch m) m ch (now (slopes .exit)) ⌝ }
 {
     let mut c = 0;
     while c < ch {
-        channel_slopes(cubic, fts, fps, m, ch, c, slopes);
+        channel_slopes(cubic, fts, fps, m, ch, c, ys, slopes);
         c += 1;
+    }
+}
+
+// Few points: less room to clear.
+fn slopes_small(cubic: bool, fts: &[f64], fps: &[f64], m: usize, ch: usize, slopes: &mut [f64])
+    requires { ⌜ (2 ≤ m) × ((m ≤ 16) × (m ≤ length (now fts))) ⌝ }
+    requires { ⌜ (m * ch ≤ length (now fps)) × (ch * m ≤ length (now slopes)) ⌝ }
+    ensures { λ _. ⌜ Blocks (channelAt cubic (now (fts .entry)) (now (fps .entry)) ch m) m ch (now (slopes .exit)) ⌝ }
+{
+    let mut ys = [0.0f64; SMALL_POINTS];
+    slopes_in(cubic, fts, fps, m, ch, &mut ys[..m], slopes);
+}
+
+fn slopes_large(cubic: bool, fts: &[f64], fps: &[f64], m: usize, ch: usize, slopes: &mut [f64])
+    requires { ⌜ (2 ≤ m) × ((m ≤ 257) × (m ≤ length (now fts))) ⌝ }
+    requires { ⌜ (m * ch ≤ length (now fps)) × (ch * m ≤ length (now slopes)) ⌝ }
+    ensures { λ _. ⌜ Blocks (channelAt cubic (now (fts .entry)) (now (fps .entry)) ch m) m ch (now (slopes .exit)) ⌝ }
+{
+    let mut ys = [0.0f64; MOST_POINTS];
+    slopes_in(cubic, fts, fps, m, ch, &mut ys[..m], slopes);
+}
+
+// The slopes of all channels, with as much room as m points need.
+fn gather_slopes(cubic: bool, fts: &[f64], fps: &[f64], m: usize, ch: usize, slopes: &mut [f64])
+    requires { ⌜ (2 ≤ m) × ((m ≤ 257) × (m ≤ length (now fts))) ⌝ }
+    requires { ⌜ (m * ch ≤ length (now fps)) × (ch * m ≤ length (now slopes)) ⌝ }
+    ensures { λ _. ⌜ Blocks (channelAt cubic (now (fts .entry)) (now (fps .entry)) ch m) m ch (now (slopes .exit)) ⌝ }
+{
+    if m <= SMALL_POINTS {
+        slopes_small(cubic, fts, fps, m, ch, slopes);
+    } else {
+        slopes_large(cubic, fts, fps, m, ch, slopes);
     }
 }
 

@@ -5,9 +5,11 @@ pub mod kept;
 use crate::gather::gather;
 use crate::kept::keep;
 use slopes::sizes::MOST_POINTS;
+use slopes::sizes::SMALL_POINTS;
 use slopes::sizes::WIDEST;
 use slopes::steps::step_at;
 ghost use mathlib.Core.Path.{_≡_};
+ghost use mathlib.Core.Bool.{true};
 ghost use Prim.Native.Nat.{_≤_, _<_, _+_, _*_};
 ghost use lib.ListN.{length, replicate};
 ghost use Rattle.floats.specs.Numbers.{f0, at};
@@ -96,7 +98,7 @@ fn channels(b: Blend, fps: &[f64], slopes: &[f64], m: usize, ch: usize, w: usize
 }
 
 // The first piece whose end t does not pass, by halving.
-fn piece(ts: &[f64], n: usize, t: f64) -> usize
+pub fn piece(ts: &[f64], n: usize, t: f64) -> usize
     requires { ⌜ (2 ≤ n) × (n ≤ length (now ts)) ⌝ }
     requires { ⌜ Rising (now ts) n ⌝ }
     ensures { λ r. ⌜ (r ≡ pieceOf (now (ts .entry)) n t) × (r + 1 < n) ⌝ }
@@ -114,7 +116,38 @@ fn piece(ts: &[f64], n: usize, t: f64) -> usize
     lo
 }
 
-// The point of the curve at t.
+// Whether w is that piece.
+fn is_piece(ts: &[f64], n: usize, t: f64, w: usize) -> bool
+    requires { ⌜ (w + 1 < n) × (n ≤ length (now ts)) ⌝ }
+    requires { ⌜ Rising (now ts) n ⌝ }
+    ensures { λ r. ⌜ (r ≡ true → w ≡ pieceOf (now (ts .entry)) n t) ⌝ }
+{
+    if w > 0 {
+        if t <= ts[w] {
+            return false;
+        }
+    }
+    if t <= ts[w + 1] {
+        return true;
+    }
+    w + 2 == n
+}
+
+// That piece, found at once where it is the hint, which may be any number.
+fn piece_near(ts: &[f64], n: usize, t: f64, hint: usize) -> usize
+    requires { ⌜ (2 ≤ n) × (n ≤ length (now ts)) ⌝ }
+    requires { ⌜ Rising (now ts) n ⌝ }
+    ensures { λ r. ⌜ (r ≡ pieceOf (now (ts .entry)) n t) × (r + 1 < n) ⌝ }
+{
+    if hint < n - 1 {
+        if is_piece(ts, n, t, hint) {
+            return hint;
+        }
+    }
+    piece(ts, n, t)
+}
+
+// The point of the curve at t; where the hint is the piece that t lies in, it is not searched for.
 pub fn eval_fit(
     fts: &[f64],
     fps: &[f64],
@@ -122,11 +155,12 @@ pub fn eval_fit(
     m: usize,
     ch: usize,
     t: f64,
+    hint: usize,
 ) -> [f64; WIDEST]
     requires { ⌜ Prepared (now fts) (now fps) (now slopes) m ch ⌝ }
     ensures { λ r. ⌜ r ≡ filled (fitAt (now (fts .entry)) (now (fps .entry)) (now (slopes .entry)) m ch t) ch (replicate 16 f0) ⌝ }
 {
-    let w = piece(fts, m, t);
+    let w = piece_near(fts, m, t, hint);
     let h = step_at(fts, w);
     channels(
         blend_at(metric::clamp((t - fts[w]) / h), h),
@@ -136,6 +170,66 @@ pub fn eval_fit(
         ch,
         w,
     )
+}
+
+// What `prepare_fit` does. ks is room for the kept points.
+fn fit_in(
+    cubic: bool,
+    pts: &[f64],
+    ts: &[f64],
+    n: usize,
+    ch: usize,
+    ks: &mut [usize],
+    fts: &mut [f64],
+    fps: &mut [f64],
+    slopes: &mut [f64],
+) -> usize
+    requires { ⌜ FitRoom (now pts) (now ts) (now fts) (now fps) (now slopes) n ch ⌝ }
+    requires { ⌜ n ≤ length (now ks) ⌝ }
+    ensures { λ r. ⌜ FitReady cubic (rowsOf (now (pts .entry)) ch n) (now (ts .entry)) n ch (now (fts .exit)) (now (fps .exit)) (now (slopes .exit)) r ⌝ }
+{
+    let m = keep(ts, n, ks);
+    if m < 2 {
+        return m;
+    }
+    gather(cubic, pts, ts, &ks[..m], n, ch, fts, fps, slopes);
+    m
+}
+
+// Few points: less room to clear.
+fn fit_small(
+    cubic: bool,
+    pts: &[f64],
+    ts: &[f64],
+    n: usize,
+    ch: usize,
+    fts: &mut [f64],
+    fps: &mut [f64],
+    slopes: &mut [f64],
+) -> usize
+    requires { ⌜ FitRoom (now pts) (now ts) (now fts) (now fps) (now slopes) n ch ⌝ }
+    requires { ⌜ n ≤ 16 ⌝ }
+    ensures { λ r. ⌜ FitReady cubic (rowsOf (now (pts .entry)) ch n) (now (ts .entry)) n ch (now (fts .exit)) (now (fps .exit)) (now (slopes .exit)) r ⌝ }
+{
+    let mut ks = [0usize; SMALL_POINTS];
+    fit_in(cubic, pts, ts, n, ch, &mut ks, fts, fps, slopes)
+}
+
+fn fit_large(
+    cubic: bool,
+    pts: &[f64],
+    ts: &[f64],
+    n: usize,
+    ch: usize,
+    fts: &mut [f64],
+    fps: &mut [f64],
+    slopes: &mut [f64],
+) -> usize
+    requires { ⌜ FitRoom (now pts) (now ts) (now fts) (now fps) (now slopes) n ch ⌝ }
+    ensures { λ r. ⌜ FitReady cubic (rowsOf (now (pts .entry)) ch n) (now (ts .entry)) n ch (now (fts .exit)) (now (fps .exit)) (now (slopes .exit)) r ⌝ }
+{
+    let mut ks = [0usize; MOST_POINTS];
+    fit_in(cubic, pts, ts, n, ch, &mut ks, fts, fps, slopes)
 }
 
 // The fit through the n points pts, of ch numbers each, whose chord sums are ts: the number of knots kept. Where it is
@@ -153,11 +247,8 @@ pub fn prepare_fit(
     requires { ⌜ FitRoom (now pts) (now ts) (now fts) (now fps) (now slopes) n ch ⌝ }
     ensures { λ r. ⌜ FitReady cubic (rowsOf (now (pts .entry)) ch n) (now (ts .entry)) n ch (now (fts .exit)) (now (fps .exit)) (now (slopes .exit)) r ⌝ }
 {
-    let mut ks = [0usize; MOST_POINTS];
-    let m = keep(ts, n, &mut ks);
-    if m < 2 {
-        return m;
+    if n <= SMALL_POINTS {
+        return fit_small(cubic, pts, ts, n, ch, fts, fps, slopes);
     }
-    gather(cubic, pts, ts, &ks[..m], n, ch, fts, fps, slopes);
-    m
+    fit_large(cubic, pts, ts, n, ch, fts, fps, slopes)
 }

@@ -21,10 +21,12 @@ use Rattle.rows.specs.Truth.{or-t, or-f, and-i, and-left, and-right, cond-t, co
 use Rattle.rows.specs.Masks.{has-none}
 use Rattle.saved.specs.State.{axisCount, motionNow, planeNow, degree, held, geometric, tolOk, codesOk, axesOk, pointAtOk, pointOk, heldOk, stateOk, storeOk, heldRow, heldRowOk, savedCheck, pointWord, position, withBit, placed}
 use Rattle.saved.specs.StateLaws.{Good, good, good-ok, good-few, axes-few, point-small, geometric-small, with-other, with-lt}
-use Rattle.flattener.specs.Seed.{seeded}
-use Rattle.saved.specs.Blocks.{orNow, motionThen, planeThen, emits, kept, isFull, news, forgotten, opened, degreeWith, buffered, pushState, pushStore, trackTo}
-use Rattle.flattener.specs.Close.{closeState}
-use Rattle.saved.specs.PushLaws.{SameAxes, same-trans, same-set, same-placed, same-to, same-forgotten, same-opened, same-codes, same-geometric, placed-keeps, to-keeps, forgotten-keeps, held-forgotten, below-spliced, in-spliced, past-spliced, startWords, length-startWords, full-room, noWords, none-at}
+use Rattle.starts.specs.Seed.{seeded}
+use Rattle.blocks.specs.Blocks.{orNow, motionThen, planeThen, emits, kept, isFull, news}
+use Rattle.pushed.specs.Pushed.{forgotten, opened, degreeWith, buffered, pushState, pushStore, trackTo}
+use Rattle.closes.specs.Close.{closeState}
+use Rattle.pushed.specs.PushLaws.{SameAxes, same-trans, same-set, same-placed, same-to, same-forgotten, same-opened, same-codes, same-geometric, placed-keeps, to-keeps, forgotten-keeps, held-forgotten, below-spliced, in-spliced, past-spliced, startWords, length-startWords, noWords, none-at}
+use Rattle.blocks.specs.BlockLaws.{full-room}
 use Rattle.saved.specs.Checked.{saved-ok, saved-rows}
 
 -- ---- points

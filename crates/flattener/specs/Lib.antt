@@ -1,8 +1,3 @@
-pub mod Start
-pub mod Seed
-pub mod Held
 pub mod Push
-pub mod Close
+pub mod Before
 pub mod Keeps
-pub mod Emitted
-pub mod Replies

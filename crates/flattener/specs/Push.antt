@@ -1,35 +1,20 @@
 -- Document 01, "Steps of a push" and the order of refusals: what a push answers and leaves. Assumes nothing.
-use Prim.Native.Nat.{ℕ, _/_}
-use mathlib.Core.Path.{_≡_}
-use mathlib.Core.Bool.{Bool, cond}
+use Prim.Native.Nat.{ℕ}
+use mathlib.Core.Bool.{cond}
 use mathlib.Core.List.{List, _++_}
 use lib.ListN.{length}
-use lib.Dec.{leb, eqb}
-use Rattle.flattener.specs.declared.Reply.{Reply}
+use lib.Dec.{eqb}
 use Rattle.floats.specs.Lists.{flatten, spliced}
-use Rattle.rows.specs.Codes.{rowWords}
-use Rattle.flattener.specs.Start.{plain, After}
-use Rattle.splines.specs.Emission.{splineGroups}
-use Rattle.flattener.specs.Held.{heldSpline}
-use Rattle.saved.specs.Blocks.{emits, ownAnswer, news, pushState, pushStore, pushCheck}
-
-unfoldable pub emission : List ℕ → List ℕ → List (List ℕ)
-emission st store = flatten (splineGroups (heldSpline st store))
+use Rattle.replies.specs.Replies.{plain, tooFew, After}
+use Rattle.closes.specs.Held.{emission}
+use Rattle.closes.specs.Close.{untouched, fits}
+use Rattle.blocks.specs.Blocks.{emits, news, pushCheck}
+use Rattle.own.specs.Answer.{ownAnswer}
+use Rattle.pushed.specs.Pushed.{pushState, pushStore}
 
 -- ---- the rows: "Room is judged for both together"
 unfoldable pub pushRows : List ℕ → List ℕ → List ℕ → List (List ℕ)
 pushRows st store r = let own = ownAnswer st r .rows in cond (emits st r) (emission st store ++ own) own
-
--- "Every refusal leaves all lent memory and the state untouched"
-unfoldable pub untouched : Reply → List ℕ → List ℕ → List ℕ → After
-untouched p st store rows = record { reply = p; state = st; store = store; rows = rows }
-
--- reply 7: "fewer row places lent than the call needs; the reply has the needed count"
-unfoldable pub tooFew : ℕ → Reply
-tooFew n = record { code = 7; count = n; warning = 0; wanted = 0; held = 0 }
-
-abbrev pub fits : List (List ℕ) → List ℕ → Bool
-fits out rows = leb (length out) (length rows / rowWords)
 
 unfoldable pub pushDone : List ℕ → List ℕ → List ℕ → List ℕ → List (List ℕ) → After
 pushDone st store rows r out =
@@ -46,10 +31,3 @@ pushSpec st store rows r =
     let out = pushRows st store r in
     let room = cond (fits out rows) (pushDone st store rows r out) (untouched (tooFew (length out)) st store rows) in
     cond (eqb (pushCheck st store r) 0) room (untouched (plain (pushCheck st store r)) st store rows)
-
--- the contract of a push or a close: the reply and each slice are what p says
-pub record PushIs (p : After) (r : Reply) (s t u : List ℕ) : Type 0 where
-  pub reply : r ≡ p .reply
-  pub state : s ≡ p .state
-  pub store : t ≡ p .store
-  pub rows : u ≡ p .rows

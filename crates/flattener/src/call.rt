@@ -1,92 +1,27 @@
 // Pushing a block, and closing.
-use crate::Reply;
-use crate::start::plain_reply;
-use floats::of_bits;
-use rows::AXIS_CODES;
+use blocks::emits;
+use blocks::push_check;
+use closes::close;
+use closes::put_emission;
+use own::plan_own;
+use replies::Reply;
+use replies::plain_reply;
+use replies::too_few;
 use rows::ROW_WORDS;
-use saved::W_AXES;
-use saved::W_DEGREE;
-use saved::W_HELD;
-use saved::W_MOTION;
-use saved::W_START;
-use saved::own::plan_own;
-use saved::own::write_own;
-use saved::push::emits;
-use saved::push::forget;
-use saved::push::is_news;
-use saved::push::push_check;
-use saved::push::push_state;
-use saved::push::push_store;
-use saved::state::saved_check;
-use splines::emit_within;
+use settle::settle;
 ghost use mathlib.Core.Path.{_≡_};
-ghost use mathlib.Core.Bool.{cond};
 ghost use Prim.Native.Nat.{_≤_};
 ghost use Rattle.splines.specs.Emits.{mostOwn};
-ghost use Rattle.flattener.specs.Push.{emission, tooFew, pushSpec, PushIs};
+ghost use Rattle.replies.specs.Replies.{PushIs};
 ghost use Rattle.saved.specs.State.{savedCheck};
-ghost use Rattle.saved.specs.PushLaws.{Block};
-ghost use Rattle.flattener.specs.Replies.{doneReply};
-ghost use Rattle.flattener.specs.Emitted.{before, Put};
-ghost use Rattle.flattener.specs.Close.{closeSpec};
+ghost use Rattle.blocks.specs.BlockLaws.{Block};
+ghost use Rattle.closes.specs.Emitted.{Put};
+ghost use Rattle.closes.specs.Close.{closeSpec};
+ghost use Rattle.flattener.specs.Before.{before};
+ghost use Rattle.flattener.specs.Push.{pushSpec};
 
-// The words of the curve start.
-const START: usize = W_START + 1;
-
-const START_END: usize = START + AXIS_CODES;
-
-fn too_few(needed: u64) -> Reply
-    ensures { λ r. ⌜ r ≡ tooFew needed ⌝ }
-{
-    Reply {
-        code: 7,
-        count: needed,
-        warning: 0,
-        wanted: 0,
-        held: 0,
-    }
-}
-
-fn done_reply(count: u64, warning: u64, wanted: u64, held: u64) -> Reply
-    ensures { λ r. ⌜ r ≡ doneReply count warning wanted held ⌝ }
-{
-    Reply {
-        code: 0,
-        count,
-        warning,
-        wanted,
-        held,
-    }
-}
-
-fn warning_of(new: bool, warning: u64) -> u64
-    ensures { λ r. ⌜ r ≡ cond new 7 warning ⌝ }
-{
-    if new { 7 } else { warning }
-}
-
-// Counts the rows of the emission of the held spline and, where they and `own` more have room, writes them to the front
+// Counts the rows that go out before the block's own and, where they and `own` more have room, writes them to the front
 // of `rows`.
-fn put_emission(state: &[u64], store: &[u64], rows: &mut [u64], own: usize) -> usize
-    requires { ⌜ (savedCheck (now state) (now store) ≡ 0) × (own ≤ mostOwn) ⌝ }
-    ensures { λ r. ⌜ Put own (emission (now (state .entry)) (now (store .entry))) (now (rows .entry)) r (now (rows .exit)) ⌝ }
-{
-    let e = W_AXES + state[1] as usize;
-    emit_within(
-        state[W_MOTION],
-        state[W_DEGREE],
-        of_bits(state[0]),
-        &state[W_AXES..e],
-        state[W_START],
-        &state[START..START_END],
-        store,
-        state[W_HELD] as usize,
-        own,
-        rows,
-    ) as usize
-}
-
-// The same with the rows that go out before the block's own.
 fn put_before(state: &[u64], store: &[u64], rows: &mut [u64], row: &[u64], own: usize) -> usize
     requires { ⌜ (savedCheck (now state) (now store) ≡ 0) × ((Block (now state) (now row)) × (own ≤ mostOwn)) ⌝ }
     ensures { λ r. ⌜ Put own (before (now (state .entry)) (now (store .entry)) (now (row .entry))) (now (rows .entry)) r (now (rows .exit)) ⌝ }
@@ -117,11 +52,7 @@ pub extern "C" fn flat_push(
     if rows.len() / ROW_WORDS < needed {
         return too_few(needed as u64);
     }
-    let warning = warning_of(is_news(state, row), plan.warning);
-    write_own(rows, first * ROW_WORDS, state, row, plan);
-    push_store(state, store, row);
-    push_state(state, row);
-    done_reply(needed as u64, warning, plan.wanted, plan.held)
+    settle(state, store, rows, row, first, plan)
 }
 
 // Ends the run: a held spline is emitted.
@@ -129,17 +60,5 @@ pub extern "C" fn flat_push(
 pub extern "C" fn flat_close(state: &mut [u64], store: &[u64], rows: &mut [u64]) -> Reply
     ensures { λ r. ⌜ PushIs (closeSpec (now (state .entry)) (now (store .entry)) (now (rows .entry))) r (now (state .exit)) (now (store .exit)) (now (rows .exit)) ⌝ }
 {
-    let code = saved_check(state, store);
-    if code != 0 {
-        return plain_reply(code);
-    }
-    if state[W_HELD] == 0 {
-        return plain_reply(0);
-    }
-    let needed = put_emission(state, store, rows, 0);
-    if rows.len() / ROW_WORDS < needed {
-        return too_few(needed as u64);
-    }
-    forget(state);
-    done_reply(needed as u64, 0, 0, 0)
+    close(state, store, rows)
 }

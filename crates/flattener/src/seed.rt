@@ -1,31 +1,13 @@
 // Seeding a position.
-use crate::Reply;
-use crate::start::plain_reply;
-use rows::LAST_CODE;
-use rows::within_range;
-use saved::state::is_geometric;
-use saved::state::place;
-use saved::state::state_ok;
-ghost use Rattle.flattener.specs.Seed.{seedSpec};
-ghost use Rattle.flattener.specs.Replies.{StateIs};
+use replies::Reply;
+use starts::seed::seed;
+ghost use Rattle.starts.specs.Seed.{seedSpec};
+ghost use Rattle.replies.specs.Replies.{StateIs};
 
 // Makes the number whose bits are `value` the position of an axis.
 #[no_mangle]
 pub extern "C" fn flat_seed(state: &mut [u64], axis: u64, value: u64) -> Reply
     ensures { λ r. ⌜ StateIs (seedSpec (now (state .entry)) axis value) r (now (state .exit)) ⌝ }
 {
-    if !state_ok(state) {
-        return plain_reply(9);
-    }
-    if axis > LAST_CODE as u64 {
-        return plain_reply(2);
-    }
-    if !within_range(value) {
-        return plain_reply(3);
-    }
-    if !is_geometric(state, axis) {
-        return plain_reply(0);
-    }
-    place(state, axis as usize, value);
-    plain_reply(0)
+    seed(state, axis, value)
 }

@@ -4,7 +4,7 @@ use mathlib.Core.Path.{_≡_, refl, sym, _∙_, ap}
 use mathlib.Core.Bool.{Bool, true, false, cond, not, _&&_, _||_}
 use mathlib.Core.List.{List, [], _∷_, _++_, map, map-append, append-assoc, append-nil}
 use mathlib.Core.Option.{Option, none, some, Option·getD}
-use native.Mathlib.Nat.{suc-mul, mul-le-mul, mul-le-mul-right, one-mul, add-comm}
+use native.Mathlib.Nat.{suc-mul, mul-le-mul, mul-le-mul-right, one-mul, add-comm, le-trans}
 use native.Mathlib.Numerals.{add-one}
 use native.Mathlib.Omega.{arith}
 use lib.ListN.{length, getD, take, drop, set, length-append, length-map}
@@ -153,17 +153,17 @@ more-added gs cs row rs pts pts' pts'' ws ws' ws'' n r lc l a b =
 pub added-few : (cs : List ℕ) (rs : List (List ℕ)) (pts pts' ws ws' : List Float) (n : ℕ) → PointsAdded cs rs pts pts' ws ws' n → n ≡ length rs + 1
 added-few cs rs pts pts' ws ws' n a = omega (arith, a .weights .count, length-map rs weightOf)
 
-pub added-room : (cs : List ℕ) (rs : List (List ℕ)) (pts pts' ws ws' : List Float) (n : ℕ) → PointsAdded cs rs pts pts' ws ws' n → length rs < 256 → length cs ≤ 10 → 2570 ≤ length pts → 257 ≤ length ws
+pub added-room : (held : ℕ) (cs : List ℕ) (rs : List (List ℕ)) (pts pts' ws ws' : List Float) (n : ℕ) → PointsAdded cs rs pts pts' ws ws' n → length rs < held → length cs ≤ 10 → (held + 1) * 10 ≤ length pts → held + 1 ≤ length ws
     → (1 ≤ n) × (((n + 1) * length cs ≤ length pts') × (n < length ws'))
-added-room cs rs pts pts' ws ws' n a h lc lp lw =
+added-room held cs rs pts pts' ws ws' n a h lc lp lw =
     let e : n ≡ length rs + 1 = added-few cs rs pts pts' ws ws' n a in
-    let m : (n + 1) * length cs ≤ 257 * 10 = mul-le-mul {n₁ = n + 1} {m₁ = length cs} {n₂ = 257} {m₂ = 10} (omega arith) lc in
-    (omega arith, (omega (arith, a .points .same, m), omega (arith, a .weights .same)))
+    let m : (n + 1) * length cs ≤ (held + 1) * 10 = mul-le-mul {n₁ = n + 1} {m₁ = length cs} {n₂ = held + 1} {m₂ = 10} (omega arith) lc in
+    (omega arith, (le-trans m (omega (arith, a .points .same)), omega (arith, a .weights .same)))
 
-pub points-step : (gs cs : List ℕ) (f : ℕ → List ℕ) (i : ℕ) (row : List ℕ) (pts pts' pts'' ws ws' ws'' : List Float) (n r : ℕ) → i < 256 → length cs ≤ 10 → 2570 ≤ length pts → 257 ≤ length ws → row ≡ f i
+pub points-step : (held : ℕ) (gs cs : List ℕ) (f : ℕ → List ℕ) (i : ℕ) (row : List ℕ) (pts pts' pts'' ws ws' ws'' : List Float) (n r : ℕ) → i < held → length cs ≤ 10 → (held + 1) * 10 ≤ length pts → held + 1 ≤ length ws → row ≡ f i
     → PointsAdded cs (keep (hasPoint gs) (upto f i)) pts pts' ws ws' n → PointAdded gs row cs n pts' pts'' ws' ws'' r → PointsAdded cs (keep (hasPoint gs) (upto f (i + 1))) pts pts'' ws ws'' r
-points-step gs cs f i row pts pts' pts'' ws ws' ws'' n r li lc lp lw e a b =
-    let m : (n + 1) * length cs ≤ length pts' = added-room cs (keep (hasPoint gs) (upto f i)) pts pts' ws ws' n a (omega (arith, keep-upto-most (hasPoint gs) f i)) lc lp lw .1 .0 in
+points-step held gs cs f i row pts pts' pts'' ws ws' ws'' n r li lc lp lw e a b =
+    let m : (n + 1) * length cs ≤ length pts' = added-room held cs (keep (hasPoint gs) (upto f i)) pts pts' ws ws' n a (omega (arith, keep-upto-most (hasPoint gs) f i)) lc lp lw .1 .0 in
     rw (keep-upto (hasPoint gs) f i, ← e) (more-added gs cs row (keep (hasPoint gs) (upto f i)) pts pts' pts'' ws ws' ws'' n r (omega arith) (omega (arith, a .points .same)) a b)
 
 -- ---- the points and weights of a curve

@@ -141,7 +141,7 @@ fn add_points(
     ws: &mut [f64],
 ) -> usize
     requires { ⌜ (held * rowWords ≤ length (now store)) × ((held ≤ 256) × (Codes (now chans))) ⌝ }
-    requires { ⌜ (length (now chans) ≤ 10) × ((2570 ≤ length (now pts)) × (257 ≤ length (now ws))) ⌝ }
+    requires { ⌜ (length (now chans) ≤ 10) × (((held + 1) * 10 ≤ length (now pts)) × (held + 1 ≤ length (now ws))) ⌝ }
     ensures { λ r. ⌜ PointsAdded (now (chans .entry)) (keep (hasPoint (geometricOf (now (axes .entry)))) (upto (blockAt (now (store .entry))) held)) (now (pts .entry)) (now (pts .exit)) (now (ws .entry)) (now (ws .exit)) r ⌝ }
 {
     let mut n: usize = 1;
@@ -165,7 +165,7 @@ pub fn points_of(
     ws: &mut [f64],
 ) -> usize
     requires { ⌜ (held * rowWords ≤ length (now store)) × ((held ≤ 256) × (Codes (now chans))) ⌝ }
-    requires { ⌜ (length (now chans) ≤ 10) × ((2570 ≤ length (now pts)) × (257 ≤ length (now ws))) ⌝ }
+    requires { ⌜ (length (now chans) ≤ 10) × (((held + 1) * 10 ≤ length (now pts)) × (held + 1 ≤ length (now ws))) ⌝ }
     requires { ⌜ axisCodes ≤ length (now words) ⌝ }
     ensures { λ r. ⌜ PointsAre (geometricOf (now (axes .entry))) (shown start (now (words .entry))) (upto (blockAt (now (store .entry))) held) (now (chans .entry)) (now (pts .exit)) (now (ws .exit)) r ⌝ }
 {

@@ -1,4 +1,4 @@
--- One more turn of each running sum of `specs/Metric.antt`. Assumes nothing.
+-- One more turn of each running sum of `specs/Metric.antt`, and the sums of two and three turns. Assumes nothing.
 use mathlib.Core.Path.{_≡_}
 use mathlib.Core.List.{List}
 use Prim.Native.Nat.{ℕ, _+_}
@@ -6,11 +6,12 @@ use native.Mathlib.Numerals.{add-one}
 use lib.ListN.{getD}
 use lib.Ieee.{Float}
 use Rattle.root.specs.Root.{sqrt}
-use Rattle.floats.specs.Numbers.{_⊕_, _⊖_, _⊗_, _⊘_, f0, f1, heldIn, at}
-use mathlib.Core.Bool.{true, false}
+use Rattle.floats.specs.Numbers.{_⊕_, _⊖_, _⊗_, at}
 use lib.ListN.{length}
-use lib.Ieee.{binary64, le, lt}
-use Rattle.metric.specs.Metric.{lenTo, dotTo, distTo, miss, along, deviationOf}
+use lib.Ieee.{binary64, le}
+use Rattle.metric.specs.Metric.{lenTo, dotTo, distTo, along, deviationOf}
+use Rattle.metric.specs.Gaps.{gapOf, towardOf, missedOf, footOf, distTwo, distThree}
+use Rattle.metric.specs.declared.Gap.{Gap}
 use Rattle.metric.specs.Walk.{near}
 
 module _ (a b : List Float) (ms : List ℕ) (k : ℕ) where
@@ -19,28 +20,34 @@ module _ (a b : List Float) (ms : List ℕ) (k : ℕ) where
   unfolding lenTo
   len-more e = rw (add-one, e)
 
-module _ (p a b : List Float) (ms : List ℕ) (k : ℕ) where
-  pub dot-more : {s : Float} → s ≡ dotTo p a b ms k
-      → s ⊕ (at p (getD ms k 0) ⊖ at a (getD ms k 0)) ⊗ (at b (getD ms k 0) ⊖ at a (getD ms k 0)) ≡ dotTo p a b ms (k + 1)
+module _ (p a b : List Float) (ms : List ℕ) (k : ℕ) {g : Gap} (eg : g ≡ gapOf p a b (getD ms k 0)) where
+  pub len-gap : {s : Float} → s ≡ lenTo a b ms k → s ⊕ g .d ⊗ g .d ≡ lenTo a b ms (k + 1)
+  len-gap e = rw eg (len-more a b ms k e)
+
+  pub dot-more : {s r : Float} → s ≡ dotTo p a b ms k → r ≡ towardOf g → s ⊕ r ≡ dotTo p a b ms (k + 1)
   unfolding dotTo
-  dot-more e = rw (add-one, e)
+  dot-more e er = rw (add-one, er, eg, e)
 
-  pub dist-more : (t : Float) {s : Float} → s ≡ distTo p a b ms t k
-      → s ⊕ miss p a b t (getD ms k 0) ⊗ miss p a b t (getD ms k 0) ≡ distTo p a b ms t (k + 1)
+  pub dist-more : (t : Float) {s r : Float} → s ≡ distTo p a b ms t k → r ≡ missedOf g t → s ⊕ r ≡ distTo p a b ms t (k + 1)
   unfolding distTo
-  dist-more t e = rw (add-one, e)
+  dist-more t e er = rw (add-one, er, eg, e)
 
-module _ (p a b : List Float) (ms : List ℕ) {k : ℕ} {d l : Float} (e : k ≡ length ms) (hd : d ≡ dotTo p a b ms k) (hl : l ≡ lenTo a b ms k) where
-  pub along-yes : lt f0 l ≡ true → heldIn f0 f1 (d ⊘ l) ≡ along p a b ms
-  unfolding along
-  along-yes h = rw (← e, ← hd, ← hl, h)
-
-  pub along-no : lt f0 l ≡ false → f0 ≡ along p a b ms
-  unfolding along
-  along-no h = rw (← e, ← hl, h)
+pub along-is : (p a b : List Float) (ms : List ℕ) {k : ℕ} {d l : Float} → k ≡ length ms → d ≡ dotTo p a b ms k → l ≡ lenTo a b ms k → footOf d l ≡ along p a b ms
+unfolding along
+along-is p a b ms e hd hl = rw (hd, hl, e)
 
 pub deviation-is : (p a b : List Float) (ms : List ℕ) {k : ℕ} {s t : Float} → k ≡ length ms → t ≡ along p a b ms → s ≡ distTo p a b ms t k → s ≡ distTo p a b ms (along p a b ms) (length ms)
 deviation-is p a b ms e ht hs = rw (hs, ht, e)
+
+-- written out, for two and three channels
+module _ (p a b : List Float) (ms : List ℕ) {x y : Gap} (ex : x ≡ gapOf p a b (getD ms 0 0)) (ey : y ≡ gapOf p a b (getD ms 1 0)) where
+  pub two-is : length ms ≡ 2 → distTwo x y ≡ distTo p a b ms (along p a b ms) (length ms)
+  unfolding distTo along lenTo dotTo
+  two-is e = rw (e, ex, ey)
+
+  pub three-is : {z : Gap} → z ≡ gapOf p a b (getD ms 2 0) → length ms ≡ 3 → distThree x y z ≡ distTo p a b ms (along p a b ms) (length ms)
+  unfolding distTo along lenTo dotTo
+  three-is ez e = rw (e, ex, ey, ez)
 
 pub near-is : (ms : List ℕ) (tol : Float) (a b p : List Float) {s : Float} → s ≡ distTo p a b ms (along p a b ms) (length ms) → le (sqrt binary64 s) tol ≡ near ms tol a b p
 unfolding near deviationOf

@@ -7,6 +7,7 @@ ghost use Rattle.floats.specs.Numbers.{f0, f1, heldIn};
 ghost use Rattle.floats.specs.Lists.{filled, rowsOf};
 ghost use Rattle.metric.specs.Below.{Below};
 ghost use Rattle.metric.specs.Metric.{lenTo, along, distTo, chordTo};
+ghost use Rattle.metric.specs.Gaps.{gapOf, towardOf, missedOf, footOf, distTwo, distThree};
 ghost use Rattle.metric.specs.Walk.{near};
 
 // The squared distance of a and b.
@@ -39,6 +40,47 @@ pub fn clamp(x: f64) -> f64
     }
 }
 
+// One channel of a point and a chord: the point's number, where the chord starts, and how far it goes.
+struct Gap {
+    p: f64,
+    a: f64,
+    d: f64,
+}
+
+fn gap_at(p: &[f64], a: &[f64], b: &[f64], i: usize) -> Gap
+    requires { ⌜ i < length (now a) ⌝ }
+    requires { ⌜ (length (now a) ≤ length (now b)) × (length (now a) ≤ length (now p)) ⌝ }
+    ensures { λ r. ⌜ r ≡ gapOf (now (p .entry)) (now (a .entry)) (now (b .entry)) i ⌝ }
+{
+    Gap {
+        p: p[i],
+        a: a[i],
+        d: b[i] - a[i],
+    }
+}
+
+// What a channel adds to the product of the way to p and the chord.
+fn toward(g: Gap) -> f64
+    ensures { λ r. ⌜ r ≡ towardOf g ⌝ }
+{
+    (g.p - g.a) * g.d
+}
+
+// What a channel adds to the squared distance of p from the chord's point at t.
+fn missed(g: Gap, t: f64) -> f64
+    ensures { λ r. ⌜ r ≡ missedOf g t ⌝ }
+{
+    let m = g.p - (g.a + t * g.d);
+    m * m
+}
+
+// Where on a chord of the squared length len2 the nearest point lies.
+fn foot_of(dot: f64, len2: f64) -> f64
+    ensures { λ r. ⌜ r ≡ footOf dot len2 ⌝ }
+{
+    if len2 > 0.0 { clamp(dot / len2) } else { 0.0 }
+}
+
 // Where on the chord from a to b the point nearest to p lies.
 pub fn foot(p: &[f64], a: &[f64], b: &[f64], ms: &[usize]) -> f64
     requires { ⌜ Below (now ms) (length (now a)) ⌝ }
@@ -49,17 +91,16 @@ pub fn foot(p: &[f64], a: &[f64], b: &[f64], ms: &[usize]) -> f64
     let mut len2 = 0.0;
     let mut k = 0;
     while k < ms.len() {
-        let i = ms[k];
-        let d = b[i] - a[i];
-        dot = dot + (p[i] - a[i]) * d;
-        len2 = len2 + d * d;
+        let g = gap_at(p, a, b, ms[k]);
+        dot = dot + toward(g);
+        len2 = len2 + g.d * g.d;
         k += 1;
     }
-    if len2 > 0.0 { clamp(dot / len2) } else { 0.0 }
+    foot_of(dot, len2)
 }
 
-// The squared distance of p from the chord from a to b.
-fn deviation2(p: &[f64], a: &[f64], b: &[f64], ms: &[usize]) -> f64
+// The squared distance of p from the chord from a to b, over any number of channels.
+fn deviation_any(p: &[f64], a: &[f64], b: &[f64], ms: &[usize]) -> f64
     requires { ⌜ Below (now ms) (length (now a)) ⌝ }
     requires { ⌜ (length (now a) ≤ length (now b)) × (length (now a) ≤ length (now p)) ⌝ }
     ensures { λ r. ⌜ r ≡ distTo (now (p .entry)) (now (a .entry)) (now (b .entry)) (now (ms .entry)) (along (now (p .entry)) (now (a .entry)) (now (b .entry)) (now (ms .entry))) (length (now (ms .entry))) ⌝ }
@@ -68,12 +109,49 @@ fn deviation2(p: &[f64], a: &[f64], b: &[f64], ms: &[usize]) -> f64
     let mut sum = 0.0;
     let mut k = 0;
     while k < ms.len() {
-        let i = ms[k];
-        let m = p[i] - (a[i] + t * (b[i] - a[i]));
-        sum = sum + m * m;
+        sum = sum + missed(gap_at(p, a, b, ms[k]), t);
         k += 1;
     }
     sum
+}
+
+// Over two channels.
+fn deviation_two(x: Gap, y: Gap) -> f64
+    ensures { λ r. ⌜ r ≡ distTwo x y ⌝ }
+{
+    let t = foot_of(0.0 + toward(x) + toward(y), 0.0 + x.d * x.d + y.d * y.d);
+    0.0 + missed(x, t) + missed(y, t)
+}
+
+// Over three channels.
+fn deviation_three(x: Gap, y: Gap, z: Gap) -> f64
+    ensures { λ r. ⌜ r ≡ distThree x y z ⌝ }
+{
+    let t = foot_of(
+        0.0 + toward(x) + toward(y) + toward(z),
+        0.0 + x.d * x.d + y.d * y.d + z.d * z.d,
+    );
+    0.0 + missed(x, t) + missed(y, t) + missed(z, t)
+}
+
+// The squared distance of p from the chord from a to b. The metric has mostly two or three channels: written out, each
+// number is read once.
+fn deviation2(p: &[f64], a: &[f64], b: &[f64], ms: &[usize]) -> f64
+    requires { ⌜ Below (now ms) (length (now a)) ⌝ }
+    requires { ⌜ (length (now a) ≤ length (now b)) × (length (now a) ≤ length (now p)) ⌝ }
+    ensures { λ r. ⌜ r ≡ distTo (now (p .entry)) (now (a .entry)) (now (b .entry)) (now (ms .entry)) (along (now (p .entry)) (now (a .entry)) (now (b .entry)) (now (ms .entry))) (length (now (ms .entry))) ⌝ }
+{
+    if ms.len() == 3 {
+        return deviation_three(
+            gap_at(p, a, b, ms[0]),
+            gap_at(p, a, b, ms[1]),
+            gap_at(p, a, b, ms[2]),
+        );
+    }
+    if ms.len() == 2 {
+        return deviation_two(gap_at(p, a, b, ms[0]), gap_at(p, a, b, ms[1]));
+    }
+    deviation_any(p, a, b, ms)
 }
 
 // Whether the `deviation` of p from the chord from a to b is within the tolerance: its root is not taken.

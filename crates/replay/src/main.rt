@@ -1,208 +1,105 @@
 // Runs the calls of docs/INTERFACE.md's `replay`, a line each, and writes what each answered.
 mod answer;
-mod memory;
 mod session;
 
-use crate::answer::flush;
-use crate::memory::rest;
 use crate::session::Lent;
-use crate::session::any_line;
-use calltext::input::line_end;
-use calltext::input::to_front;
-use libc::STDIN_FILENO;
+use crate::session::done;
+use calltext::ask::Ask;
+use calltext::ask::read_ask;
+use calltext::memory::rest;
+use calltext::output::flush;
+use lines::line_end;
+use lines::read_more;
+use lines::to_front;
 ghost use Prim.Native.Nat.{ℕ, _+_, _-_, _<_, _≤_};
 ghost use lib.ListN.{length};
 ghost use mathlib.Core.Path.{_≡_};
 
-// Where reading stands: the unread bytes of the buffer are from `at` up to `end`; `line` counts the lines.
+// Where reading stands: the unread bytes of the buffer are from `at` up to `end`; `lines` were read, the last of
+// which asks for `ask`; `turns` are left.
 struct Window {
     at: usize,
     end: usize,
-    line: u64,
-    go: bool,
-}
-
-// Reads into buf after its first n bytes, and answers how many it has then.
-fn read_more(buf: &mut [u8], n: usize) -> usize
-    requires { ⌜ n ≤ length (now buf) ⌝ }
-    ensures { λ r. ⌜ (n ≤ r) × ((r ≤ length (now (buf .exit))) × (length (now (buf .exit)) ≡ length (now (buf .entry)))) ⌝ }
-{
-    let part = &mut buf[n..];
-    let got = io::read_full(STDIN_FILENO, part);
-    n + got
-}
-
-// The bytes that are not read yet go to the front, and more are read behind them.
-fn refill(w: Window, buf: &mut [u8]) -> Window
-    requires { ⌜ (w .at ≤ w .end) × (w .end ≤ length (now buf)) ⌝ }
-    ensures { λ r. ⌜ (r .at ≤ r .end) × (r .end ≤ length (now (buf .exit))) ⌝ }
-{
-    let n = to_front(buf, w.at, w.end);
-    let got = read_more(buf, n);
-    Window {
-        at: 0,
-        end: got,
-        line: w.line,
-        go: got > n,
-    }
+    lines: u64,
+    turns: u64,
+    ask: Ask,
 }
 
 fn next(n: u64) -> u64 {
     if n < 0xffff_ffff_ffff { n + 1 } else { n }
 }
 
-// Where the run stands: the window, the turns that are left, and what is lent.
-struct Stand {
-    at: usize,
-    end: usize,
-    line: u64,
-    turns: u64,
-    lent: Lent,
-}
-
-// The line that ends before place e, and on from there.
-fn take_line(
-    s: Stand,
-    e: usize,
-    buf: &[u8],
-    state: &mut [u64],
-    store: &mut [u64],
-    rows: &mut [u64],
-    old: &mut [u64],
-    out: &mut [u8],
-) -> Stand
-    requires { ⌜ (s .at < e) × ((e ≤ s .end) × (s .end ≤ length (now buf))) ⌝ }
-    requires { ⌜ (length (now old) ≡ 7488) × (length (now rows) ≡ 475136) ⌝ }
-    ensures { λ _. ⌜ length (now (rows .exit)) ≡ 475136 ⌝ }
-    ensures { λ _. ⌜ length (now (old .exit)) ≡ 7488 ⌝ }
+// The line that ends before place e.
+fn take_line(w: Window, e: usize, buf: &[u8], words: &mut [u64; 64]) -> Window
+    requires { ⌜ (w .at < e) × ((e ≤ w .end) × (w .end ≤ length (now buf))) ⌝ }
     ensures { λ r. ⌜ (r .at ≤ r .end) × (r .end ≤ length (now (buf .entry))) ⌝ }
 {
-    let at = s.at;
+    let at = w.at;
     let stop = e - 1;
-    let lent = s.lent;
-    let after = any_line(&buf[at..stop], s.line, lent, state, store, rows, old, out);
-    Stand {
+    let ask = read_ask(&buf[at..stop], words);
+    Window {
         at: e,
-        end: s.end,
-        line: next(s.line),
-        turns: s.turns,
-        lent: after,
+        end: w.end,
+        lines: next(w.lines),
+        turns: w.turns,
+        ask,
     }
 }
 
-// The end of the input: bytes that no LF ends are a line too.
-fn take_rest(
-    n: usize,
-    number: u64,
-    lent: Lent,
-    buf: &[u8],
-    state: &mut [u64],
-    store: &mut [u64],
-    rows: &mut [u64],
-    old: &mut [u64],
-    out: &mut [u8],
-) -> Lent
+// The end of the input: n bytes that no LF ends are a line too.
+fn take_rest(n: usize, lines: u64, buf: &[u8], words: &mut [u64; 64]) -> Window
     requires { ⌜ n ≤ length (now buf) ⌝ }
-    requires { ⌜ (length (now old) ≡ 7488) × (length (now rows) ≡ 475136) ⌝ }
-    ensures { λ _. ⌜ length (now (rows .exit)) ≡ 475136 ⌝ }
-    ensures { λ _. ⌜ length (now (old .exit)) ≡ 7488 ⌝ }
+    ensures { λ r. ⌜ (r .at ≤ r .end) × (r .end ≤ length (now (buf .entry))) ⌝ }
 {
     if n == 0 {
-        return lent;
+        return at_front(0, lines, 0);
     }
-    any_line(&buf[0..n], number, lent, state, store, rows, old, out)
-}
-
-fn read_on(
-    s: Stand,
-    buf: &mut [u8],
-    state: &mut [u64],
-    store: &mut [u64],
-    rows: &mut [u64],
-    old: &mut [u64],
-    out: &mut [u8],
-) -> Stand
-    requires { ⌜ (s .at ≤ s .end) × (s .end ≤ length (now buf)) ⌝ }
-    requires { ⌜ (length (now old) ≡ 7488) × (length (now rows) ≡ 475136) ⌝ }
-    ensures { λ _. ⌜ length (now (rows .exit)) ≡ 475136 ⌝ }
-    ensures { λ _. ⌜ length (now (old .exit)) ≡ 7488 ⌝ }
-    ensures { λ r. ⌜ (r .at ≤ r .end) × (r .end ≤ length (now (buf .exit))) ⌝ }
-{
-    let lent = s.lent;
-    let w = refill(
-        Window {
-            at: s.at,
-            end: s.end,
-            line: s.line,
-            go: true,
-        },
-        buf,
-    );
-    if w.go {
-        return Stand {
-            at: 0,
-            end: w.end,
-            line: s.line,
-            turns: s.turns,
-            lent,
-        };
-    }
-    let after = take_rest(w.end, s.line, lent, buf, state, store, rows, old, out);
-    Stand {
+    let ask = read_ask(&buf[0..n], words);
+    Window {
         at: 0,
         end: 0,
-        line: s.line,
+        lines: next(lines),
         turns: 0,
-        lent: after,
+        ask,
     }
+}
+
+// No line was read, and the unread bytes are at the front.
+fn at_front(end: usize, lines: u64, turns: u64) -> Window
+    ensures { λ r. ⌜ (r .at ≤ r .end) × (r .end ≡ end) ⌝ }
+{
+    Window {
+        at: 0,
+        end,
+        lines,
+        turns,
+        ask: Ask::Nothing,
+    }
+}
+
+// The bytes that are not read yet go to the front, and more are read behind them.
+fn read_on(w: Window, buf: &mut [u8], words: &mut [u64; 64]) -> Window
+    requires { ⌜ (w .at ≤ w .end) × (w .end ≤ length (now buf)) ⌝ }
+    ensures { λ r. ⌜ (r .at ≤ r .end) × (r .end ≤ length (now (buf .exit))) ⌝ }
+{
+    let n = to_front(buf, w.at, w.end);
+    let came = read_more(buf, n);
+    if came.n > n {
+        return at_front(came.n, w.lines, w.turns);
+    }
+    take_rest(n, w.lines, buf, words)
 }
 
 // One turn: a whole line that is in the buffer, or a read.
-fn turn(
-    s: Stand,
-    buf: &mut [u8],
-    state: &mut [u64],
-    store: &mut [u64],
-    rows: &mut [u64],
-    old: &mut [u64],
-    out: &mut [u8],
-) -> Stand
-    requires { ⌜ (s .at ≤ s .end) × (s .end ≤ length (now buf)) ⌝ }
-    requires { ⌜ (length (now old) ≡ 7488) × (length (now rows) ≡ 475136) ⌝ }
-    ensures { λ _. ⌜ length (now (rows .exit)) ≡ 475136 ⌝ }
-    ensures { λ _. ⌜ length (now (old .exit)) ≡ 7488 ⌝ }
+fn turn(w: Window, buf: &mut [u8], words: &mut [u64; 64]) -> Window
+    requires { ⌜ (w .at ≤ w .end) × (w .end ≤ length (now buf)) ⌝ }
     ensures { λ r. ⌜ (r .at ≤ r .end) × (r .end ≤ length (now (buf .exit))) ⌝ }
 {
-    let e = line_end(buf, s.at, s.end);
-    if e <= s.end {
-        return take_line(s, e, buf, state, store, rows, old, out);
+    let e = line_end(buf, w.at, w.end);
+    if e <= w.end {
+        return take_line(w, e, buf, words);
     }
-    read_on(s, buf, state, store, rows, old, out)
-}
-
-// The same over arrays, whose lengths need no word in a loop.
-fn turn_all(
-    s: Stand,
-    buf: &mut [u8; 65536],
-    state: &mut [u64; 64],
-    store: &mut [u64; 7424],
-    rows: &mut [u64; 475136],
-    old: &mut [u64; 7488],
-    out: &mut [u8; 65536],
-) -> Stand
-    requires { ⌜ (s .at ≤ s .end) × ((s .end ≤ 65536) × (0 < s .turns)) ⌝ }
-    ensures { λ r. ⌜ (r .at ≤ r .end) × ((r .end ≤ 65536) × (r .turns < s .turns)) ⌝ }
-{
-    let left = s.turns - 1;
-    let r = turn(s, buf, state, store, rows, old, out);
-    let lent = r.lent;
-    Stand {
-        at: r.at,
-        end: r.end,
-        line: r.line,
-        turns: turns_left(r.turns, left),
-        lent,
-    }
+    read_on(w, buf, words)
 }
 
 // None once the input has ended.
@@ -212,19 +109,69 @@ fn turns_left(wanted: u64, left: u64) -> u64
     if wanted < left { wanted } else { left }
 }
 
+// A turn over an array, whose length needs no word in a loop.
+fn turn_all(w: Window, buf: &mut [u8; 65536], words: &mut [u64; 64]) -> Window
+    requires { ⌜ (w .at ≤ w .end) × ((w .end ≤ 65536) × (0 < w .turns)) ⌝ }
+    ensures { λ r. ⌜ (r .at ≤ r .end) × ((r .end ≤ 65536) × (r .turns < w .turns)) ⌝ }
+{
+    let left = w.turns - 1;
+    let r = turn(w, buf, words);
+    let ask = r.ask;
+    Window {
+        at: r.at,
+        end: r.end,
+        lines: r.lines,
+        turns: turns_left(r.turns, left),
+        ask,
+    }
+}
+
+// Where the run stands: where reading does, and what is lent.
+struct Stand {
+    window: Window,
+    lent: Lent,
+}
+
+// One turn, and what its line asks for.
+fn step(
+    s: Stand,
+    buf: &mut [u8; 65536],
+    state: &mut [u64; 64],
+    store: &mut [u64; 7424],
+    rows: &mut [u64; 475136],
+    old: &mut [u64; 7488],
+    out: &mut [u8; 65536],
+) -> Stand
+    requires { ⌜ (s .window .at ≤ s .window .end) × ((s .window .end ≤ 65536) × (0 < s .window .turns)) ⌝ }
+    ensures { λ r. ⌜ (r .window .at ≤ r .window .end) × ((r .window .end ≤ 65536) × (r .window .turns < s .window .turns)) ⌝ }
+{
+    let mut words = [0u64; 64];
+    let window = turn_all(s.window, buf, &mut words);
+    let ask = window.ask;
+    let lent = done(
+        ask,
+        window.lines,
+        &words,
+        s.lent,
+        state,
+        store,
+        rows,
+        old,
+        out,
+    );
+    Stand { window, lent }
+}
+
+// All memory is lent at first.
 fn begun() -> Stand
-    ensures { λ r. ⌜ (r .at ≤ r .end) × (r .end ≤ 65536) ⌝ }
+    ensures { λ r. ⌜ (r .window .at ≤ r .window .end) × (r .window .end ≤ 65536) ⌝ }
 {
     Stand {
-        at: 0,
-        end: 0,
-        line: 1,
-        turns: u64::MAX,
+        window: at_front(0, 0, u64::MAX),
         lent: Lent {
             state: 44,
             store: 7424,
             rows: 475136,
-            read: true,
             at: 0,
         },
     }
@@ -244,8 +191,8 @@ fn main() {
     let mut rows = [0u64; 475136];
     rest(&mut rows, 475136);
     let mut s = begun();
-    while s.turns > 0 {
-        s = turn_all(
+    while s.window.turns > 0 {
+        s = step(
             s,
             &mut buf,
             &mut state,

@@ -4,7 +4,7 @@ use mathlib.Core.Path.{_≡_, refl, sym, _∙_, ap, subst}
 use mathlib.Core.Bool.{Bool, true, false, cond, false≢true}
 use mathlib.Core.List.{List, [], _∷_, _++_, append-assoc}
 use native.Mathlib.Omega.{arith}
-use native.Mathlib.Nat.{lt-of-lt-of-le, mod-lt, add-div-right, div-div-eq-div-mul, div-eq-of-lt, pow-suc, pow-succ'}
+use native.Mathlib.Nat.{lt-of-lt-of-le, mod-lt, mod-eq-of-lt, add-div-right, div-div-eq-div-mul, div-eq-of-lt, pow-suc, pow-succ'}
 use lib.Bits.{bitAnd, and-step, and-self}
 use lib.Count.{trailingZeros, under}
 use lib.ListN.{length, getD, set, take, drop, length-set, length-append}
@@ -26,11 +26,11 @@ lowest p = trailingZeros 64 p
 abbrev pub others : ℕ → ℕ
 others p = p - 2 ^ lowest p
 
-has-half : (p k : ℕ) → has p (suc k) ≡ has (p / 2) k
+pub has-half : (p k : ℕ) → has p (suc k) ≡ has (p / 2) k
 unfolding has
 has-half p k = ap (λ (n : ℕ). eqb (n % 2) 1) (ap (λ (n : ℕ). p / n) (pow-succ' 2 k) ∙ sym (div-div-eq-div-mul p 2 (2 ^ k)))
 
-has-0 : (p : ℕ) → p % 2 ≡ 1 → has p 0 ≡ true
+pub has-0 : (p : ℕ) → p % 2 ≡ 1 → has p 0 ≡ true
 unfolding has
 has-0 p e = let f : p / 2 ^ 0 % 2 ≡ 1 = omega (arith, e) in eq-eqb (p / 2 ^ 0 % 2) 1 f
 
@@ -42,7 +42,7 @@ pub record Lowest (p k : ℕ) : Type 0 where
 odd-lowest : (p : ℕ) → p % 2 ≡ 1 → Lowest p 0
 odd-lowest p e = record { there = has-0 p e; first = λ j h. absurd (omega arith) }
 
-not-0 : (p : ℕ) → p % 2 ≡ 0 → has p 0 ≡ false
+pub not-0 : (p : ℕ) → p % 2 ≡ 0 → has p 0 ≡ false
 unfolding has
 not-0 p e = let f : p / 2 ^ 0 % 2 ≡ 1 → ⊥ = λ g. omega (arith, e, g) in ne-eqb (p / 2 ^ 0 % 2) 1 f
 
@@ -113,7 +113,7 @@ out-other p k j h d =
     let e : p - 2 ^ k + 2 ^ k ≡ p = omega (arith, bit-le p k h) in
     sym (add-other (p - 2 ^ k) k j (out-same p k h) d) ∙ ap (λ (n : ℕ). has n j) e
 
-has-mod : (p n k : ℕ) → k < n → has (p % 2 ^ n) k ≡ has p k
+pub has-mod : (p n k : ℕ) → k < n → has (p % 2 ^ n) k ≡ has p k
 has-mod p n k l = ap (λ (m : ℕ). has m k) (sym (mask-has p n)) ∙ has-mask (has p) n k l
 
 pub below-bits : (p n k : ℕ) → p < 2 ^ n → has p k ≡ true → k < n
@@ -176,6 +176,10 @@ pub record Walking (p n : ℕ) (P : ℕ → Type 0) (rest : ℕ) : Type 0 where
 module _ {p n : ℕ} {P : ℕ → Type 0} where
   pub walking-first : n ≤ 64 → ((k : ℕ) → k < n → has p k ≡ false → P k) → Walking p n P (p % 2 ^ n)
   walking-first m d = record { bits = bits-first m; done = λ k b h. d k b (sym (has-mod p n k b) ∙ h) }
+
+  -- from all of p's bits on, where none is past n
+  pub walking-all : n ≤ 64 → p < 2 ^ n → ((k : ℕ) → k < n → has p k ≡ false → P k) → Walking p n P p
+  walking-all m s d = subst (Walking p n P) (mod-eq-of-lt s) (walking-first m d)
 
   pub walking-more : {rest k next : ℕ} → Walking p n P rest → 0 < rest → k ≡ lowest rest → next ≡ others rest → P k → Walking p n P next
   walking-more {rest} {k} {next} w h e f q = record {

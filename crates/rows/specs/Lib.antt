@@ -4,4 +4,5 @@ pub mod KindCase
 pub mod Truth
 pub mod Masks
 pub mod BitWalk
+pub mod FirstCells
 pub mod RowLaws

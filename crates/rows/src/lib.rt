@@ -1,12 +1,13 @@
 // Rows as words: what an incoming row is refused for, what a motion cell says, and rows that go out.
 ghost use mathlib.Core.Path.{_≡_};
-ghost use mathlib.Core.Bool.{true, cond};
+ghost use mathlib.Core.Bool.{true, cond, _&&_};
 ghost use mathlib.Core.List.{[], _∷_};
 ghost use Prim.Native.Nat.{_+_, _<_, _≤_, _^_};
 ghost use lib.ListN.{length};
 ghost use Rattle.floats.specs.Lists.{upto, spliced};
 ghost use Rattle.rows.specs.Codes.{axisCodes, cells, wCells, rowWords, planeOk, kindOf};
 ghost use Rattle.rows.specs.Row.{has, within, above1000, shapeOk, numbersOk, turnOk, rowCheck, cell, shown, axesOf, outRow, rides, madeRow};
+ghost use Rattle.rows.specs.FirstCells.{maskOk};
 ghost use Rattle.rows.specs.KindCase.{kindCase};
 ghost use Rattle.rows.specs.RowLaws.{cellWord, shownWord, madeHas, madeWord, MadeOf};
 ghost use Rattle.rows.specs.Masks.{maskSum};
@@ -29,6 +30,9 @@ pub const CELLS: usize = 23;
 pub const W_CELLS: usize = 6;
 
 pub const ROW_WORDS: usize = 29;
+
+// The mask of the cells X, Y and Z.
+const XYZ: u64 = 7;
 
 pub fn has_bit(p: u64, k: u64) -> bool
     requires { ⌜ k < 64 ⌝ }
@@ -91,12 +95,12 @@ pub fn other_bits(p: u64) -> u64
     p & (p - 1)
 }
 
-// Whether the cells that are there are in range. An absent cell is not read.
-pub fn numbers_ok(row: &[u64]) -> bool
-    requires { ⌜ length (now row) ≡ rowWords ⌝ }
-    ensures { λ r. ⌜ r ≡ numbersOk (now (row .entry)) ⌝ }
+// Whether the cells of a mask are in range. No other cell is read.
+fn cells_ok(row: &[u64], mask: u64) -> bool
+    requires { ⌜ (length (now row) ≡ rowWords) × (mask < 2 ^ cells) ⌝ }
+    ensures { λ r. ⌜ r ≡ maskOk (now (row .entry)) mask ⌝ }
 {
-    let mut rest = row[5] % 0x80_0000;
+    let mut rest = mask;
     while rest != 0 {
         if !within_range(row[W_CELLS + lowest_bit(rest)]) {
             return false;
@@ -104,6 +108,34 @@ pub fn numbers_ok(row: &[u64]) -> bool
         rest = other_bits(rest);
     }
     true
+}
+
+fn three_within(x: u64, y: u64, z: u64) -> bool
+    ensures { λ r. ⌜ r ≡ (within x && (within y && within z)) ⌝ }
+{
+    if !within_range(x) {
+        return false;
+    }
+    if !within_range(y) {
+        return false;
+    }
+    within_range(z)
+}
+
+// Whether the cells that are there are in range. An absent cell is not read. Most rows have X, Y and Z: they are tested
+// with no walk over bits.
+pub fn numbers_ok(row: &[u64]) -> bool
+    requires { ⌜ length (now row) ≡ rowWords ⌝ }
+    ensures { λ r. ⌜ r ≡ numbersOk (now (row .entry)) ⌝ }
+{
+    let present = row[5] % 0x80_0000;
+    if present % 8 != XYZ {
+        return cells_ok(row, present);
+    }
+    if !three_within(row[W_CELLS], row[W_CELLS + 1], row[W_CELLS + 2]) {
+        return false;
+    }
+    cells_ok(row, present - XYZ)
 }
 
 pub fn turn_ok(row: &[u64]) -> bool

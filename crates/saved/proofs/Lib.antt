@@ -1,4 +1,1 @@
-pub mod Steps
 pub mod Marks
-pub mod Tracks
-pub mod Writing

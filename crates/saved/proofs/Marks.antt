@@ -16,7 +16,7 @@ use Rattle.rows.specs.Truth.{by-bit, and-t, and-i, and-left, or-t, or-f, all-in
 use Rattle.rows.specs.Masks.{maskSum, mask-same, mask-has, has-none}
 use Rattle.saved.specs.State.{axisCount, codeOk, withBit, pointAtOk, pointOk}
 use Rattle.saved.specs.StateLaws.{with-same, with-other, with-lt, member-geometric}
-use Rattle.saved.specs.Own.{geometricMask, PointOf, mask-has-axis}
+use Rattle.saved.specs.Axes.{geometricMask, PointOf, mask-has-axis}
 use Rattle.saved.specs.Walk.{from-here, member-end}
 
 -- ---- the codes of a list's first i

@@ -1,6 +1,4 @@
-// The saved state: its check, what a block leaves in it and in the store, and the block's own rows.
-pub mod own;
-pub mod push;
+// The saved state: its words and its check.
 pub mod state;
 
 // The words of a saved state.

@@ -12,23 +12,25 @@ use crate::W_START;
 use rows::AXIS_CODES;
 use rows::LAST_CODE;
 use rows::ROW_WORDS;
-use rows::check_row;
 use rows::has_bit;
 use rows::lowest_bit;
+use rows::numbers_ok;
 use rows::other_bits;
+use rows::shape_ok;
+use rows::turn_ok;
 use rows::within_range;
 ghost use mathlib.Core.Path.{_≡_};
 ghost use mathlib.Core.Bool.{true, _&&_, not, cond};
 ghost use Prim.Native.Nat.{ℕ, _+_, _*_, _^_, _<_, _≤_};
 ghost use lib.ListN.{length, getD};
-ghost use lib.Dec.{leb, ltb};
+ghost use lib.Dec.{leb, ltb, eqb};
 ghost use Rattle.floats.specs.Lists.{member};
 ghost use Rattle.rows.specs.Codes.{axisCodes, lastCode, rowWords, wStart, stateWords, isSpline};
-ghost use Rattle.rows.specs.Row.{has, all};
+ghost use Rattle.rows.specs.Row.{has, all, rowCheck};
 ghost use Rattle.rows.specs.Masks.{maskSum};
 ghost use Rattle.saved.specs.State.{tolOk, codesOk, axesOk, geometric, pointAtOk, pointOk, heldOk, stateOk, heldRowOk, savedCheck, withBit, placed};
 ghost use Rattle.saved.specs.StateLaws.{Listed, rowFits};
-ghost use Rattle.saved.specs.Own.{geometricMask, PointOf};
+ghost use Rattle.saved.specs.Axes.{geometricMask, PointOf};
 
 pub fn tol_ok(x: u64) -> bool
     ensures { λ r. ⌜ r ≡ tolOk x ⌝ }
@@ -227,11 +229,24 @@ pub fn state_ok(state: &[u64]) -> bool
     held_ok(state)
 }
 
+// Whether a row could be pushed. The checks one by one, as the compiler then joins them to the loop over the held rows.
+fn row_ok(row: &[u64]) -> bool
+    ensures { λ r. ⌜ r ≡ eqb (rowCheck (now (row .entry))) 0 ⌝ }
+{
+    if !shape_ok(row) {
+        return false;
+    }
+    if !numbers_ok(row) {
+        return false;
+    }
+    turn_ok(row)
+}
+
 // Whether a row could be pushed, and has no motion or this one.
 fn row_fits(row: &[u64], motion: u64) -> bool
     ensures { λ r. ⌜ r ≡ rowFits motion (now (row .entry)) ⌝ }
 {
-    if check_row(row) != 0 {
+    if !row_ok(row) {
         return false;
     }
     if row[1] == 0 {

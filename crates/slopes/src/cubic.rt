@@ -1,5 +1,6 @@
 // The slopes of the natural cubic spline: flatten.rs's `natural_cubic_slopes`.
 use crate::sizes::MOST_POINTS;
+use crate::sizes::SMALL_POINTS;
 use crate::steps::secant_at;
 use crate::steps::step_at;
 use crate::steps::straight_slopes;
@@ -70,6 +71,48 @@ fn slopes(ts: &[f64], ys: &[f64], m: usize, s: &[f64], out: &mut [f64])
     out[m] = secant_at(ts, ys, j) + step_at(ts, j) * (s[j] + 2.0 * s[m]) / 6.0;
 }
 
+// The slopes at the m + 1 knots, with room for what is found on the way.
+fn bent_in(
+    ts: &[f64],
+    ys: &[f64],
+    m: usize,
+    d: &mut [f64],
+    r: &mut [f64],
+    s: &mut [f64],
+    out: &mut [f64],
+)
+    requires { ⌜ (0 < m) × ((m < length (now ts)) × ((m < length (now ys)) × (m < length (now out)))) ⌝ }
+    requires { ⌜ (m < length (now d)) × ((m < length (now r)) × (m < length (now s))) ⌝ }
+    ensures { λ _. ⌜ now (out .exit) ≡ filled (bent (now (ts .entry)) (now (ys .entry)) m) (m + 1) (now (out .entry)) ⌝ }
+{
+    forward(ts, ys, m, d, r);
+    backward(ts, ys, m, d, r, s);
+    slopes(ts, ys, m, s, out);
+}
+
+// Few knots: less room to clear.
+fn bent_small(ts: &[f64], ys: &[f64], m: usize, out: &mut [f64])
+    requires { ⌜ (0 < m) × (m < 16) ⌝ }
+    requires { ⌜ (m < length (now ts)) × ((m < length (now ys)) × (m < length (now out))) ⌝ }
+    ensures { λ _. ⌜ now (out .exit) ≡ filled (bent (now (ts .entry)) (now (ys .entry)) m) (m + 1) (now (out .entry)) ⌝ }
+{
+    let mut d = [0.0f64; SMALL_POINTS];
+    let mut r = [0.0f64; SMALL_POINTS];
+    let mut s = [0.0f64; SMALL_POINTS];
+    bent_in(ts, ys, m, &mut d, &mut r, &mut s, out);
+}
+
+fn bent_large(ts: &[f64], ys: &[f64], m: usize, out: &mut [f64])
+    requires { ⌜ (0 < m) × (m < 257) ⌝ }
+    requires { ⌜ (m < length (now ts)) × ((m < length (now ys)) × (m < length (now out))) ⌝ }
+    ensures { λ _. ⌜ now (out .exit) ≡ filled (bent (now (ts .entry)) (now (ys .entry)) m) (m + 1) (now (out .entry)) ⌝ }
+{
+    let mut d = [0.0f64; MOST_POINTS];
+    let mut r = [0.0f64; MOST_POINTS];
+    let mut s = [0.0f64; MOST_POINTS];
+    bent_in(ts, ys, m, &mut d, &mut r, &mut s, out);
+}
+
 // The slopes at n knots, from 2 to 257 of them.
 pub fn natural_cubic_slopes(ts: &[f64], ys: &[f64], n: usize, out: &mut [f64])
     requires { ⌜ (2 ≤ n) × (n ≤ 257) ⌝ }
@@ -78,13 +121,9 @@ pub fn natural_cubic_slopes(ts: &[f64], ys: &[f64], n: usize, out: &mut [f64])
 {
     if n == 2 {
         straight_slopes(ts, ys, out);
+    } else if n <= SMALL_POINTS {
+        bent_small(ts, ys, n - 1, out);
     } else {
-        let m = n - 1;
-        let mut d = [0.0f64; MOST_POINTS];
-        let mut r = [0.0f64; MOST_POINTS];
-        let mut s = [0.0f64; MOST_POINTS];
-        forward(ts, ys, m, &mut d, &mut r);
-        backward(ts, ys, m, &d, &r, &mut s);
-        slopes(ts, ys, m, &s, out);
+        bent_large(ts, ys, n - 1, out);
     }
 }

@@ -20,11 +20,11 @@ use Rattle.rows.specs.Codes.{rowWords, geometricOf}
 use Rattle.rows.specs.Row.{has, shown, hasPoint}
 use Rattle.rows.specs.Masks.{maskSum, has-mask, mask-lt, has-past, member-keep}
 use Rattle.metric.specs.Below.{Below}
-use Rattle.curves.specs.declared.Shape.{Shape}
-use Rattle.curves.specs.Walks.{knotRoom, controlRoom}
+use Rattle.walks.specs.declared.Shape.{Shape}
+use Rattle.walks.specs.Walks.{encode}
 use Rattle.curves.specs.Ready.{Ready}
 use Rattle.curves.specs.Lefts.{Remembers}
-use Rattle.curves.specs.Runs.{curveRuns, encode}
+use Rattle.curves.specs.Runs.{curveRuns}
 use Rattle.gather.specs.Points.{Spline, channels, channelsFrom, pointRows, startPoint, startValue, pointsFrom, metricOf, weightOf, blockAt, splineOf}
 use Rattle.gather.specs.Append.{Appended}
 use Rattle.gather.specs.Flat.{Sized, sized-cons, flat-row, flatten-append, length-flatten}
@@ -74,8 +74,8 @@ pub record Curved (n ch : ℕ) (ms : List ℕ) (pts ws : List Float) : Type 0 wh
   pub few : n ≤ 257
   pub narrow : ch ≤ 10
   pub metric : Below ms ch
-  pub points : 2570 ≤ length pts
-  pub weights : 257 ≤ length ws
+  pub points : n * ch ≤ length pts
+  pub weights : n ≤ length ws
 
 -- where the channels lie in a sample, and what every row has to know
 abbrev pub placesOf : List ℕ → List ℕ
@@ -105,15 +105,13 @@ pub record Counted (s : Spline) (f : ℕ → List ℕ) (held : ℕ) (counts : Li
   pub place : total ≡ placeTo (s .axes) counts f held
   pub rows : total .rows ≡ length (flatten (splineGroups s))
 
--- the arrays that an emission is planned in
-pub record Rooms (chans ms : List ℕ) (pts ws ks cs : List Float) (counts : List ℕ) : Type 0 where
-  pub axes : 10 ≤ length chans
-  pub metric : 10 ≤ length ms
-  pub points : 2570 ≤ length pts
-  pub weights : 257 ≤ length ws
-  pub knots : knotRoom ≤ length ks
-  pub controls : controlRoom ≤ length cs
-  pub blocks : 256 ≤ length counts
+-- the arrays that an emission of so many held blocks works in
+pub record Rooms (held : ℕ) (pts ws ks cs : List Float) (counts : List ℕ) : Type 0 where
+  pub points : (held + 1) * 10 ≤ length pts
+  pub weights : held + 1 ≤ length ws
+  pub knots : 2 * (held + 1) ≤ length ks
+  pub controls : 20 * (held + 1) ≤ length cs
+  pub blocks : held ≤ length counts
   pub few : Few counts
 
 -- an emission is gathered, prepared and counted
@@ -218,16 +216,22 @@ gathered-is axes start blocks chans0 chans ms0 ms pts ws ch m n o wide a b c =
     zero-plus : (k : ℕ) → 0 + k ≡ k
     zero-plus k = omega arith
 
-pub curved-is : (gs : List ℕ) (start : ℕ → Option ℕ) (f : ℕ → List ℕ) (held : ℕ) (g : Curve) (chans ms : List ℕ) (pts ws : List Float) → held ≤ 256 → Gathered gs start (upto f held) g chans ms pts ws → 2570 ≤ length pts → 257 ≤ length ws
+-- a curve of held blocks has at most a point for each, and the start
+pub curve-few : (gs : List ℕ) (start : ℕ → Option ℕ) (f : ℕ → List ℕ) (held : ℕ) (g : Curve) (chans ms : List ℕ) (pts ws : List Float) → Gathered gs start (upto f held) g chans ms pts ws → g .n ≤ held + 1
+curve-few gs start f held g chans ms pts ws h = omega (arith, h .count, keep-upto-most (hasPoint gs) f held)
+
+pub curved-is : (gs : List ℕ) (start : ℕ → Option ℕ) (f : ℕ → List ℕ) (held : ℕ) (g : Curve) (chans ms : List ℕ) (pts ws : List Float) → held ≤ 256 → Gathered gs start (upto f held) g chans ms pts ws → (held + 1) * 10 ≤ length pts → held + 1 ≤ length ws
     → Curved (g .n) (g .ch) (take (g .metric) ms) pts ws
-curved-is gs start f held g chans ms pts ws many h lp lw = record {
-  some = omega (arith, h .count);
-  few = omega (arith, h .count, keep-upto-most (hasPoint gs) f held);
-  narrow = h .narrow;
-  metric = rw (h .metric, h .ch) (metric-below (channelsFrom gs [] (upto f held)));
-  points = lp;
-  weights = lw;
-}
+curved-is gs start f held g chans ms pts ws many h lp lw =
+    let n : g .n ≤ held + 1 = curve-few gs start f held g chans ms pts ws h in
+    record {
+      some = omega (arith, h .count);
+      few = omega arith;
+      narrow = h .narrow;
+      metric = rw (h .metric, h .ch) (metric-below (channelsFrom gs [] (upto f held)));
+      points = le-trans (mul-le-mul {n₁ = g .n} {m₁ = g .ch} {n₂ = held + 1} {m₂ = 10} n (h .narrow)) lp;
+      weights = omega arith;
+    }
 
 -- ---- the runs
 pub runs-are : (motion degree : ℕ) (tol : Float) (axes : List ℕ) (start : ℕ) (words store : List ℕ) (held : ℕ) (g : Curve) (chans ms : List ℕ) (pts ws : List Float)
@@ -252,11 +256,6 @@ write-none motion degree ms tol pts ws ch n l h = spliced-none l 0 ∙ ap (splic
 pub count-none : (f : ℕ → ℕ) (n : ℕ) (l : List ℕ) → n < 2 → l ≡ filled f (n - 1) l
 unfolding upto
 count-none f n l h = let e : n - 1 ≡ 0 = omega arith in rw e
-
-pub points-room : (n ch : ℕ) (pts ws : List Float) → n ≤ 257 → ch ≤ 10 → 2570 ≤ length pts → 257 ≤ length ws → (n * ch ≤ length pts) × (n ≤ length ws)
-points-room n ch pts ws l k p w =
-    let m : n * ch ≤ 257 * 10 = mul-le-mul {n₁ = n} {m₁ = ch} {n₂ = 257} {m₂ = 10} l k in
-    (omega arith, omega arith)
 
 pub few-runs : (motion degree : ℕ) (ms : List ℕ) (tol : Float) (pts ws : List Float) (ch n : ℕ) (l counts : List ℕ) → n ≤ 257 → Few l
     → counts ≡ filled (λ (i : ℕ). length (getD (curveRuns motion degree ms tol (rowsOf pts ch n) (take n ws)) i [])) (n - 1) l → Few counts
@@ -366,7 +365,7 @@ module _ (motion degree : ℕ) (tol : Float) (axes : List ℕ) (start : ℕ) (wo
   unfolding channels
   chans-few = channels-few axes (upto (blockAt store) held) (h .once)
 
-  pub counted-is : (counts : List ℕ) (total : Place) → 256 ≤ length counts
+  pub counted-is : (counts : List ℕ) (total : Place) → held ≤ length counts
       → ((j : ℕ) → j < length (runsOf (splineOf motion degree tol axes start words store held)) → getD counts j 0 ≡ length (getD (runsOf (splineOf motion degree tol axes start words store held)) j []))
       → total ≡ placeTo (geometricOf axes) counts (blockAt store) held → Counted (splineOf motion degree tol axes start words store held) (blockAt store) held counts total
   unfolding splineGroups
@@ -375,7 +374,7 @@ module _ (motion degree : ℕ) (tol : Float) (axes : List ℕ) (start : ℕ) (wo
       let o : Layout = layoutOf axes (channels s) (eqb motion 6) (length (runsOf s)) in
       let lies : Lies s (runsOf s) o (placesOf (channels s)) counts = laid-lies s axes (channels s) (eqb motion 6) (length (runsOf s)) refl refl chans-below counts refl refl ej in
       record {
-        known = omega (arith, h .many);
+        known = k;
         counted = ej;
         place = ep;
         rows = ap (λ (p : Place). p .rows) ep
@@ -493,7 +492,7 @@ module _ (motion degree : ℕ) (tol : Float) (axes : List ℕ) (start : ℕ) (wo
   points-is : g .n - 1 ≡ length (runsOf (splineOf motion degree tol axes start words store held))
   points-is = omega (arith, ga .count, many-runs motion degree tol axes start words store held h)
 
-  pub counted-of : (l counts : List ℕ) (total : Place) → 256 ≤ length counts
+  pub counted-of : (l counts : List ℕ) (total : Place) → held ≤ length counts
       → counts ≡ filled (λ (i : ℕ). length (getD (curveRuns motion degree (take (g .metric) ms) tol (rowsOf pts (g .ch) (g .n)) (take (g .n) ws)) i [])) (g .n - 1) l
       → total ≡ placeTo (geometricOf axes) counts (blockAt store) held → Counted (splineOf motion degree tol axes start words store held) (blockAt store) held counts total
   counted-of l counts total k e ep = counted-is motion degree tol axes start words store held h counts total k
@@ -503,7 +502,7 @@ module _ (motion degree : ℕ) (tol : Float) (axes : List ℕ) (start : ℕ) (wo
       ep
 
   pub planned-of : (ks cs : List Float) (shape : Shape) (l counts lefts : List ℕ) (total : Place) → Drawn motion degree (g .n) (g .ch) (take (g .metric) ms) pts ws shape ks cs
-      → Recalled (g .n) shape (take (g .metric) ms) tol pts ks cs lefts → 256 ≤ length counts → Few counts
+      → Recalled (g .n) shape (take (g .metric) ms) tol pts ks cs lefts → held ≤ length counts → Few counts
       → counts ≡ filled (λ (i : ℕ). length (getD (curveRuns motion degree (take (g .metric) ms) tol (rowsOf pts (g .ch) (g .n)) (take (g .n) ws)) i [])) (g .n - 1) l
       → total ≡ placeTo (geometricOf axes) counts (blockAt store) held
       → Planned motion degree tol axes start words store held chans ms pts ws ks cs counts lefts (record { curve = g; shape = shape; place = total })

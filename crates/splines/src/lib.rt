@@ -1,10 +1,9 @@
 // The emission of a held spline: its rows, counted and written.
-use curves::Shape;
 use curves::runs::count_runs;
 use curves::runs::prepare;
 use curves::runs::write_runs;
-use curves::sizes::CONTROL_ROOM;
-use curves::sizes::KNOT_ROOM;
+use curves::sizes::NUMBERS;
+use curves::sizes::SMALL_POINTS;
 use gather::channels::channels_of;
 use gather::metric::metric_of;
 use gather::points::points_of;
@@ -17,27 +16,35 @@ use rows::AXIS_CODES;
 use rows::ROW_WORDS;
 use slopes::sizes::MOST_POINTS;
 use spread::spread;
+use walks::Shape;
 ghost use mathlib.Core.Path.{_≡_};
 ghost use mathlib.Core.List.{[]};
-ghost use Prim.Native.Nat.{ℕ, _*_, _-_, _≤_};
+ghost use Prim.Native.Nat.{ℕ, _+_, _*_, _-_, _≤_};
 ghost use lib.ListN.{length, getD, take};
 ghost use Rattle.floats.specs.Lists.{upto, filled, flatten, rowsOf, spliced};
 ghost use Rattle.rows.specs.Codes.{rowWords, geometricOf};
 ghost use Rattle.rows.specs.Row.{shown};
 ghost use Rattle.gather.specs.Points.{blockAt, splineOf};
 ghost use Rattle.places.specs.Puts.{Spreads, heldWords};
-ghost use Rattle.curves.specs.Walks.{knotRoom, controlRoom};
-ghost use Rattle.curves.specs.Runs.{curveRuns, encode};
+ghost use Rattle.walks.specs.Walks.{encode};
+ghost use Rattle.curves.specs.Runs.{curveRuns};
 ghost use Rattle.splines.specs.Emission.{splineGroups, putWithin};
 ghost use Rattle.splines.specs.Emits.{Holds, Gathered, Curved, Drawn, Recalled, Rooms, Planned, placesOf, layoutOf, mostOwn};
 
-// The blocks that a store holds at most, and the numbers of their points and the start's.
-const MOST_BLOCKS: usize = 256;
+// The points of a middling spline, the curve's start among them.
+const MIDDLE_POINTS: usize = 64;
 
-const POINT_ROOM: usize = 2570;
+// What the tables take for each point: a knot and one more, or a chord sum and a time; its numbers and their slopes.
+const KNOTS: usize = 2;
 
-// Samples whose halvings are remembered; beyond it the writing tests again.
-const LEFTS_ROOM: usize = 32768;
+const CONTROLS: usize = 20;
+
+// Samples whose halvings are remembered, by the spline's size; beyond them the writing tests again.
+const SMALL_LEFTS: usize = 2048;
+
+const MIDDLE_LEFTS: usize = 8192;
+
+const MOST_LEFTS: usize = 32768;
 
 // The channels, the metric's places and the points of a gathered curve, by their number.
 pub struct Curve {
@@ -67,7 +74,7 @@ fn gather_curve(
 ) -> Curve
     requires { ⌜ Holds (now axes) (now words) (now store) held ⌝ }
     requires { ⌜ (10 ≤ length (now chans)) × (10 ≤ length (now ms)) ⌝ }
-    requires { ⌜ (2570 ≤ length (now pts)) × (257 ≤ length (now ws)) ⌝ }
+    requires { ⌜ ((held + 1) * 10 ≤ length (now pts)) × (held + 1 ≤ length (now ws)) ⌝ }
     ensures { λ r. ⌜ Gathered (geometricOf (now (axes .entry))) (shown start (now (words .entry))) (upto (blockAt (now (store .entry))) held) r (now (chans .exit)) (now (ms .exit)) (now (pts .exit)) (now (ws .exit)) ⌝ }
 {
     let ch = channels_of(axes, store, held, chans);
@@ -89,7 +96,7 @@ fn prepare_curve(
     cs: &mut [f64],
 ) -> Shape
     requires { ⌜ Curved n ch (now ms) (now pts) (now ws) ⌝ }
-    requires { ⌜ (knotRoom ≤ length (now ks)) × (controlRoom ≤ length (now cs)) ⌝ }
+    requires { ⌜ (2 * n ≤ length (now ks)) × (20 * n ≤ length (now cs)) ⌝ }
     ensures { λ r. ⌜ Drawn motion degree n ch (now (ms .entry)) (now (pts .entry)) (now (ws .entry)) r (now (ks .exit)) (now (cs .exit)) ⌝ }
 {
     if n < 2 {
@@ -98,6 +105,7 @@ fn prepare_curve(
             n: n,
             ch: ch,
             size: 0,
+            piece: 0,
         };
     }
     prepare(motion, degree, n, ch, ms, pts, ws, ks, cs)
@@ -233,7 +241,8 @@ fn plan_emission(
     lefts: &mut [u8],
 ) -> Plan
     requires { ⌜ Holds (now axes) (now words) (now store) held ⌝ }
-    requires { ⌜ Rooms (now chans) (now ms) (now pts) (now ws) (now ks) (now cs) (now counts) ⌝ }
+    requires { ⌜ (10 ≤ length (now chans)) × (10 ≤ length (now ms)) ⌝ }
+    requires { ⌜ Rooms held (now pts) (now ws) (now ks) (now cs) (now counts) ⌝ }
     ensures { λ r. ⌜ Planned motion degree tol (now (axes .entry)) start (now (words .entry)) (now (store .entry)) held (now (chans .exit)) (now (ms .exit)) (now (pts .exit)) (now (ws .exit)) (now (ks .exit)) (now (cs .exit)) (now (counts .exit)) (now (lefts .exit)) r ⌝ }
 {
     let curve = gather_curve(axes, start, words, store, held, chans, ms, pts, ws);
@@ -263,8 +272,8 @@ fn plan_emission(
 }
 
 // Counts the rows of the emission of a held spline and, where they and `own` more have room, writes them from the first
-// word of `rows` on.
-pub fn emit_within(
+// word of `rows` on; the rest is work memory, any number of halvings remembered.
+fn emit_in(
     motion: u64,
     degree: u64,
     tol: f64,
@@ -275,20 +284,21 @@ pub fn emit_within(
     held: usize,
     own: usize,
     rows: &mut [u64],
+    pts: &mut [f64],
+    ws: &mut [f64],
+    ks: &mut [f64],
+    cs: &mut [f64],
+    counts: &mut [usize],
+    lefts: &mut [u8],
 ) -> u64
     requires { ⌜ Holds (now axes) (now words) (now store) held ⌝ }
     requires { ⌜ own ≤ mostOwn ⌝ }
+    requires { ⌜ Rooms held (now pts) (now ws) (now ks) (now cs) (now counts) ⌝ }
     ensures { λ r. ⌜ r ≡ length (flatten (splineGroups (splineOf motion degree tol (now (axes .entry)) start (now (words .entry)) (now (store .entry)) held))) ⌝ }
     ensures { λ _. ⌜ now (rows .exit) ≡ putWithin own (flatten (splineGroups (splineOf motion degree tol (now (axes .entry)) start (now (words .entry)) (now (store .entry)) held))) (now (rows .entry)) ⌝ }
 {
     let mut chans = [0u64; AXIS_CODES];
     let mut ms = [0usize; AXIS_CODES];
-    let mut pts = [0.0f64; POINT_ROOM];
-    let mut ws = [0.0f64; MOST_POINTS];
-    let mut ks = [0.0f64; KNOT_ROOM];
-    let mut cs = [0.0f64; CONTROL_ROOM];
-    let mut counts = [0usize; MOST_BLOCKS];
-    let mut lefts = [0u8; LEFTS_ROOM];
     let power = degree as usize;
     let plan = plan_emission(
         motion,
@@ -301,12 +311,12 @@ pub fn emit_within(
         held,
         &mut chans,
         &mut ms,
-        &mut pts,
-        &mut ws,
-        &mut ks,
-        &mut cs,
-        &mut counts,
-        &mut lefts,
+        pts,
+        ws,
+        ks,
+        cs,
+        counts,
+        lefts,
     );
     let curve = plan.curve;
     let place = plan.place;
@@ -325,11 +335,11 @@ pub fn emit_within(
         n,
         ch,
         &ms[..m],
-        &pts,
-        &ws,
-        &ks,
-        &cs,
-        &lefts,
+        pts,
+        ws,
+        ks,
+        cs,
+        lefts,
         rows,
     );
     spread_curve(
@@ -337,11 +347,206 @@ pub fn emit_within(
         &chans[..ch],
         motion == 6,
         n - 1,
-        &counts,
+        counts,
         store,
         held,
         place,
         rows,
     );
     count as u64
+}
+
+// An emission in the work memory of a small spline.
+fn emit_small(
+    motion: u64,
+    degree: u64,
+    tol: f64,
+    axes: &[u64],
+    start: u64,
+    words: &[u64],
+    store: &[u64],
+    held: usize,
+    own: usize,
+    rows: &mut [u64],
+) -> u64
+    requires { ⌜ Holds (now axes) (now words) (now store) held ⌝ }
+    requires { ⌜ own ≤ mostOwn ⌝ }
+    requires { ⌜ held ≤ 15 ⌝ }
+    ensures { λ r. ⌜ r ≡ length (flatten (splineGroups (splineOf motion degree tol (now (axes .entry)) start (now (words .entry)) (now (store .entry)) held))) ⌝ }
+    ensures { λ _. ⌜ now (rows .exit) ≡ putWithin own (flatten (splineGroups (splineOf motion degree tol (now (axes .entry)) start (now (words .entry)) (now (store .entry)) held))) (now (rows .entry)) ⌝ }
+{
+    let mut pts = [0.0f64; NUMBERS * SMALL_POINTS];
+    let mut ws = [0.0f64; SMALL_POINTS];
+    let mut ks = [0.0f64; KNOTS * SMALL_POINTS];
+    let mut cs = [0.0f64; CONTROLS * SMALL_POINTS];
+    let mut counts = [0usize; SMALL_POINTS];
+    let mut lefts = [0u8; SMALL_LEFTS];
+    emit_in(
+        motion,
+        degree,
+        tol,
+        axes,
+        start,
+        words,
+        store,
+        held,
+        own,
+        rows,
+        &mut pts,
+        &mut ws,
+        &mut ks,
+        &mut cs,
+        &mut counts,
+        &mut lefts,
+    )
+}
+
+// An emission in the work memory of a middling spline.
+fn emit_middle(
+    motion: u64,
+    degree: u64,
+    tol: f64,
+    axes: &[u64],
+    start: u64,
+    words: &[u64],
+    store: &[u64],
+    held: usize,
+    own: usize,
+    rows: &mut [u64],
+) -> u64
+    requires { ⌜ Holds (now axes) (now words) (now store) held ⌝ }
+    requires { ⌜ own ≤ mostOwn ⌝ }
+    requires { ⌜ held ≤ 63 ⌝ }
+    ensures { λ r. ⌜ r ≡ length (flatten (splineGroups (splineOf motion degree tol (now (axes .entry)) start (now (words .entry)) (now (store .entry)) held))) ⌝ }
+    ensures { λ _. ⌜ now (rows .exit) ≡ putWithin own (flatten (splineGroups (splineOf motion degree tol (now (axes .entry)) start (now (words .entry)) (now (store .entry)) held))) (now (rows .entry)) ⌝ }
+{
+    let mut pts = [0.0f64; NUMBERS * MIDDLE_POINTS];
+    let mut ws = [0.0f64; MIDDLE_POINTS];
+    let mut ks = [0.0f64; KNOTS * MIDDLE_POINTS];
+    let mut cs = [0.0f64; CONTROLS * MIDDLE_POINTS];
+    let mut counts = [0usize; MIDDLE_POINTS];
+    let mut lefts = [0u8; MIDDLE_LEFTS];
+    emit_in(
+        motion,
+        degree,
+        tol,
+        axes,
+        start,
+        words,
+        store,
+        held,
+        own,
+        rows,
+        &mut pts,
+        &mut ws,
+        &mut ks,
+        &mut cs,
+        &mut counts,
+        &mut lefts,
+    )
+}
+
+// An emission in the work memory of any spline.
+fn emit_large(
+    motion: u64,
+    degree: u64,
+    tol: f64,
+    axes: &[u64],
+    start: u64,
+    words: &[u64],
+    store: &[u64],
+    held: usize,
+    own: usize,
+    rows: &mut [u64],
+) -> u64
+    requires { ⌜ Holds (now axes) (now words) (now store) held ⌝ }
+    requires { ⌜ own ≤ mostOwn ⌝ }
+    ensures { λ r. ⌜ r ≡ length (flatten (splineGroups (splineOf motion degree tol (now (axes .entry)) start (now (words .entry)) (now (store .entry)) held))) ⌝ }
+    ensures { λ _. ⌜ now (rows .exit) ≡ putWithin own (flatten (splineGroups (splineOf motion degree tol (now (axes .entry)) start (now (words .entry)) (now (store .entry)) held))) (now (rows .entry)) ⌝ }
+{
+    let mut pts = [0.0f64; NUMBERS * MOST_POINTS];
+    let mut ws = [0.0f64; MOST_POINTS];
+    let mut ks = [0.0f64; KNOTS * MOST_POINTS];
+    let mut cs = [0.0f64; CONTROLS * MOST_POINTS];
+    let mut counts = [0usize; MOST_POINTS];
+    let mut lefts = [0u8; MOST_LEFTS];
+    emit_in(
+        motion,
+        degree,
+        tol,
+        axes,
+        start,
+        words,
+        store,
+        held,
+        own,
+        rows,
+        &mut pts,
+        &mut ws,
+        &mut ks,
+        &mut cs,
+        &mut counts,
+        &mut lefts,
+    )
+}
+
+// Counts the rows of the emission of a held spline and, where they and `own` more have room, writes them from the first
+// word of `rows` on.
+pub fn emit_within(
+    motion: u64,
+    degree: u64,
+    tol: f64,
+    axes: &[u64],
+    start: u64,
+    words: &[u64],
+    store: &[u64],
+    held: usize,
+    own: usize,
+    rows: &mut [u64],
+) -> u64
+    requires { ⌜ Holds (now axes) (now words) (now store) held ⌝ }
+    requires { ⌜ own ≤ mostOwn ⌝ }
+    ensures { λ r. ⌜ r ≡ length (flatten (splineGroups (splineOf motion degree tol (now (axes .entry)) start (now (words .entry)) (now (store .entry)) held))) ⌝ }
+    ensures { λ _. ⌜ now (rows .exit) ≡ putWithin own (flatten (splineGroups (splineOf motion degree tol (now (axes .entry)) start (now (words .entry)) (now (store .entry)) held))) (now (rows .entry)) ⌝ }
+{
+    if held < SMALL_POINTS {
+        return emit_small(
+            motion,
+            degree,
+            tol,
+            axes,
+            start,
+            words,
+            store,
+            held,
+            own,
+            rows,
+        );
+    }
+    if held < MIDDLE_POINTS {
+        return emit_middle(
+            motion,
+            degree,
+            tol,
+            axes,
+            start,
+            words,
+            store,
+            held,
+            own,
+            rows,
+        );
+    }
+    emit_large(
+        motion,
+        degree,
+        tol,
+        axes,
+        start,
+        words,
+        store,
+        held,
+        own,
+        rows,
+    )
 }

@@ -1,3 +1,4 @@
+-- `fit::channel_at` meets its contract. Assumes nothing.
 use native.Mathlib.Omega.{arith}
 use Rattle.fit.proofs.Pieces.{cell-fits, channel-in, channel-out}
 use borrow.Author.Needs.{needs}

@@ -1,3 +1,4 @@
+-- `fit::channels` meets its contract. Assumes nothing.
 use Rattle.fit.proofs.Pieces.{sixteen}
 use Rattle.fit.proofs.channels.Statement.{statement}
 use Rattle.fit.proofs.channels.Tie as tie

@@ -1,10 +1,11 @@
+-- `fit::eval_fit` meets its contract. Assumes nothing.
 use Rattle.fit.proofs.Pieces.{fit-is}
 use borrow.Author.Needs.{needs}
 use Rattle.fit.proofs.eval_fit.Statement.{statement}
 use Rattle.fit.proofs.eval_fit.Tie as tie
 
-piece-requires : tie.Need-piece-requires
-piece-requires c κs = search needs
+piece-near-requires : tie.Need-piece-near-requires
+piece-near-requires c κs = search needs
 
 step-at-requires : tie.Need-step-at-requires
 step-at-requires c κs = search needs
@@ -25,13 +26,13 @@ channels-requires : tie.Need-channels-requires
 channels-requires c κs = search needs
 
 returns : tie.Need-returns
-returns c = fit-is _ _ _ _ _ _ (c .before .before .before .before .before .piece .ensures .0) (c .before .before .before .before .step-at .ensures) (c .before .before .clamp .ensures) (c .before .blend-at .ensures) (c .before .before .before .before .before .before .before .before .before .pre .narrow) (c .channels .ensures)
+returns c = fit-is _ _ _ _ _ _ (c .before .before .before .before .before .piece-near .ensures .0) (c .before .before .before .before .step-at .ensures) (c .before .before .clamp .ensures) (c .before .blend-at .ensures) (c .before .before .before .before .before .before .before .before .before .pre .narrow) (c .channels .ensures)
 
 pub eval-fit-spec : {M : Type 1} → statement M
 eval-fit-spec =
     tie.close
     (tie.spec
-    piece-requires
+    piece-near-requires
     step-at-requires
     mul-clamp
     shared-slice-read-clamp

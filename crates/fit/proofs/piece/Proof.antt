@@ -1,3 +1,4 @@
+-- `fit::piece` meets its contract. Assumes nothing.
 use Prim.Native.Nat.{_-_}
 use native.Mathlib.Omega.{arith}
 use Rattle.fit.proofs.Pieces.{Narrowed, narrowed-start, narrowed-low, narrowed-high, narrowed-end}

@@ -1,6 +1,7 @@
+-- `flatcsv::one_line` meets its contract. Assumes nothing.
 use mathlib.Core.Path.{sym, _∙_}
 use lib.Seq.{length-take-le}
-use Rattle.flatcsv.specs.Lengths.{end-in}
+use Rattle.csvout.specs.Lengths.{end-in}
 use borrow.Author.Needs.{needs}
 use Rattle.flatcsv.proofs.one_line.Statement.{statement}
 use Rattle.flatcsv.proofs.one_line.Tie as tie
@@ -14,12 +15,6 @@ enum-known-n c = search needs
 enum-told : tie.Need-enum-told
 enum-told c = search needs
 
-refuse-requires : tie.Need-refuse-requires
-refuse-requires c κs = search needs
-
-same-length : tie.Need-same-length
-same-length c = search needs
-
 returns : tie.Need-returns
 returns c = search needs
 
@@ -29,20 +24,8 @@ slice-aggregate-line-text c = sym (length-take-le _ _ (end-in _ (sym (c .before 
 line-text-requires : tie.Need-line-text-requires
 line-text-requires c κs = search needs
 
-same-length-2 : tie.Need-same-length-2
-same-length-2 c = search needs
-
-same-length-3 : tie.Need-same-length-3
-same-length-3 c = search needs
-
-same-length-4 : tie.Need-same-length-4
-same-length-4 c = search needs
-
-same-length-5 : tie.Need-same-length-5
-same-length-5 c = search needs
-
-same-length-6 : tie.Need-same-length-6
-same-length-6 c = search needs
+same-length : tie.Need-same-length
+same-length c = search needs
 
 returns-2 : tie.Need-returns-2
 returns-2 c = search needs
@@ -54,14 +37,8 @@ one-line-spec =
     text-end-requires
     enum-known-n
     enum-told
-    refuse-requires
-    same-length
     returns
     slice-aggregate-line-text
     line-text-requires
-    same-length-2
-    same-length-3
-    same-length-4
-    same-length-5
-    same-length-6
+    same-length
     returns-2)

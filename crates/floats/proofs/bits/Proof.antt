@@ -9,15 +9,12 @@ use Rattle.floats.proofs.bits.Tie as tie
 use Rattle.floats.proofs.bits.Reads as reads
 use Rattle.floats.proofs.bits.Lts as lts
 
--- src/lib.rt:18:45
 float-to-bits-result : tie.Need-float-to-bits-result
 float-to-bits-result c = not-nan _ (c .if1 .left)
 
--- src/lib.rt:15:1
 returns : tie.Need-returns
 returns c = sym (ap (toBits binary64) (differs-from-itself _ (passes _ (c .if1 .taken))) ∙ nan-bits)
 
--- src/lib.rt:15:1
 returns-2 : tie.Need-returns-2
 returns-2 c = search needs
 

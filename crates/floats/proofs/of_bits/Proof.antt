@@ -6,15 +6,12 @@ use Rattle.floats.proofs.of_bits.Tie as tie
 use Rattle.floats.proofs.of_bits.Reads as reads
 use Rattle.floats.proofs.of_bits.Lts as lts
 
--- src/lib.rt:28:9
 float-from-bits-result : tie.Need-float-from-bits-result
 float-from-bits-result c = low-not _ (c .if1 .left)
 
--- src/lib.rt:22:1
 returns : tie.Need-returns
 returns c = zero-over-zero ∙ sym (high-nan _ (c .if1 .taken))
 
--- src/lib.rt:22:1
 returns-2 : tie.Need-returns-2
 returns-2 c = search needs
 

@@ -1,96 +1,82 @@
-use mathlib.Core.Path.{_≡_, refl, _∙_}
-use Prim.Native.Nat.{_≤_, _-_, _<_}
+-- `metric::deviation2` meets its contract. Assumes nothing.
+use mathlib.Core.Path.{_∙_}
 use native.Mathlib.Omega.{arith}
-use lib.ListN.{length, getD}
 use Rattle.metric.specs.Below.{Below}
-use Rattle.metric.specs.Metric.{distTo}
-use Rattle.metric.proofs.Sums.{dist-more, deviation-is}
+use Rattle.metric.proofs.Sums.{two-is, three-is}
+use borrow.Author.Needs.{needs}
 use Rattle.metric.proofs.deviation2.Statement.{statement}
 use Rattle.metric.proofs.deviation2.Tie as tie
 
-abbrev Inv-loop : tie.InvT-loop
-Inv-loop p a b ms t sum₀ k₀ sum k = (k ≤ length ms) × (sum ≡ distTo p a b ms t k)
+shared-slice-read-gap-at : tie.Need-shared-slice-read-gap-at
+shared-slice-read-gap-at c = search needs
 
-abbrev μ-loop : tie.MeasureT-loop
-μ-loop p a b ms t sum₀ k₀ sum k = length ms - k
-
--- the channel of turn k is below the length of `a`
-below : (c : tie.In-loop Inv-loop μ-loop) → getD (c .before .before .before .before .before .before .before .args .ms .now) (c .before .loop .k) 0 < length (c .before .before .before .before .before .before .before .args .a .now)
+gap-at-requires : tie.Need-gap-at-requires
 unfolding Below
-below c = c .before .before .before .before .before .before .before .pre .0 (c .before .loop .k) (c .loop-test .taken)
+gap-at-requires c κs = (c .before .before .before .before .before .before .pre .0 0 (omega (arith, c .before .if1 .taken)), c .before .before .before .before .before .before .pre .1)
 
-foot-requires : tie.Need-foot-requires Inv-loop μ-loop
-foot-requires c κs = c .before .before .before .before .pre
+shared-slice-read-gap-at-2 : tie.Need-shared-slice-read-gap-at-2
+shared-slice-read-gap-at-2 c = search needs
 
-loop-holds : tie.Need-loop-holds Inv-loop μ-loop
-unfolding distTo
-loop-holds c = (omega arith, refl)
+gap-at-requires-2 : tie.Need-gap-at-requires-2
+unfolding Below
+gap-at-requires-2 c κs = (c .before .before .before .before .before .before .before .before .pre .0 1 (omega (arith, c .before .before .before .if1 .taken)), c .before .before .before .before .before .before .before .before .pre .1)
 
-mul-i : tie.Need-mul-i Inv-loop μ-loop
-mul-i c = omega arith
+shared-slice-read-gap-at-3 : tie.Need-shared-slice-read-gap-at-3
+shared-slice-read-gap-at-3 c = search needs
 
-shared-slice-read-i : tie.Need-shared-slice-read-i Inv-loop μ-loop
-shared-slice-read-i c = omega arith
+gap-at-requires-3 : tie.Need-gap-at-requires-3
+unfolding Below
+gap-at-requires-3 c κs = (c .before .before .before .before .before .before .before .before .before .before .pre .0 2 (omega (arith, c .before .before .before .before .before .if1 .taken)), c .before .before .before .before .before .before .before .before .before .before .pre .1)
 
-mul-m : tie.Need-mul-m Inv-loop μ-loop
-mul-m c = omega (arith, below (c .before))
+deviation-three-requires : tie.Need-deviation-three-requires
+deviation-three-requires c κs = search needs
 
-shared-slice-read-m : tie.Need-shared-slice-read-m Inv-loop μ-loop
-shared-slice-read-m c = omega (arith, below (c .before .before))
+returns : tie.Need-returns
+returns c = c .deviation-three .ensures ∙ three-is _ _ _ _ (c .before .before .before .before .before .gap-at .ensures) (c .before .before .before .gap-at2 .ensures) (c .before .gap-at3 .ensures) (c .before .before .before .before .before .before .before .if1 .taken)
 
-mul-m-2 : tie.Need-mul-m-2 Inv-loop μ-loop
-mul-m-2 c = omega (arith, below (c .before .before))
+shared-slice-read-gap-at-4 : tie.Need-shared-slice-read-gap-at-4
+shared-slice-read-gap-at-4 c = search needs
 
-shared-slice-read-m-2 : tie.Need-shared-slice-read-m-2 Inv-loop μ-loop
-shared-slice-read-m-2 c = omega (arith, below (c .before .before .before))
+gap-at-requires-4 : tie.Need-gap-at-requires-4
+unfolding Below
+gap-at-requires-4 c κs = (c .before .before .before .before .before .before .before .pre .0 0 (omega (arith, c .before .if2 .taken)), c .before .before .before .before .before .before .before .pre .1)
 
-mul-m-3 : tie.Need-mul-m-3 Inv-loop μ-loop
-mul-m-3 c = omega (arith, below (c .before .before .before))
+shared-slice-read-gap-at-5 : tie.Need-shared-slice-read-gap-at-5
+shared-slice-read-gap-at-5 c = search needs
 
-shared-slice-read-m-3 : tie.Need-shared-slice-read-m-3 Inv-loop μ-loop
-shared-slice-read-m-3 c = omega (arith, below (c .before .before .before .before))
+gap-at-requires-5 : tie.Need-gap-at-requires-5
+unfolding Below
+gap-at-requires-5 c κs = (c .before .before .before .before .before .before .before .before .before .pre .0 1 (omega (arith, c .before .before .before .if2 .taken)), c .before .before .before .before .before .before .before .before .before .pre .1)
 
-mul-m-4 : tie.Need-mul-m-4 Inv-loop μ-loop
-mul-m-4 c = omega (arith, below (c .before .before .before .before))
+deviation-two-requires : tie.Need-deviation-two-requires
+deviation-two-requires c κs = search needs
 
-shared-slice-read-m-4 : tie.Need-shared-slice-read-m-4 Inv-loop μ-loop
-shared-slice-read-m-4 c = omega (arith, below (c .before .before .before .before .before))
+returns-2 : tie.Need-returns-2
+returns-2 c = c .deviation-two .ensures ∙ two-is _ _ _ _ (c .before .before .before .gap-at4 .ensures) (c .before .gap-at5 .ensures) (c .before .before .before .before .before .if2 .taken)
 
-add-k : tie.Need-add-k Inv-loop μ-loop
-add-k c = omega arith
+deviation-any-requires : tie.Need-deviation-any-requires
+deviation-any-requires c κs = search needs
 
-loop-less : tie.Need-loop-less Inv-loop μ-loop
-loop-less c = omega arith
-
-loop-again : tie.Need-loop-again Inv-loop μ-loop
-loop-again c =
-    let inv = c .before .before .before .before .before .before .loop .inv in
-    (omega arith, dist-more _ _ _ _ _ _ (inv .1))
-
-returns : tie.Need-returns Inv-loop μ-loop
-returns c =
-    let at-loop = c .before in
-    deviation-is _ _ _ _ (omega arith) (at-loop .before .foot .ensures) (at-loop .loop .inv .1)
+returns-3 : tie.Need-returns-3
+returns-3 c = search needs
 
 pub deviation2-spec : {M : Type 1} → statement M
 deviation2-spec =
     tie.close
     (tie.spec
-    Inv-loop
-    μ-loop
-    foot-requires
-    loop-holds
-    mul-i
-    shared-slice-read-i
-    mul-m
-    shared-slice-read-m
-    mul-m-2
-    shared-slice-read-m-2
-    mul-m-3
-    shared-slice-read-m-3
-    mul-m-4
-    shared-slice-read-m-4
-    add-k
-    loop-less
-    loop-again
-    returns)
+    shared-slice-read-gap-at
+    gap-at-requires
+    shared-slice-read-gap-at-2
+    gap-at-requires-2
+    shared-slice-read-gap-at-3
+    gap-at-requires-3
+    deviation-three-requires
+    returns
+    shared-slice-read-gap-at-4
+    gap-at-requires-4
+    shared-slice-read-gap-at-5
+    gap-at-requires-5
+    deviation-two-requires
+    returns-2
+    deviation-any-requires
+    returns-3)

@@ -1,10 +1,11 @@
+-- `metric::foot` meets its contract. Assumes nothing.
 use mathlib.Core.Path.{_≡_, refl, _∙_}
-use Prim.Native.Nat.{_≤_, _-_, _<_}
+use Prim.Native.Nat.{_≤_, _-_}
 use native.Mathlib.Omega.{arith}
-use lib.ListN.{length, getD}
+use lib.ListN.{length}
 use Rattle.metric.specs.Below.{Below}
 use Rattle.metric.specs.Metric.{lenTo, dotTo}
-use Rattle.metric.proofs.Sums.{len-more, dot-more, along-yes, along-no}
+use Rattle.metric.proofs.Sums.{len-gap, dot-more, along-is}
 use Rattle.metric.proofs.foot.Statement.{statement}
 use Rattle.metric.proofs.foot.Tie as tie
 
@@ -14,44 +15,22 @@ Inv-loop p a b ms dot₀ len2₀ k₀ dot len2 k = (k ≤ length ms) × ((dot �
 abbrev μ-loop : tie.MeasureT-loop
 μ-loop p a b ms dot₀ len2₀ k₀ dot len2 k = length ms - k
 
--- the channel of turn k is below the length of `a`
-below : (c : tie.In-loop Inv-loop μ-loop) → getD (c .before .before .before .before .before .before .args .ms .now) (c .before .loop .k) 0 < length (c .before .before .before .before .before .before .args .a .now)
-unfolding Below
-below c = c .before .before .before .before .before .before .pre .0 (c .before .loop .k) (c .loop-test .taken)
-
 loop-holds : tie.Need-loop-holds Inv-loop μ-loop
 unfolding lenTo dotTo
 loop-holds c = (omega arith, (refl, refl))
 
-mul-i : tie.Need-mul-i Inv-loop μ-loop
-mul-i c = omega arith
+mul-gap-at : tie.Need-mul-gap-at Inv-loop μ-loop
+mul-gap-at c = omega arith
 
-shared-slice-read-i : tie.Need-shared-slice-read-i Inv-loop μ-loop
-shared-slice-read-i c = omega arith
+shared-slice-read-gap-at : tie.Need-shared-slice-read-gap-at Inv-loop μ-loop
+shared-slice-read-gap-at c = omega arith
 
-mul-d : tie.Need-mul-d Inv-loop μ-loop
-mul-d c = omega (arith, below (c .before))
+gap-at-requires : tie.Need-gap-at-requires Inv-loop μ-loop
+unfolding Below
+gap-at-requires c κs = (c .before .before .before .before .before .before .before .pre .0 (c .before .before .loop .k) (c .before .loop-test .taken), c .before .before .before .before .before .before .before .pre .1)
 
-shared-slice-read-d : tie.Need-shared-slice-read-d Inv-loop μ-loop
-shared-slice-read-d c = omega (arith, below (c .before .before))
-
-mul-d-2 : tie.Need-mul-d-2 Inv-loop μ-loop
-mul-d-2 c = omega (arith, below (c .before .before))
-
-shared-slice-read-d-2 : tie.Need-shared-slice-read-d-2 Inv-loop μ-loop
-shared-slice-read-d-2 c = omega (arith, below (c .before .before .before))
-
-mul-dot : tie.Need-mul-dot Inv-loop μ-loop
-mul-dot c = omega (arith, below (c .before .before .before))
-
-shared-slice-read-dot : tie.Need-shared-slice-read-dot Inv-loop μ-loop
-shared-slice-read-dot c = omega (arith, below (c .before .before .before .before))
-
-mul-dot-2 : tie.Need-mul-dot-2 Inv-loop μ-loop
-mul-dot-2 c = omega (arith, below (c .before .before .before .before))
-
-shared-slice-read-dot-2 : tie.Need-shared-slice-read-dot-2 Inv-loop μ-loop
-shared-slice-read-dot-2 c = omega (arith, below (c .before .before .before .before .before))
+toward-requires : tie.Need-toward-requires Inv-loop μ-loop
+toward-requires c κs = tt
 
 add-k : tie.Need-add-k Inv-loop μ-loop
 add-k c = omega arith
@@ -61,21 +40,15 @@ loop-less c = omega arith
 
 loop-again : tie.Need-loop-again Inv-loop μ-loop
 loop-again c =
-    let inv = c .before .before .before .before .before .before .loop .inv in
-    (omega arith, (dot-more _ _ _ _ _ (inv .1 .0), len-more _ _ _ _ (inv .1 .1)))
+    let inv = c .before .before .before .before .before .loop .inv in
+    let is-gap = c .before .before .gap-at .ensures in
+    (omega arith, (dot-more _ _ _ _ _ is-gap (inv .1 .0) (c .before .toward .ensures), len-gap (c .before .before .before .before .before .before .before .before .before .before .args .p .now) _ _ _ _ is-gap (inv .1 .1)))
 
-clamp-requires : tie.Need-clamp-requires Inv-loop μ-loop
-clamp-requires c κs = tt
+foot-of-requires : tie.Need-foot-of-requires Inv-loop μ-loop
+foot-of-requires c κs = tt
 
 returns : tie.Need-returns Inv-loop μ-loop
-returns c =
-    let at-loop = c .before .before .before in
-    c .clamp .ensures ∙ along-yes _ _ _ _ (omega arith) (at-loop .loop .inv .1 .0) (at-loop .loop .inv .1 .1) (c .before .if1 .taken)
-
-returns-2 : tie.Need-returns-2 Inv-loop μ-loop
-returns-2 c =
-    let at-loop = c .before .before in
-    along-no _ _ _ _ (omega arith) (at-loop .loop .inv .1 .0) (at-loop .loop .inv .1 .1) (c .if1 .left)
+returns c = c .foot-of .ensures ∙ along-is _ _ _ _ (omega arith) (c .before .before .loop .inv .1 .0) (c .before .before .loop .inv .1 .1)
 
 pub foot-spec : {M : Type 1} → statement M
 foot-spec =
@@ -84,19 +57,12 @@ foot-spec =
     Inv-loop
     μ-loop
     loop-holds
-    mul-i
-    shared-slice-read-i
-    mul-d
-    shared-slice-read-d
-    mul-d-2
-    shared-slice-read-d-2
-    mul-dot
-    shared-slice-read-dot
-    mul-dot-2
-    shared-slice-read-dot-2
+    mul-gap-at
+    shared-slice-read-gap-at
+    gap-at-requires
+    toward-requires
     add-k
     loop-less
     loop-again
-    clamp-requires
-    returns
-    returns-2)
+    foot-of-requires
+    returns)

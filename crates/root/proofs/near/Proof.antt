@@ -13,11 +13,11 @@ use Rattle.root.proofs.near.Tie as tie
 use Rattle.root.proofs.near.Reads as reads
 use Rattle.root.proofs.near.Lts as lts
 use Rattle.root.proofs.by_digits.Reads as by-digits-reads
-use Rattle.root.proofs.inverse.Reads as inverse-reads
-use Rattle.root.proofs.lower.Reads as lower-reads
+use Rattle.rootguess.proofs.inverse.Reads as inverse-reads
+use Rattle.rootguess.proofs.lower.Reads as lower-reads
 use Rattle.root.proofs.settles.Reads as settles-reads
 use Rattle.root.proofs.square.Reads as square-reads
-use Rattle.root.proofs.upper.Reads as upper-reads
+use Rattle.rootguess.proofs.upper.Reads as upper-reads
 
 -- what `settles` says where it is true
 abbrev Settled : ℕ → ℕ → ℕ → Type 0
@@ -31,51 +31,39 @@ over m base r k e n =
     let back : k ≡ r - base = omega arith in
     (omega arith, subst (λ (x : ℕ). Nearest m x) back n)
 
--- src/lib.rt:620:9
 inverse-requires : tie.Need-inverse-requires
 inverse-requires c κs = search needs
 
--- src/lib.rt:622:13
 upper-requires : tie.Need-upper-requires
 upper-requires c κs = search needs
 
--- src/lib.rt:623:13
 square-requires : tie.Need-square-requires
 square-requires c κs = search needs
 
--- src/lib.rt:624:17
 mul-n : tie.Need-mul-n
 mul-n c = search needs
 
--- src/lib.rt:627:31
 add-lower : tie.Need-add-lower
 add-lower c = search needs
 
--- src/lib.rt:627:31
 sub-lower : tie.Need-sub-lower
 sub-lower c = search needs
 
--- src/lib.rt:627:21
 lower-requires : tie.Need-lower-requires
 lower-requires c κs = search needs
 
--- src/lib.rt:628:20
 settles-requires : tie.Need-settles-requires
 settles-requires c κs = search needs
 
--- src/lib.rt:629:35
 mul-result : tie.Need-mul-result
 mul-result c = search needs
 
--- src/lib.rt:629:28
 add-result : tie.Need-add-result
 add-result c = search needs
 
--- src/lib.rt:629:28
 add-result-2 : tie.Need-add-result-2
 add-result-2 c = search needs
 
--- src/lib.rt:629:21
 returns : tie.Need-returns
 returns c =
     let at = c .before .before .before .before .before .before in
@@ -86,31 +74,24 @@ returns c =
     over (x .m) (x .base) (x .base + at .upper .result * 2 ^ 22 + b) k (omega arith)
     (settled (x .m * 2 ^ 8 - q) (at .upper .result) b (c .before .settles .result) (c .if4 .taken) (c .before .settles .ensures) (x .m) (omega arith))
 
--- src/lib.rt:631:34
 add-settles : tie.Need-add-settles
 add-settles c = search needs
 
--- src/lib.rt:631:20
 settles-requires-2 : tie.Need-settles-requires-2
 settles-requires-2 c κs = search needs
 
--- src/lib.rt:632:35
 mul-result-2 : tie.Need-mul-result-2
 mul-result-2 c = search needs
 
--- src/lib.rt:632:28
 add-result-3 : tie.Need-add-result-3
 add-result-3 c = search needs
 
--- src/lib.rt:632:52
 add-result-4 : tie.Need-add-result-4
 add-result-4 c = search needs
 
--- src/lib.rt:632:28
 add-result-5 : tie.Need-add-result-5
 add-result-5 c = search needs
 
--- src/lib.rt:632:21
 returns-2 : tie.Need-returns-2
 returns-2 c =
     let at = c .before .before .before .before .before .before .before .before in
@@ -121,15 +102,12 @@ returns-2 c =
     over (x .m) (x .base) (x .base + at .upper .result * 2 ^ 22 + (b + 1)) k (omega arith)
     (settled (x .m * 2 ^ 8 - q) (at .upper .result) (b + 1) (c .before .settles2 .result) (c .if5 .taken) (c .before .settles2 .ensures) (x .m) (omega arith))
 
--- src/lib.rt:637:12
 by-digits-requires : tie.Need-by-digits-requires
 by-digits-requires c κs = search needs
 
--- src/lib.rt:637:5
 add-result-6 : tie.Need-add-result-6
 add-result-6 c = omega (arith, root-hi (c .before .before .before .args .m) (c .by-digits .result) (omega arith) (c .by-digits .ensures))
 
--- src/lib.rt:616:1
 returns-3 : tie.Need-returns-3
 returns-3 c =
     let x = c .before .before .before .args in

@@ -84,41 +84,32 @@ law b M R p l t n =
 taken : (c : tie.Joined1) → Taken (c .before .args .b) (c .if1 .m)
 taken c = ⊎-elim (λ w. inl (w .0 .taken, w .1)) (λ w. inr (w .0 .left, w .1)) (c .if1 .came)
 
--- src/lib.rt:309:18
 sub-shift : tie.Need-sub-shift
 sub-shift c = omega (arith, led (c .args .b) (c .pre .0) (c .pre .1))
 
--- src/lib.rt:309:17
 cast-shift : tie.Need-cast-shift
 cast-shift c = omega (arith, led (c .args .b) (c .pre .0) (c .pre .1))
 
--- src/lib.rt:310:13
 shl-f : tie.Need-shl-f
 shl-f c = omega (arith, led (c .args .b) (c .pre .0) (c .pre .1))
 
--- src/lib.rt:311:44
 mul-m : tie.Need-mul-m
 mul-m c = omega (arith, led (c .before .args .b) (c .before .pre .0) (c .before .pre .1))
 
--- src/lib.rt:312:6
 sub-result : tie.Need-sub-result
 sub-result c = omega (arith, led (c .before .args .b) (c .before .pre .0) (c .before .pre .1))
 
--- src/lib.rt:312:5
 mul-result : tie.Need-mul-result
 mul-result c = search needs
 
--- src/lib.rt:312:48
 by-digits-requires : tie.Need-by-digits-requires
 by-digits-requires c κs = omega (arith, bounds (c .before .args .b) (c .if1 .m) (c .before .pre .0) (c .before .pre .1) (taken c))
 
--- src/lib.rt:312:5
 add-result : tie.Need-add-result
 add-result c =
     let d = c .before in
     omega (arith, root-hi (d .if1 .m) (c .by-digits .result) (bounds (d .before .args .b) (d .if1 .m) (d .before .pre .0) (d .before .pre .1) (taken d) .1) (c .by-digits .ensures))
 
--- src/lib.rt:305:1
 returns : tie.Need-returns
 returns c =
     let d = c .before in

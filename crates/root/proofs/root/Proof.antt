@@ -25,24 +25,19 @@ same c =
     ap (ofBits binary64) (c .root-bits .ensures ∙ ap (λ (y : Float). toBits binary64 (sqrt binary64 y)) (ofBits-toBits binary64 x h))
     ∙ ofBits-toBits binary64 (sqrt binary64 x) (sqrt-fits x h)
 
--- src/lib.rt:340:34
 float-to-bits-root-bits : tie.Need-float-to-bits-root-bits
 float-to-bits-root-bits c = number (c .before .args .x) (c .if1 .taken)
 
--- src/lib.rt:340:24
 root-bits-requires : tie.Need-root-bits-requires
 root-bits-requires c κs = search needs
 
--- src/lib.rt:340:9
 float-from-bits-result : tie.Need-float-from-bits-result
 float-from-bits-result c =
     subst (λ (b : Bool). T (not b)) (sym (nanBits-is binary64 (c .root-bits .result) ∙ ap isNan (same c) ∙ rooted (c .before .before .args .x) (c .before .if1 .taken))) tt
 
--- src/lib.rt:336:1
 returns : tie.Need-returns
 returns c = same c
 
--- src/lib.rt:336:1
 returns-2 : tie.Need-returns-2
 returns-2 c = no-number ∙ sym (rootless (c .before .args .x) (c .if1 .left))
 

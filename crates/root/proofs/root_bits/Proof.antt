@@ -13,35 +13,27 @@ use Rattle.root.proofs.root_bits.Lts as lts
 use Rattle.root.proofs.of_normal.Reads as of-normal-reads
 use Rattle.root.proofs.of_subnormal.Reads as of-subnormal-reads
 
--- src/lib.rt:320:13
 of-normal-requires : tie.Need-of-normal-requires
 of-normal-requires c κs = search needs
 
--- src/lib.rt:320:13
 returns : tie.Need-returns
 returns c = search needs
 
--- src/lib.rt:323:13
 returns-2 : tie.Need-returns-2
 returns-2 c = subst (λ (b : ℕ). b ≡ toBits binary64 (sqrt binary64 (ofBits binary64 b))) (sym (c .if3 .taken)) of-infinity
 
--- src/lib.rt:326:13
 returns-3 : tie.Need-returns-3
 returns-3 c = subst (λ (b : ℕ). b ≡ toBits binary64 (sqrt binary64 (ofBits binary64 b))) (sym (c .if4 .taken)) of-minus-zero
 
--- src/lib.rt:328:9
 returns-4 : tie.Need-returns-4
 returns-4 c = of-no-root (c .before .before .before .before .args .b) (c .before .before .before .before .fits .b .fits) (omega arith) (c .if4 .left)
 
--- src/lib.rt:331:9
 returns-5 : tie.Need-returns-5
 returns-5 c = subst (λ (b : ℕ). 0 ≡ toBits binary64 (sqrt binary64 (ofBits binary64 b))) (sym (c .if5 .taken)) of-zero
 
--- src/lib.rt:333:5
 of-subnormal-requires : tie.Need-of-subnormal-requires
 of-subnormal-requires c κs = search needs
 
--- src/lib.rt:315:1
 returns-6 : tie.Need-returns-6
 returns-6 c = search needs
 

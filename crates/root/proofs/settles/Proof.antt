@@ -4,7 +4,8 @@ use mathlib.Core.Path.{_≡_, refl}
 use mathlib.Core.Logic.{inl, inr}
 use native.Mathlib.Omega.{arith}
 use Rattle.root.specs.Root.{Nearest}
-use Rattle.root.proofs.Squares.{square-of-sum, mul-lt-pow}
+use Rattle.root.proofs.Squares.{square-of-sum}
+use Rattle.rootguess.specs.Products.{mul-lt-pow}
 use borrow.Author.Needs.{needs}
 use Rattle.root.proofs.settles.Statement.{statement}
 use Rattle.root.proofs.settles.Tie as tie
@@ -17,63 +18,48 @@ nearest : (u a b : ℕ) → a * b * 2 ≤ u * 2 ^ 22 + a → b * b < (u * 2 ^ 22
     → (m : ℕ) → u + a * a ≡ m * 2 ^ 8 → Nearest m (a * 2 ^ 22 + b)
 nearest u a b l under over m e = record { above = omega (arith, square-of-sum (2 ^ 22) a b); below = omega (arith, square-of-sum (2 ^ 22) a b) }
 
--- src/lib.rt:595:16
 mul-left : tie.Need-mul-left
 mul-left c = search needs
 
--- src/lib.rt:595:16
 add-left : tie.Need-add-left
 add-left c = search needs
 
--- src/lib.rt:596:17
 mul-cross : tie.Need-mul-cross
 mul-cross c = omega (arith, mul-lt-pow 32 27 (c .pre .1 .0) (c .pre .1 .1))
 
--- src/lib.rt:596:17
 mul-cross-2 : tie.Need-mul-cross-2
 mul-cross-2 c = omega (arith, mul-lt-pow 32 27 (c .pre .1 .0) (c .pre .1 .1))
 
--- src/lib.rt:598:9
 returns : tie.Need-returns
 returns c = inl refl
 
--- src/lib.rt:602:9
 returns-2 : tie.Need-returns-2
 returns-2 c = inl refl
 
--- src/lib.rt:604:16
 mul-more : tie.Need-mul-more
 mul-more c = search needs
 
--- src/lib.rt:605:15
 mul-low : tie.Need-mul-low
 mul-low c = omega (arith, mul-lt-pow 27 27 (c .before .before .pre .1 .1) (c .before .before .pre .1 .1))
 
--- src/lib.rt:606:8
 add-if3 : tie.Need-add-if3
 add-if3 c = search needs
 
--- src/lib.rt:607:9
 returns-3 : tie.Need-returns-3
 returns-3 c = inl refl
 
--- src/lib.rt:609:15
 mul-if4 : tie.Need-mul-if4
 mul-if4 c = search needs
 
--- src/lib.rt:609:15
 add-if4 : tie.Need-add-if4
 add-if4 c = search needs
 
--- src/lib.rt:609:15
 add-if4-2 : tie.Need-add-if4-2
 add-if4-2 c = search needs
 
--- src/lib.rt:610:9
 returns-4 : tie.Need-returns-4
 returns-4 c = inl refl
 
--- src/lib.rt:590:1
 returns-5 : tie.Need-returns-5
 returns-5 c =
     let x = c .before .before .before .before .args in

@@ -1,16 +1,14 @@
 use native.Mathlib.Omega.{arith}
-use Rattle.root.proofs.Squares.{mul-lt-pow}
+use Rattle.rootguess.specs.Products.{mul-lt-pow}
 use borrow.Author.Needs.{needs}
 use Rattle.root.proofs.square.Statement.{statement}
 use Rattle.root.proofs.square.Tie as tie
 use Rattle.root.proofs.square.Reads as reads
 use Rattle.root.proofs.square.Lts as lts
 
--- src/lib.rt:586:5
 mul-result : tie.Need-mul-result
 mul-result c = omega (arith, mul-lt-pow 32 32 (c .pre) (c .pre))
 
--- src/lib.rt:582:1
 returns : tie.Need-returns
 returns c = search needs
 

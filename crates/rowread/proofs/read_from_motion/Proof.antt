@@ -1,4 +1,4 @@
-use mathlib.Core.Path.{sym}
+use mathlib.Core.Path.{sym, _∙_}
 use Prim.Native.Nat.{_-_}
 use native.Mathlib.Omega.{arith}
 use lib.Seq.{length-take-le}
@@ -23,10 +23,10 @@ enum-told : tie.Need-enum-told
 enum-told c = search needs
 
 returns : tie.Need-returns
-returns c = motion-nowhere _ _ (c .before .before .before .before .field-end .ensures) _ _ (cc ((c .enum-told .given .1), (c .before .before .read-motion .ensures)))
+returns c = motion-nowhere _ _ (c .before .before .before .before .field-end .ensures) _ _ (sym (c .enum-told .given .1) ∙ c .before .before .read-motion .ensures)
 
 returns-2 : tie.Need-returns-2
-returns-2 c = motion-last _ _ (c .before .before .before .before .before .before .field-end .ensures) _ _ (c .before .before .motion .given .0 .0) (cc ((c .before .before .motion .given .1), (c .before .before .before .before .read-motion .ensures))) (c .if1 .taken)
+returns-2 c = motion-last _ _ (c .before .before .before .before .before .before .field-end .ensures) _ _ (c .before .before .motion .given .0 .0) (sym (c .before .before .motion .given .1) ∙ c .before .before .before .before .read-motion .ensures) (c .if1 .taken)
 
 add-from : tie.Need-add-from
 add-from c = let h = inside _ _ (c .before .before .before .before .before .before .field-end .ensures) in search needs
@@ -47,7 +47,7 @@ same-length : tie.Need-same-length
 same-length c = search needs
 
 returns-3 : tie.Need-returns-3
-returns-3 c = motion-on _ _ (c .before .before .before .before .before .before .before .before .before .before .before .field-end .ensures) _ _ (c .before .before .before .before .before .before .before .motion .given .0 .0) (cc ((c .before .before .before .before .before .before .before .motion .given .1), (c .before .before .before .before .before .before .before .before .before .read-motion .ensures))) (c .before .before .before .before .before .if1 .left) _ _ (c .before .before .read-from-plane .ensures)
+returns-3 c = motion-on _ _ (c .before .before .before .before .before .before .before .before .before .before .before .field-end .ensures) _ _ (c .before .before .before .before .before .before .before .motion .given .0 .0) (sym (c .before .before .before .before .before .before .before .motion .given .1) ∙ c .before .before .before .before .before .before .before .before .before .read-motion .ensures) (c .before .before .before .before .before .if1 .left) _ _ (c .before .before .read-from-plane .ensures)
 
 pub read-from-motion-spec : {M : Type 1} → statement M
 read-from-motion-spec =

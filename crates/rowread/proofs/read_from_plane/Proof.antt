@@ -1,4 +1,4 @@
-use mathlib.Core.Path.{sym}
+use mathlib.Core.Path.{sym, _∙_}
 use Prim.Native.Nat.{_-_}
 use native.Mathlib.Omega.{arith}
 use lib.Seq.{length-take-le}
@@ -23,10 +23,10 @@ enum-told : tie.Need-enum-told
 enum-told c = search needs
 
 returns : tie.Need-returns
-returns c = plane-nowhere _ _ (c .before .before .before .before .field-end .ensures) _ _ _ (cc ((c .enum-told .given .1), (c .before .before .read-plane .ensures)))
+returns c = plane-nowhere _ _ (c .before .before .before .before .field-end .ensures) _ _ _ (sym (c .enum-told .given .1) ∙ c .before .before .read-plane .ensures)
 
 returns-2 : tie.Need-returns-2
-returns-2 c = plane-last _ _ (c .before .before .before .before .before .before .field-end .ensures) _ _ _ (c .before .before .plane .given .0 .0) (cc ((c .before .before .plane .given .1), (c .before .before .before .before .read-plane .ensures))) (c .if1 .taken)
+returns-2 c = plane-last _ _ (c .before .before .before .before .before .before .field-end .ensures) _ _ _ (c .before .before .plane .given .0 .0) (sym (c .before .before .plane .given .1) ∙ c .before .before .before .before .read-plane .ensures) (c .if1 .taken)
 
 array-write-words : tie.Need-array-write-words
 array-write-words c = search needs
@@ -65,10 +65,10 @@ same-length : tie.Need-same-length
 same-length c = search needs
 
 returns-3 : tie.Need-returns-3
-returns-3 c = plane-on _ _ (c .before .before .before .before .before .before .before .before .before .before .before .before .before .before .before .before .field-end .ensures) _ _ _ (c .before .before .before .before .before .before .before .before .before .before .before .before .plane .given .0 .0) (cc ((c .before .before .before .before .before .before .before .before .before .before .before .before .plane .given .1), (c .before .before .before .before .before .before .before .before .before .before .before .before .before .before .read-plane .ensures))) (c .before .before .before .before .before .before .before .before .before .before .if1 .left) _ _ (cells-read _ _ _ _ _ _ _ (c .before .before .before .before .before .if2 .taken) (c .before .before .before .before .before .before .before .read-cells .ensures) _ (c .before .before .copy-row .ensures))
+returns-3 c = plane-on _ _ (c .before .before .before .before .before .before .before .before .before .before .before .before .before .before .before .before .field-end .ensures) _ _ _ (c .before .before .before .before .before .before .before .before .before .before .before .before .plane .given .0 .0) (sym (c .before .before .before .before .before .before .before .before .before .before .before .before .plane .given .1) ∙ c .before .before .before .before .before .before .before .before .before .before .before .before .before .before .read-plane .ensures) (c .before .before .before .before .before .before .before .before .before .before .if1 .left) _ _ (cells-read _ _ _ _ _ _ _ (c .before .before .before .before .before .if2 .taken) (c .before .before .before .before .before .before .before .read-cells .ensures) _ (c .before .before .copy-row .ensures))
 
 returns-4 : tie.Need-returns-4
-returns-4 c = plane-on _ _ (c .before .before .before .before .before .before .before .before .before .before .before .field-end .ensures) _ _ _ (c .before .before .before .before .before .before .before .plane .given .0 .0) (cc ((c .before .before .before .before .before .before .before .plane .given .1), (c .before .before .before .before .before .before .before .before .before .read-plane .ensures))) (c .before .before .before .before .before .if1 .left) _ _ (cells-not _ _ _ _ _ _ _ (c .if2 .left) (c .before .before .read-cells .ensures))
+returns-4 c = plane-on _ _ (c .before .before .before .before .before .before .before .before .before .before .before .field-end .ensures) _ _ _ (c .before .before .before .before .before .before .before .plane .given .0 .0) (sym (c .before .before .before .before .before .before .before .plane .given .1) ∙ c .before .before .before .before .before .before .before .before .before .read-plane .ensures) (c .before .before .before .before .before .if1 .left) _ _ (cells-not _ _ _ _ _ _ _ (c .if2 .left) (c .before .before .read-cells .ensures))
 
 pub read-from-plane-spec : {M : Type 1} → statement M
 read-from-plane-spec =

@@ -1,4 +1,4 @@
-use mathlib.Core.Path.{sym}
+use mathlib.Core.Path.{sym, _∙_}
 use Prim.Native.Nat.{_-_}
 use native.Mathlib.Omega.{arith}
 use lib.Seq.{length-take-le}
@@ -23,10 +23,10 @@ enum-told : tie.Need-enum-told
 enum-told c = search needs
 
 returns : tie.Need-returns
-returns c = line-bad _ _ (c .before .before .before .before .field-end .ensures) _ (cc ((c .enum-told .given .1), (c .before .before .read-line .ensures)))
+returns c = line-bad _ _ (c .before .before .before .before .field-end .ensures) _ (sym (c .enum-told .given .1) ∙ c .before .before .read-line .ensures)
 
 returns-2 : tie.Need-returns-2
-returns-2 c = line-last _ _ (c .before .before .before .before .before .before .field-end .ensures) _ (c .before .before .line .given .0 .0) (cc ((c .before .before .line .given .1), (c .before .before .before .before .read-line .ensures))) (c .if1 .taken)
+returns-2 c = line-last _ _ (c .before .before .before .before .before .before .field-end .ensures) _ (c .before .before .line .given .0 .0) (sym (c .before .before .line .given .1) ∙ c .before .before .before .before .read-line .ensures) (c .if1 .taken)
 
 add-from : tie.Need-add-from
 add-from c = let h = inside _ _ (c .before .before .before .before .before .before .field-end .ensures) in search needs
@@ -50,7 +50,7 @@ same-length : tie.Need-same-length
 same-length c = search needs
 
 returns-3 : tie.Need-returns-3
-returns-3 c = line-on _ _ (c .before .before .before .before .before .before .before .before .before .before .before .field-end .ensures) _ (c .before .before .before .before .before .before .before .line .given .0 .0) (cc ((c .before .before .before .before .before .before .before .line .given .1), (c .before .before .before .before .before .before .before .before .before .read-line .ensures))) (c .before .before .before .before .before .if1 .left) _ _ (c .before .before .read-from-motion .ensures)
+returns-3 c = line-on _ _ (c .before .before .before .before .before .before .before .before .before .before .before .field-end .ensures) _ (c .before .before .before .before .before .before .before .line .given .0 .0) (sym (c .before .before .before .before .before .before .before .line .given .1) ∙ c .before .before .before .before .before .before .before .before .before .read-line .ensures) (c .before .before .before .before .before .if1 .left) _ _ (c .before .before .read-from-motion .ensures)
 
 pub read-row-spec : {M : Type 1} → statement M
 read-row-spec =

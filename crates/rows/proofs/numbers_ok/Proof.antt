@@ -1,86 +1,73 @@
 -- `rows::numbers_ok` meets its contract. Assumes nothing.
-use mathlib.Core.Path.{_≡_, sym, ap, _∙_}
-use mathlib.Core.Bool.{true, false, not}
-use mathlib.Core.List.{List}
-use native.Mathlib.Omega.{arith}
-use Prim.Native.Nat.{ℕ, _+_}
-use lib.ListN.{getD}
+use mathlib.Core.Path.{sym, _∙_}
 use borrow.Author.Tests.{not-true, not-false}
-use Rattle.rows.specs.Codes.{cells, wCells}
-use Rattle.rows.specs.Row.{has, presentOf, within, cellOk, numbersOk}
-use Rattle.rows.specs.Truth.{or-t, or-f, all-intro, all-fails}
-use Rattle.rows.specs.BitWalk.{Walking, AtBit, at-bit, walking-first, walking-more, walked}
+use Rattle.rows.specs.Truth.{and-t, and-f}
+use Rattle.rows.specs.FirstCells.{numbers-mask, three-apart}
 use borrow.Author.Needs.{needs}
 use Rattle.rows.proofs.numbers_ok.Statement.{statement}
 use Rattle.rows.proofs.numbers_ok.Tie as tie
 
-absent-ok : (r : List ℕ) (k : ℕ) → has (presentOf r) k ≡ false → cellOk r k ≡ true
-unfolding cellOk
-absent-ok r k h = or-t _ (ap not h)
+shared-slice-read-present : tie.Need-shared-slice-read-present
+shared-slice-read-present c = search needs
 
-there-ok : (r : List ℕ) (k : ℕ) → has (presentOf r) k ≡ true → cellOk r k ≡ within (getD r (wCells + k) 0)
-unfolding cellOk
-there-ok r k h = or-f _ (ap not h)
+cells-ok-requires : tie.Need-cells-ok-requires
+cells-ok-requires c κs = search needs
 
-abbrev Inv-loop : tie.InvT-loop
-Inv-loop row rest₀ rest = Walking (presentOf row) cells (λ (k : ℕ). cellOk row k ≡ true) rest
+returns : tie.Need-returns
+returns c = c .cells-ok .ensures ∙ sym (numbers-mask _)
 
-abbrev μ-loop : tie.MeasureT-loop
-μ-loop row rest₀ rest = rest
+shared-slice-read-three-within : tie.Need-shared-slice-read-three-within
+shared-slice-read-three-within c = search needs
 
-shared-slice-read-rest : tie.Need-shared-slice-read-rest Inv-loop μ-loop
-shared-slice-read-rest c = search needs
+add-three-within : tie.Need-add-three-within
+add-three-within c = search needs
 
-loop-holds : tie.Need-loop-holds Inv-loop μ-loop
-loop-holds c = walking-first (omega arith) (λ k l h. absent-ok _ k h)
+mul-three-within : tie.Need-mul-three-within
+mul-three-within c = search needs
 
-lowest-bit-requires : tie.Need-lowest-bit-requires Inv-loop μ-loop
-lowest-bit-requires c κs = search needs
+shared-slice-read-three-within-2 : tie.Need-shared-slice-read-three-within-2
+shared-slice-read-three-within-2 c = search needs
 
-add-within-range : tie.Need-add-within-range Inv-loop μ-loop
-add-within-range c = omega (arith, (at-bit (c .before .before .loop .inv .bits) (omega arith) (c .lowest-bit .ensures)) .below)
+add-three-within-2 : tie.Need-add-three-within-2
+add-three-within-2 c = search needs
 
-mul-within-range : tie.Need-mul-within-range Inv-loop μ-loop
-mul-within-range c = omega (arith, (at-bit (c .before .before .loop .inv .bits) (omega arith) (c .lowest-bit .ensures)) .below)
+mul-three-within-2 : tie.Need-mul-three-within-2
+mul-three-within-2 c = search needs
 
-shared-slice-read-within-range : tie.Need-shared-slice-read-within-range Inv-loop μ-loop
-shared-slice-read-within-range c = omega (arith, (at-bit (c .before .before .before .loop .inv .bits) (omega arith) (c .before .lowest-bit .ensures)) .below)
+shared-slice-read-three-within-3 : tie.Need-shared-slice-read-three-within-3
+shared-slice-read-three-within-3 c = search needs
 
-within-range-requires : tie.Need-within-range-requires Inv-loop μ-loop
-within-range-requires c κs = search needs
+three-within-requires : tie.Need-three-within-requires
+three-within-requires c κs = search needs
 
-returns : tie.Need-returns Inv-loop μ-loop
-unfolding numbersOk
-returns c = let a : AtBit _ cells _ _ = at-bit (c .before .before .before .before .before .loop .inv .bits) (omega arith) (c .before .before .before .lowest-bit .ensures) in sym (all-fails cells (cellOk _) (c .before .before .before .lowest-bit .result) (a .below) (there-ok _ _ (a .there) ∙ sym (c .before .within-range .ensures) ∙ not-true (c .before .within-range .result) (c .if1 .taken)))
+returns-2 : tie.Need-returns-2
+returns-2 c = sym (numbers-mask _ ∙ three-apart _ (c .before .before .before .before .before .if1 .left) _ ∙ and-f _ (sym (c .before .three-within .ensures) ∙ not-true (c .before .three-within .result) (c .if2 .taken)))
 
-other-bits-requires : tie.Need-other-bits-requires Inv-loop μ-loop
-other-bits-requires c κs = search needs
+sub-cells-ok : tie.Need-sub-cells-ok
+sub-cells-ok c = search needs
 
-loop-less : tie.Need-loop-less Inv-loop μ-loop
-loop-less c = omega (arith, (at-bit (c .before .before .before .before .before .before .loop .inv .bits) (omega arith) (c .before .before .before .before .lowest-bit .ensures)) .fewer)
+cells-ok-requires-2 : tie.Need-cells-ok-requires-2
+cells-ok-requires-2 c κs = search needs
 
-loop-again : tie.Need-loop-again Inv-loop μ-loop
-loop-again c = walking-more (c .before .before .before .before .before .before .loop .inv) (omega arith) (c .before .before .before .before .lowest-bit .ensures) (c .other-bits .ensures) (there-ok _ _ ((at-bit (c .before .before .before .before .before .before .loop .inv .bits) (omega arith) (c .before .before .before .before .lowest-bit .ensures)) .there) ∙ sym (c .before .before .within-range .ensures) ∙ not-false (c .before .before .within-range .result) (c .before .if1 .left))
-
-returns-2 : tie.Need-returns-2 Inv-loop μ-loop
-unfolding numbersOk
-returns-2 c = sym (all-intro cells (cellOk _) (walked (c .before .loop .inv) (omega arith)))
+returns-3 : tie.Need-returns-3
+returns-3 c = c .cells-ok2 .ensures ∙ sym (numbers-mask _ ∙ three-apart _ (c .before .before .before .before .before .before .if1 .left) _ ∙ and-t _ (sym (c .before .before .three-within .ensures) ∙ not-false (c .before .before .three-within .result) (c .before .if2 .left)))
 
 pub numbers-ok-spec : {M : Type 1} → statement M
 numbers-ok-spec =
     tie.close
     (tie.spec
-    Inv-loop
-    μ-loop
-    shared-slice-read-rest
-    loop-holds
-    lowest-bit-requires
-    add-within-range
-    mul-within-range
-    shared-slice-read-within-range
-    within-range-requires
+    shared-slice-read-present
+    cells-ok-requires
     returns
-    other-bits-requires
-    loop-less
-    loop-again
-    returns-2)
+    shared-slice-read-three-within
+    add-three-within
+    mul-three-within
+    shared-slice-read-three-within-2
+    add-three-within-2
+    mul-three-within-2
+    shared-slice-read-three-within-3
+    three-within-requires
+    returns-2
+    sub-cells-ok
+    cells-ok-requires-2
+    returns-3)

@@ -1,5 +1,4 @@
 use native.Mathlib.Omega.{arith}
-use Rattle.splines.specs.Emits.{points-room}
 use borrow.Author.Needs.{needs}
 use Rattle.splines.proofs.prepare_curve.Statement.{statement}
 use Rattle.splines.proofs.prepare_curve.Tie as tie
@@ -8,7 +7,7 @@ returns : tie.Need-returns
 returns c = record { tables = λ h. absurd (omega (arith, (c .if1 .taken))) }
 
 prepare-requires : tie.Need-prepare-requires
-prepare-requires c κs = (((c .before .before .if1 .left), ((c .before .before .before .before .before .before .before .before .pre) .0 .few, (c .before .before .before .before .before .before .before .before .pre) .0 .narrow)), (((c .before .before .before .before .before .before .before .before .pre) .0 .metric, points-room _ _ ((c .before .before .before .before .before .before .before .before .args .pts .now)) ((c .before .before .before .before .before .before .before .before .args .ws .now)) ((c .before .before .before .before .before .before .before .before .pre) .0 .few) ((c .before .before .before .before .before .before .before .before .pre) .0 .narrow) ((c .before .before .before .before .before .before .before .before .pre) .0 .points) ((c .before .before .before .before .before .before .before .before .pre) .0 .weights)), (c .before .before .before .before .before .before .before .before .pre) .1))
+prepare-requires c κs = (((c .before .before .if1 .left), ((c .before .before .before .before .before .before .before .before .pre) .0 .few, (c .before .before .before .before .before .before .before .before .pre) .0 .narrow)), (((c .before .before .before .before .before .before .before .before .pre) .0 .metric, ((c .before .before .before .before .before .before .before .before .pre) .0 .points, (c .before .before .before .before .before .before .before .before .pre) .0 .weights)), (c .before .before .before .before .before .before .before .before .pre) .1))
 
 same-length : tie.Need-same-length
 same-length c = search needs

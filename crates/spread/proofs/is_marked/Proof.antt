@@ -7,23 +7,18 @@ use Rattle.spread.proofs.is_marked.Tie as tie
 use Rattle.spread.proofs.is_marked.Reads as reads
 use Rattle.spread.proofs.is_marked.Lts as lts
 
--- src/lib.rt:66:8
 add-if1 : tie.Need-add-if1
 add-if1 c = search needs
 
--- src/lib.rt:67:9
 returns : tie.Need-returns
 returns c = mark-inner _ _ _ _ (c .if1 .taken)
 
--- src/lib.rt:70:9
 returns-2 : tie.Need-returns-2
 returns-2 c = mark-end _ _ _ _ (c .before .before .if1 .left) (not-true _ (c .if2 .taken))
 
--- src/lib.rt:72:5
 add-result : tie.Need-add-result
 add-result c = search needs
 
--- src/lib.rt:62:1
 returns-3 : tie.Need-returns-3
 returns-3 c = mark-basis _ _ _ _ (c .before .before .before .if1 .left) (not-false _ (c .before .if2 .left))
 

@@ -6,19 +6,15 @@ use Rattle.spread.proofs.own_mask.Reads as reads
 use Rattle.spread.proofs.own_mask.Lts as lts
 use Rattle.places.proofs.layout.both_masks.Reads as both-masks-reads
 
--- src/lib.rt:104:9
 returns : tie.Need-returns
 returns c = own-none _ _ (c .if1 .taken)
 
--- src/lib.rt:106:24
 shared-slice-read-both-masks : tie.Need-shared-slice-read-both-masks
 shared-slice-read-both-masks c = search needs
 
--- src/lib.rt:106:5
 both-masks-requires : tie.Need-both-masks-requires
 both-masks-requires c κs = search needs
 
--- src/lib.rt:99:1
 returns-2 : tie.Need-returns-2
 returns-2 c = own-both _ _ _ (c .before .before .if1 .left) (c .both-masks .ensures)
 

@@ -12,39 +12,30 @@ use Rattle.rows.proofs.put_made.Reads as put-made-reads
 use Rattle.spread.proofs.motion_of.Reads as motion-of-reads
 use Rattle.spread.proofs.own_mask.Reads as own-mask-reads
 
--- src/lib.rt:115:9
 own-mask-requires : tie.Need-own-mask-requires
 own-mask-requires c κs = search needs
 
--- src/lib.rt:116:9
 motion-of-requires : tie.Need-motion-of-requires
 motion-of-requires c κs = search needs
 
--- src/lib.rt:117:20
 mul-put-made : tie.Need-mul-put-made
 mul-put-made c = search needs
 
--- src/lib.rt:117:84
 sub-put-made : tie.Need-sub-put-made
 sub-put-made c = search needs
 
--- src/lib.rt:117:84
 part-put-made-start : tie.Need-part-put-made-start
 part-put-made-start c = search needs
 
--- src/lib.rt:117:84
 part-put-made-end : tie.Need-part-put-made-end
 part-put-made-end c = search needs
 
--- src/lib.rt:117:5
 put-made-requires : tie.Need-put-made-requires
 put-made-requires c κs = search needs
 
--- src/lib.rt:110:1
 same-length : tie.Need-same-length
 same-length c = search needs
 
--- src/lib.rt:110:1
 returns : tie.Need-returns
 returns c = (c .before .before .put-made .ensures) ∙ ap (spliced _ _) (bare-row _ _ _ _ _ _ ((c .before .before .before .before .before .before .before .before .before .before .pre) .0 .0) (c .before .before .before .before .before .before .before .own-mask .ensures) (c .before .before .before .before .before .before .motion-of .ensures) (cells-of (c .before .before .before .before .before .before .before .before .before .before .args .row .now)))
 

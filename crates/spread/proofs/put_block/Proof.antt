@@ -11,31 +11,24 @@ use Rattle.spread.proofs.put_block.Lts as lts
 use Rattle.rows.proofs.put_row.Reads as put-row-reads
 use Rattle.spread.proofs.put_point.Reads as put-point-reads
 
--- src/lib.rt:138:9
 put-point-requires : tie.Need-put-point-requires
 put-point-requires c κs = search needs
 
--- src/lib.rt:139:9
 same-length : tie.Need-same-length
 same-length c = search needs
 
--- src/lib.rt:139:9
 returns : tie.Need-returns
 returns c = (c .before .before .put-point .ensures) ∙ ap (spliced _ _) (block-point _ _ _ _ _ _ _ (c .before .before .before .before .if1 .taken))
 
--- src/lib.rt:141:19
 mul-put-row : tie.Need-mul-put-row
 mul-put-row c = search needs
 
--- src/lib.rt:141:5
 put-row-requires : tie.Need-put-row-requires
 put-row-requires c κs = ((c .before .before .before .before .before .before .pre) .long, omega (arith, (c .before .before .before .before .before .before .pre) .room, size-least (c .before .before .before .before .before .before .args .c)))
 
--- src/lib.rt:133:1
 same-length-2 : tie.Need-same-length-2
 same-length-2 c = search needs
 
--- src/lib.rt:133:1
 returns-2 : tie.Need-returns-2
 returns-2 c = (c .before .before .put-row .ensures) ∙ ap (spliced _ _) (block-out _ _ _ _ _ _ _ (c .before .before .before .before .before .if1 .left))
 

@@ -11,27 +11,21 @@ use Rattle.spread.proofs.put_point.Lts as lts
 use Rattle.spread.proofs.put_bare.Reads as put-bare-reads
 use Rattle.spread.proofs.put_run.Reads as put-run-reads
 
--- src/lib.rt:126:9
 put-bare-requires : tie.Need-put-bare-requires
 put-bare-requires c κs = (((c .before .before .before .before .before .pre) .sound .axes, (c .before .before .before .before .before .pre) .long), omega (arith, (c .before .before .before .before .before .pre) .room, size-least (c .before .before .before .before .before .args .c)))
 
--- src/lib.rt:127:9
 same-length : tie.Need-same-length
 same-length c = search needs
 
--- src/lib.rt:127:9
 returns : tie.Need-returns
 returns c = (c .before .before .put-bare .ensures) ∙ ap (spliced _ _) (group-bare _ _ _ _ _ _ (c .before .before .before .before .if1 .taken))
 
--- src/lib.rt:129:5
 put-run-requires : tie.Need-put-run-requires
 put-run-requires c κs = search needs
 
--- src/lib.rt:121:1
 same-length-2 : tie.Need-same-length-2
 same-length-2 c = search needs
 
--- src/lib.rt:121:1
 returns-2 : tie.Need-returns-2
 returns-2 c = (c .before .before .put-run .ensures) ∙ ap (spliced _ _) (group-run _ _ _ _ _ _ (c .before .before .before .before .if1 .left))
 

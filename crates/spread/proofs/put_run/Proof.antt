@@ -17,31 +17,24 @@ Inv-loop o places place c row rows₀ t₀ rows t = (t ≤ c) × Backward (rawRo
 abbrev μ-loop : tie.MeasureT-loop
 μ-loop o places place c row rows₀ t₀ rows t = t
 
--- src/lib.rt:92:5
 loop-holds : tie.Need-loop-holds Inv-loop μ-loop
 loop-holds c = (omega arith, backward-none _ _ _ _ _ refl)
 
--- src/lib.rt:93:9
 sub-t : tie.Need-sub-t Inv-loop μ-loop
 sub-t c = search needs
 
--- src/lib.rt:94:9
 put-sample-requires : tie.Need-put-sample-requires Inv-loop μ-loop
 put-sample-requires c κs = (puts-same _ _ _ _ _ _ _ ((c .before .before .loop .inv) .1 .same) (c .before .before .before .before .before .before .pre), omega arith)
 
--- src/lib.rt:92:5
 loop-less : tie.Need-loop-less Inv-loop μ-loop
 loop-less c = search needs
 
--- src/lib.rt:92:5
 loop-again : tie.Need-loop-again Inv-loop μ-loop
 loop-again c = (omega arith, run-again _ _ _ _ _ _ (c .before .before .before .before .before .before .before .before .before .pre) _ _ _ (c .before .before .before .before .loop-test .taken) ((c .before .before .before .before .before .loop .inv) .0) ((c .before .before .before .before .before .loop .inv) .1) ((c .before .before .put-sample .kept .1 .1 .1 .1 .1 .1 .0)) (c .before .before .put-sample .ensures))
 
--- src/lib.rt:87:1
 same-length : tie.Need-same-length Inv-loop μ-loop
 same-length c = (c .before .loop .inv) .1 .same
 
--- src/lib.rt:87:1
 returns : tie.Need-returns Inv-loop μ-loop
 returns c = run-end _ _ _ _ _ _ (c .before .before .before .before .before .pre) _ _ (omega arith) ((c .before .loop .inv) .1)
 

@@ -13,47 +13,36 @@ use Rattle.spread.proofs.is_marked.Reads as is-marked-reads
 use Rattle.spread.proofs.motion_of.Reads as motion-of-reads
 use Rattle.spread.proofs.sample_words.Reads as sample-words-reads
 
--- src/lib.rt:80:37
 add-sample-words : tie.Need-add-sample-words
 add-sample-words c = omega (arith, sample-words ((c .before .before .before .before .before .pre) .0) (c .before .before .before .before .before .args .t) ((c .before .before .before .before .before .pre) .1), sample-rows ((c .before .before .before .before .before .pre) .0) (c .before .before .before .before .before .args .t) ((c .before .before .before .before .before .pre) .1), (c .before .before .before .before .before .pre) .0 .behind)
 
--- src/lib.rt:80:36
 mul-sample-words : tie.Need-mul-sample-words
 mul-sample-words c = omega (arith, sample-words ((c .before .before .before .before .before .before .pre) .0) (c .before .before .before .before .before .before .args .t) ((c .before .before .before .before .before .before .pre) .1))
 
--- src/lib.rt:80:17
 sample-words-requires : tie.Need-sample-words-requires
 sample-words-requires c κs = sample-at ((c .before .before .before .before .before .before .pre) .0) _ ((c .before .before .before .before .before .before .pre) .1)
 
--- src/lib.rt:81:9
 motion-of-requires : tie.Need-motion-of-requires
 motion-of-requires c κs = search needs
 
--- src/lib.rt:82:9
 is-marked-requires : tie.Need-is-marked-requires
 is-marked-requires c κs = search needs
 
--- src/lib.rt:83:21
 add-put-made : tie.Need-add-put-made
 add-put-made c = omega (arith, sample-rows ((c .before .before .before .before .before .before .before .before .before .before .before .pre) .0) (c .before .before .before .before .before .before .before .before .before .before .before .args .t) ((c .before .before .before .before .before .before .before .before .before .before .before .pre) .1))
 
--- src/lib.rt:83:20
 mul-put-made : tie.Need-mul-put-made
 mul-put-made c = omega (arith, sample-rows ((c .before .before .before .before .before .before .before .before .before .before .before .pre) .0) (c .before .before .before .before .before .before .before .before .before .before .before .args .t) ((c .before .before .before .before .before .before .before .before .before .before .before .pre) .1))
 
--- src/lib.rt:83:95
 slice-aggregate-put-made : tie.Need-slice-aggregate-put-made
 slice-aggregate-put-made c = search needs
 
--- src/lib.rt:83:5
 put-made-requires : tie.Need-put-made-requires
 put-made-requires c κs = (record { long = (c .before .before .before .before .before .before .before .before .before .before .before .before .pre) .0 .long; axes = (c .before .before .before .before .before .before .before .before .before .before .before .before .pre) .0 .sound .axes; point = (c .before .before .before .before .before .before .before .before .before .before .before .before .pre) .0 .sound .mask; wide = rw (c .before .before .before .before .before .sample-words .ensures) (words-wide _) }, sample-rows ((c .before .before .before .before .before .before .before .before .before .before .before .before .pre) .0) (c .before .before .before .before .before .before .before .before .before .before .before .before .args .t) ((c .before .before .before .before .before .before .before .before .before .before .before .before .pre) .1))
 
--- src/lib.rt:76:1
 same-length : tie.Need-same-length
 same-length c = search needs
 
--- src/lib.rt:76:1
 returns : tie.Need-returns
 returns c = (c .before .before .put-made .ensures) ∙ ap (spliced _ _) (rw (c .before .before .before .before .before .before .before .before .sample-words .ensures) (sample-row _ _ _ _ _ _ _ _ _ _ ((c .before .before .before .before .before .before .before .before .before .before .before .before .before .before .before .pre) .0 .sound) (c .before .before .before .before .before .before .before .motion-of .ensures) (c .before .before .before .before .before .before .is-marked .ensures)))
 

@@ -8,35 +8,27 @@ use Rattle.spread.proofs.sample_word.Reads as reads
 use Rattle.spread.proofs.sample_word.Lts as lts
 use Rattle.rows.proofs.has_bit.Reads as has-bit-reads
 
--- src/lib.rt:34:8
 has-bit-requires : tie.Need-has-bit-requires
 has-bit-requires c κs = search needs
 
--- src/lib.rt:35:28
 mul-result : tie.Need-mul-result
 mul-result c = search needs
 
--- src/lib.rt:35:28
 shared-slice-read-result : tie.Need-shared-slice-read-result
 shared-slice-read-result c = search needs
 
--- src/lib.rt:35:21
 add-result : tie.Need-add-result
 add-result c = omega (arith, (c .before .before .before .before .before .pre) .0 .inside (c .before .before .before .before .before .args .k) (sym (c .before .before .has-bit .ensures) ∙ (c .before .if1 .taken)))
 
--- src/lib.rt:35:16
 mul-result-2 : tie.Need-mul-result-2
 mul-result-2 c = omega (arith, (c .before .before .before .before .before .pre) .0 .inside (c .before .before .before .before .before .args .k) (sym (c .before .before .has-bit .ensures) ∙ (c .before .if1 .taken)))
 
--- src/lib.rt:35:16
 shared-slice-read-result-2 : tie.Need-shared-slice-read-result-2
 shared-slice-read-result-2 c = (c .before .before .before .before .before .before .pre) .0 .inside (c .before .before .before .before .before .before .args .k) (sym (c .before .before .before .has-bit .ensures) ∙ (c .before .before .if1 .taken))
 
--- src/lib.rt:35:9
 returns : tie.Need-returns
 returns c = word-yes _ _ _ _ _ (sym (c .before .before .before .has-bit .ensures) ∙ (c .before .before .if1 .taken))
 
--- src/lib.rt:30:1
 returns-2 : tie.Need-returns-2
 returns-2 c = word-no _ _ _ _ _ (sym (c .before .has-bit .ensures) ∙ (c .if1 .left))
 

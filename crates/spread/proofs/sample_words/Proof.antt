@@ -18,35 +18,27 @@ Inv-loop rows from mask places words₀ k₀ words k = (k ≤ 10) × Filling (ra
 abbrev μ-loop : tie.MeasureT-loop
 μ-loop rows from mask places words₀ k₀ words k = 10 - k
 
--- src/lib.rt:47:5
 loop-holds : tie.Need-loop-holds Inv-loop μ-loop
 loop-holds c = (omega arith, filling-none)
 
--- src/lib.rt:48:20
 sample-word-requires : tie.Need-sample-word-requires Inv-loop μ-loop
 sample-word-requires c κs = search needs
 
--- src/lib.rt:48:9
 mul-words : tie.Need-mul-words Inv-loop μ-loop
 mul-words c = search needs
 
--- src/lib.rt:48:9
 array-write-words : tie.Need-array-write-words Inv-loop μ-loop
 array-write-words c = search needs
 
--- src/lib.rt:49:9
 add-k : tie.Need-add-k Inv-loop μ-loop
 add-k c = search needs
 
--- src/lib.rt:47:5
 loop-less : tie.Need-loop-less Inv-loop μ-loop
 loop-less c = search needs
 
--- src/lib.rt:47:5
 loop-again : tie.Need-loop-again Inv-loop μ-loop
 loop-again c = (omega arith, filling-more ((c .before .before .loop .inv) .1) (omega arith) (c .sample-word .ensures))
 
--- src/lib.rt:41:1
 returns : tie.Need-returns Inv-loop μ-loop
 returns c = let e : (c .before .loop .k) ≡ 10 = omega arith in rw e at ((c .before .loop .inv) .1 .is)
 

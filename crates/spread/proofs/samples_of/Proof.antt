@@ -5,19 +5,15 @@ use Rattle.spread.proofs.samples_of.Tie as tie
 use Rattle.spread.proofs.samples_of.Reads as reads
 use Rattle.spread.proofs.samples_of.Lts as lts
 
--- src/lib.rt:149:16
 mul-result : tie.Need-mul-result
 mul-result c = search needs
 
--- src/lib.rt:149:16
 shared-slice-read-result : tie.Need-shared-slice-read-result
 shared-slice-read-result c = search needs
 
--- src/lib.rt:145:1
 returns : tie.Need-returns
 returns c = samples-point _ _ _ (c .before .if1 .taken)
 
--- src/lib.rt:145:1
 returns-2 : tie.Need-returns-2
 returns-2 c = samples-none _ _ _ (c .if1 .left)
 

@@ -21,35 +21,27 @@ Inv-loop o axes places counts store held rows₀ place₀ i₀ rows place i = (i
 abbrev μ-loop : tie.MeasureT-loop
 μ-loop o axes places counts store held rows₀ place₀ i₀ rows place i = i
 
--- src/lib.rt:189:5
 loop-holds : tie.Need-loop-holds Inv-loop μ-loop
 loop-holds c = (omega arith, ((c .before .before .before .before .before .pre) .0 .place, backward-none _ _ _ _ _ refl))
 
--- src/lib.rt:190:9
 sub-i : tie.Need-sub-i Inv-loop μ-loop
 sub-i c = search needs
 
--- src/lib.rt:191:55
 block-requires : tie.Need-block-requires Inv-loop μ-loop
 block-requires c κs = search needs
 
--- src/lib.rt:191:9
 spread-block-requires : tie.Need-spread-block-requires Inv-loop μ-loop
 spread-block-requires c κs = held-again _ _ _ _ _ _ _ _ ((c .before .before .before .before .before .before .before .before .before .pre) .0) _ _ _ _ (c .before .before .loop-test .taken) ((c .before .before .before .loop .inv) .0) (c .before .block .ensures) (ap length (c .before .block .ensures) ∙ block-length _ _ (omega arith)) ((c .before .before .before .loop .inv) .1 .0) ((c .before .before .before .loop .inv) .1 .1 .same)
 
--- src/lib.rt:189:5
 loop-less : tie.Need-loop-less Inv-loop μ-loop
 loop-less c = search needs
 
--- src/lib.rt:189:5
 loop-again : tie.Need-loop-again Inv-loop μ-loop
 loop-again c = (omega arith, spread-again _ _ _ _ _ _ _ _ ((c .before .before .before .before .before .before .before .before .before .before .before .before .pre) .0) _ _ _ _ _ _ (c .before .before .before .before .before .loop-test .taken) ((c .before .before .before .before .before .before .loop .inv) .0) (c .before .before .before .before .block .ensures) (ap length (c .before .before .before .before .block .ensures) ∙ block-length _ _ (omega arith)) ((c .before .before .before .before .before .before .loop .inv) .1 .0) ((c .before .before .spread-block .kept .1 .1 .1 .1 .1 .1 .0)) ((c .before .before .before .before .before .before .loop .inv) .1 .1) (c .before .before .spread-block .ensures))
 
--- src/lib.rt:173:1
 same-length : tie.Need-same-length Inv-loop μ-loop
 same-length c = (c .before .loop .inv) .1 .1 .same
 
--- src/lib.rt:173:1
 returns : tie.Need-returns Inv-loop μ-loop
 returns c = spread-end _ _ _ _ _ _ _ _ ((c .before .before .before .before .before .before .before .pre) .0) _ _ _ (omega arith) ((c .before .loop .inv) .1 .0) ((c .before .loop .inv) .1 .1)
 

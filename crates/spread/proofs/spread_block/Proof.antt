@@ -11,27 +11,21 @@ use Rattle.places.proofs.place.before_block.Reads as before-block-reads
 use Rattle.spread.proofs.put_block.Reads as put-block-reads
 use Rattle.spread.proofs.samples_of.Reads as samples-of-reads
 
--- src/lib.rt:165:9
 has-point-requires : tie.Need-has-point-requires
 has-point-requires c κs = (c .before .before .before .before .before .pre) .long
 
--- src/lib.rt:166:9
 before-block-requires : tie.Need-before-block-requires
 before-block-requires c κs = block-before _ _ _ _ _ _ _ (c .before .before .before .before .before .before .pre) _ (c .has-point .ensures)
 
--- src/lib.rt:167:9
 samples-of-requires : tie.Need-samples-of-requires
 samples-of-requires c κs = block-index _ _ _ _ _ _ _ (c .before .before .before .before .before .before .before .pre) _ (c .before .has-point .ensures) _ (c .before-block .ensures)
 
--- src/lib.rt:168:5
 put-block-requires : tie.Need-put-block-requires
 put-block-requires c κs = block-puts _ _ _ _ _ _ _ (c .before .before .before .before .before .before .before .before .before .pre) _ (c .before .before .before .has-point .ensures) _ _ (c .before .before .before-block .ensures) (c .before .samples-of .ensures)
 
--- src/lib.rt:153:1
 same-length : tie.Need-same-length
 same-length c = search needs
 
--- src/lib.rt:153:1
 returns : tie.Need-returns
 returns c = block-done _ _ _ _ _ _ _ (c .before .before .before .before .before .before .before .before .before .before .before .before .pre) _ (c .before .before .before .before .before .before .has-point .ensures) _ _ _ (c .before .before .before .before .before .before-block .ensures) (c .before .before .before .before .samples-of .ensures) (c .before .before .put-block .ensures)
 

@@ -1,4 +1,4 @@
--- `trig::ceil_count` meets its contract. Assumes nothing.
+-- `whole::ceil_count` meets its contract. Assumes nothing.
 use borrow.Author.Needs.{needs}
 use native.Mathlib.Omega.{arith}
 use mathlib.Core.Path.{_≡_, sym, _∙_, ap}

@@ -1,4 +1,4 @@
--- `trig::half_up_count` meets its contract. Assumes nothing.
+-- `whole::half_up_count` meets its contract. Assumes nothing.
 use borrow.Author.Needs.{needs}
 use native.Mathlib.Omega.{arith}
 use mathlib.Core.Path.{_≡_, sym, _∙_, ap}

@@ -1,4 +1,4 @@
--- `trig::trunc_count` meets its contract. Assumes nothing.
+-- `whole::trunc_count` meets its contract. Assumes nothing.
 use Rattle.whole.specs.Whole.{truncCount}
 use Rattle.whole.proofs.Whole.{in-range, trunc-is}
 use Rattle.whole.proofs.trunc_count.Statement.{statement}

@@ -26,7 +26,7 @@ fill-knots-requires : tie.Need-fill-knots-requires
 fill-knots-requires c κs = (omega arith, omega (arith, degree-in _ _ ((c .before .before .before .before .before .before .pre) .0 .0) (c .before .degree-of .ensures)))
 
 fill-controls-requires : tie.Need-fill-controls-requires
-fill-controls-requires c κs = (((c .before .before .before .before .before .before .before .before .before .before .pre) .0 .1 .1, (c .before .before .before .before .before .before .before .before .before .before .pre) .0 .1 .0), ((c .before .before .before .before .before .before .before .before .before .before .pre) .1 .0 .0, ((c .before .before .before .before .before .before .before .before .before .before .pre) .1 .0 .1, product-in _ _ _ ((c .before .before .before .before .before .before .before .before .before .before .pre) .0 .1 .1) ((c .before .before .before .before .before .before .before .before .before .before .pre) .0 .1 .0) ((c .before .before .before .before .before .before .before .before .before .before .pre) .1 .1 .1))))
+fill-controls-requires c κs = (((c .before .before .before .before .before .before .before .before .before .before .pre) .0 .1 .1, (c .before .before .before .before .before .before .before .before .before .before .pre) .0 .1 .0), ((c .before .before .before .before .before .before .before .before .before .before .pre) .1 .0 .0, ((c .before .before .before .before .before .before .before .before .before .before .pre) .1 .0 .1, product-in _ _ _ ((c .before .before .before .before .before .before .before .before .before .before .pre) .0 .1 .1) ((c .before .before .before .before .before .before .before .before .before .before .pre) .1 .1 .1))))
 
 same-length : tie.Need-same-length
 same-length c = search needs
@@ -45,7 +45,7 @@ returns c = let i = degree-in _ _ ((c .before .before .before .before .before .b
         few = (c .before .before .before .before .before .before .before .before .before .before .before .before .before .pre) .0 .1 .0;
         narrow = (c .before .before .before .before .before .before .before .before .before .before .before .before .before .pre) .0 .1 .1;
         knots = omega (arith, i, k, (c .before .before .before .before .before .before .before .before .before .before .before .before .before .pre) .1 .1 .0, (c .before .before .before .before .before .before .before .before .before .before .before .before .before .pre) .0 .1 .0);
-        controls = product-in _ _ _ ((c .before .before .before .before .before .before .before .before .before .before .before .before .before .pre) .0 .1 .1) ((c .before .before .before .before .before .before .before .before .before .before .before .before .before .pre) .0 .1 .0) (omega (arith, w, (c .before .before .before .before .before .before .before .before .before .before .before .before .before .pre) .1 .1 .1));
+        controls = product-in _ _ _ ((c .before .before .before .before .before .before .before .before .before .before .before .before .before .pre) .0 .1 .1) (omega (arith, w, (c .before .before .before .before .before .before .before .before .before .before .before .before .before .pre) .1 .1 .1));
         top = knot-top _ _ _ (c .before .before .before .before .before .before .fill-knots .ensures);
       };
       power = (c .before .before .before .before .before .before .before .before .degree-of .ensures);

@@ -1,3 +1,4 @@
+-- `calltext::input::axis_list` meets its contract. Assumes nothing.
 use Prim.Native.Nat.{ℕ, _+_, _-_, _*_, _≤_, _<_}
 use mathlib.Core.Path.{_≡_}
 use native.Mathlib.Omega.{arith}
@@ -17,91 +18,69 @@ Inv-loop line at codes₀ next₀ n₀ codes next n = (n ≤ length codes) × (l
 abbrev μ-loop : tie.MeasureT-loop
 μ-loop line at codes₀ next₀ n₀ codes next n = length codes - n
 
--- src/input.rt:251:8
 is-dash-requires : tie.Need-is-dash-requires Inv-loop μ-loop
 is-dash-requires c κs = search needs
 
--- src/input.rt:252:9
 returns : tie.Need-returns Inv-loop μ-loop
 returns c = search needs
 
--- src/input.rt:260:5
 loop-holds : tie.Need-loop-holds Inv-loop μ-loop
 loop-holds c = search needs
 
--- src/input.rt:261:13
 digits-requires : tie.Need-digits-requires Inv-loop μ-loop
 digits-requires c κs = search needs
 
--- src/input.rt:263:13
 unread-requires : tie.Need-unread-requires Inv-loop μ-loop
 unread-requires c κs = search needs
 
--- src/input.rt:263:13
 same-length : tie.Need-same-length Inv-loop μ-loop
 same-length c = search needs
 
--- src/input.rt:263:13
 returns-2 : tie.Need-returns-2 Inv-loop μ-loop
 returns-2 c = search needs
 
--- src/input.rt:265:9
 mul-codes : tie.Need-mul-codes Inv-loop μ-loop
 mul-codes c = search needs
 
--- src/input.rt:265:9
 slice-write-codes : tie.Need-slice-write-codes Inv-loop μ-loop
 slice-write-codes c = search needs
 
--- src/input.rt:266:9
 add-n : tie.Need-add-n Inv-loop μ-loop
 add-n c = search needs
 
--- src/input.rt:269:13
 same-length-2 : tie.Need-same-length-2 Inv-loop μ-loop
 same-length-2 c = search needs
 
--- src/input.rt:269:13
 returns-3 : tie.Need-returns-3 Inv-loop μ-loop
 returns-3 c = search needs
 
--- src/input.rt:275:12
 shared-slice-read-if4 : tie.Need-shared-slice-read-if4 Inv-loop μ-loop
 shared-slice-read-if4 c = search needs
 
--- src/input.rt:276:13
 unread-requires-2 : tie.Need-unread-requires-2 Inv-loop μ-loop
 unread-requires-2 c κs = search needs
 
--- src/input.rt:276:13
 same-length-3 : tie.Need-same-length-3 Inv-loop μ-loop
 same-length-3 c = search needs
 
--- src/input.rt:276:13
 returns-4 : tie.Need-returns-4 Inv-loop μ-loop
 returns-4 c = search needs
 
--- src/input.rt:278:16
 add-next : tie.Need-add-next Inv-loop μ-loop
 add-next c = search needs
 
--- src/input.rt:260:5
 loop-less : tie.Need-loop-less Inv-loop μ-loop
 loop-less c = rw (length-set) (omega arith)
 
--- src/input.rt:260:5
 loop-again : tie.Need-loop-again Inv-loop μ-loop
 loop-again c = rw (length-set) (omega arith, omega arith)
 
--- src/input.rt:280:5
 unread-requires-3 : tie.Need-unread-requires-3 Inv-loop μ-loop
 unread-requires-3 c κs = search needs
 
--- src/input.rt:248:1
 same-length-4 : tie.Need-same-length-4 Inv-loop μ-loop
 same-length-4 c = search needs
 
--- src/input.rt:248:1
 returns-5 : tie.Need-returns-5 Inv-loop μ-loop
 returns-5 c = search needs
 

@@ -1,3 +1,4 @@
+-- `calltext::input::cells` meets its contract. Assumes nothing.
 use Prim.Native.Nat.{ℕ, _+_, _-_, _*_, _≤_, _<_}
 use mathlib.Core.Path.{_≡_}
 use native.Mathlib.Omega.{arith}
@@ -16,51 +17,39 @@ Inv-loop line at present cells₀ next₀ left₀ k₀ cells next left k = (k �
 abbrev μ-loop : tie.MeasureT-loop
 μ-loop line at present cells₀ next₀ left₀ k₀ cells next left k = length cells - k
 
--- src/input.rt:191:5
 loop-holds : tie.Need-loop-holds Inv-loop μ-loop
 loop-holds c = search needs
 
--- src/input.rt:192:13
 cell-requires : tie.Need-cell-requires Inv-loop μ-loop
 cell-requires c κs = search needs
 
--- src/input.rt:194:13
 unread-requires : tie.Need-unread-requires Inv-loop μ-loop
 unread-requires c κs = search needs
 
--- src/input.rt:194:13
 same-length : tie.Need-same-length Inv-loop μ-loop
 same-length c = search needs
 
--- src/input.rt:194:13
 returns : tie.Need-returns Inv-loop μ-loop
 returns c = search needs
 
--- src/input.rt:196:9
 mul-cells : tie.Need-mul-cells Inv-loop μ-loop
 mul-cells c = search needs
 
--- src/input.rt:196:9
 slice-write-cells : tie.Need-slice-write-cells Inv-loop μ-loop
 slice-write-cells c = search needs
 
--- src/input.rt:199:9
 add-k : tie.Need-add-k Inv-loop μ-loop
 add-k c = search needs
 
--- src/input.rt:191:5
 loop-less : tie.Need-loop-less Inv-loop μ-loop
 loop-less c = rw (length-set) (omega arith)
 
--- src/input.rt:191:5
 loop-again : tie.Need-loop-again Inv-loop μ-loop
 loop-again c = rw (length-set) (omega arith, omega arith)
 
--- src/input.rt:185:1
 same-length-2 : tie.Need-same-length-2 Inv-loop μ-loop
 same-length-2 c = search needs
 
--- src/input.rt:185:1
 returns-2 : tie.Need-returns-2 Inv-loop μ-loop
 returns-2 c = search needs
 

@@ -1,3 +1,4 @@
+-- `calltext::output::put_cells` meets its contract. Assumes nothing.
 use Prim.Native.Nat.{ℕ, _+_, _-_, _*_, _≤_, _<_}
 use mathlib.Core.Path.{_≡_}
 use native.Mathlib.Omega.{arith}
@@ -15,39 +16,30 @@ Inv-loop out₀ at present cells to₀ left₀ k₀ out to left k = (k ≤ lengt
 abbrev μ-loop : tie.MeasureT-loop
 μ-loop out₀ at present cells to₀ left₀ k₀ out to left k = length cells - k
 
--- src/output.rt:51:5
 loop-holds : tie.Need-loop-holds Inv-loop μ-loop
 loop-holds c = search needs
 
--- src/output.rt:52:47
 mul-put-cell : tie.Need-mul-put-cell Inv-loop μ-loop
 mul-put-cell c = search needs
 
--- src/output.rt:52:47
 shared-slice-read-put-cell : tie.Need-shared-slice-read-put-cell Inv-loop μ-loop
 shared-slice-read-put-cell c = search needs
 
--- src/output.rt:52:9
 put-cell-requires : tie.Need-put-cell-requires Inv-loop μ-loop
 put-cell-requires c κs = search needs
 
--- src/output.rt:54:9
 add-k : tie.Need-add-k Inv-loop μ-loop
 add-k c = search needs
 
--- src/output.rt:51:5
 loop-less : tie.Need-loop-less Inv-loop μ-loop
 loop-less c = search needs
 
--- src/output.rt:51:5
 loop-again : tie.Need-loop-again Inv-loop μ-loop
 loop-again c = search needs
 
--- src/output.rt:47:1
 same-length : tie.Need-same-length Inv-loop μ-loop
 same-length c = search needs
 
--- src/output.rt:47:1
 returns : tie.Need-returns Inv-loop μ-loop
 returns c = search needs
 

@@ -1,5 +1,6 @@
-use mathlib.Core.Path.{_≡_, refl, sym, ap, _∙_}
-use Prim.Native.Nat.{ℕ, _≤_, _-_, _<_, _+_}
+-- `curves::fitted::copy_to` meets its contract. Assumes nothing.
+use mathlib.Core.Path.{_≡_, refl, ap, _∙_}
+use Prim.Native.Nat.{ℕ, _≤_, _-_}
 use native.Mathlib.Omega.{arith}
 use lib.ListN.{length}
 use Rattle.floats.specs.Numbers.{at}
@@ -8,8 +9,6 @@ use Rattle.floats.specs.Fill.{Filling, filling-none, filling-more}
 use borrow.Author.Needs.{needs}
 use Rattle.curves.proofs.fitted.copy_to.Statement.{statement}
 use Rattle.curves.proofs.fitted.copy_to.Tie as tie
-use Rattle.curves.proofs.fitted.copy_to.Reads as reads
-use Rattle.curves.proofs.fitted.copy_to.Lts as lts
 
 abbrev Inv-loop : tie.InvT-loop
 Inv-loop src dst₀ i₀ dst i = ((i ≤ length src) × (length dst ≡ length dst₀)) × Filling (at src) i dst₀ dst
@@ -17,43 +16,33 @@ Inv-loop src dst₀ i₀ dst i = ((i ≤ length src) × (length dst ≡ length d
 abbrev μ-loop : tie.MeasureT-loop
 μ-loop src dst₀ i₀ dst i = length src - i
 
--- src/fitted.rt:17:5
 loop-holds : tie.Need-loop-holds Inv-loop μ-loop
 loop-holds c = ((omega arith, refl), filling-none)
 
--- src/fitted.rt:18:18
 mul-dst : tie.Need-mul-dst Inv-loop μ-loop
 mul-dst c = search needs
 
--- src/fitted.rt:18:18
 shared-slice-read-dst : tie.Need-shared-slice-read-dst Inv-loop μ-loop
 shared-slice-read-dst c = search needs
 
--- src/fitted.rt:18:9
 mul-dst-2 : tie.Need-mul-dst-2 Inv-loop μ-loop
 mul-dst-2 c = search needs
 
--- src/fitted.rt:18:9
 slice-write-dst : tie.Need-slice-write-dst Inv-loop μ-loop
 slice-write-dst c = search needs
 
--- src/fitted.rt:19:9
 add-i : tie.Need-add-i Inv-loop μ-loop
 add-i c = search needs
 
--- src/fitted.rt:17:5
 loop-less : tie.Need-loop-less Inv-loop μ-loop
 loop-less c = search needs
 
--- src/fitted.rt:17:5
 loop-again : tie.Need-loop-again Inv-loop μ-loop
 loop-again c = let f = filling-more ((c .before .before .loop .inv) .1) (omega arith) refl in ((omega arith, f .same), f)
 
--- src/fitted.rt:12:1
 same-length : tie.Need-same-length Inv-loop μ-loop
 same-length c = (c .before .loop .inv) .1 .same
 
--- src/fitted.rt:12:1
 returns : tie.Need-returns Inv-loop μ-loop
 returns c = let e : (c .before .loop .i) ≡ length (c .before .before .args .src .now) = omega arith in (c .before .loop .inv) .1 .is ∙ ap (λ (z : ℕ). filled (at (c .before .before .args .src .now)) z (c .before .before .args .dst .now)) e
 

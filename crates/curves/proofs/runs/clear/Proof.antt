@@ -1,5 +1,6 @@
-use mathlib.Core.Path.{_≡_, refl, sym, ap, _∙_}
-use Prim.Native.Nat.{ℕ, _≤_, _-_, _<_, _+_}
+-- `curves::runs::clear` meets its contract. Assumes nothing.
+use mathlib.Core.Path.{_≡_, refl, ap, _∙_}
+use Prim.Native.Nat.{ℕ, _≤_, _-_}
 use native.Mathlib.Omega.{arith}
 use lib.ListN.{length}
 use Rattle.floats.specs.Lists.{filled}
@@ -7,8 +8,6 @@ use Rattle.floats.specs.Fill.{Filling, filling-none, filling-more}
 use borrow.Author.Needs.{needs}
 use Rattle.curves.proofs.runs.clear.Statement.{statement}
 use Rattle.curves.proofs.runs.clear.Tie as tie
-use Rattle.curves.proofs.runs.clear.Reads as reads
-use Rattle.curves.proofs.runs.clear.Lts as lts
 
 abbrev Inv-loop : tie.InvT-loop
 Inv-loop counts₀ m i₀ counts i = ((i ≤ m) × (length counts ≡ length counts₀)) × Filling (λ (k : ℕ). 0) i counts₀ counts
@@ -16,35 +15,27 @@ Inv-loop counts₀ m i₀ counts i = ((i ≤ m) × (length counts ≡ length cou
 abbrev μ-loop : tie.MeasureT-loop
 μ-loop counts₀ m i₀ counts i = m - i
 
--- src/runs.rt:63:5
 loop-holds : tie.Need-loop-holds Inv-loop μ-loop
 loop-holds c = ((omega arith, refl), filling-none)
 
--- src/runs.rt:64:9
 mul-counts : tie.Need-mul-counts Inv-loop μ-loop
 mul-counts c = search needs
 
--- src/runs.rt:64:9
 slice-write-counts : tie.Need-slice-write-counts Inv-loop μ-loop
 slice-write-counts c = search needs
 
--- src/runs.rt:65:9
 add-i : tie.Need-add-i Inv-loop μ-loop
 add-i c = search needs
 
--- src/runs.rt:63:5
 loop-less : tie.Need-loop-less Inv-loop μ-loop
 loop-less c = search needs
 
--- src/runs.rt:63:5
 loop-again : tie.Need-loop-again Inv-loop μ-loop
 loop-again c = let f = filling-more ((c .before .loop .inv) .1) (omega arith) refl in ((omega arith, f .same), f)
 
--- src/runs.rt:58:1
 same-length : tie.Need-same-length Inv-loop μ-loop
 same-length c = (c .before .loop .inv) .1 .same
 
--- src/runs.rt:58:1
 returns : tie.Need-returns Inv-loop μ-loop
 returns c = let e : (c .before .loop .i) ≡ (c .before .before .args .m) = omega arith in (c .before .loop .inv) .1 .is ∙ ap (λ (z : ℕ). filled (λ (k : ℕ). 0) z (c .before .before .args .counts .now)) e
 

@@ -1,28 +1,22 @@
-use mathlib.Core.Path.{_≡_, refl, sym, ap, _∙_}
+-- `curves::runs::prepare` meets its contract. Assumes nothing.
+use mathlib.Core.Path.{refl, sym}
 use mathlib.Core.Bool.{true≢false, false≢true}
 use native.Mathlib.Omega.{arith}
 use borrow.Author.Tests.{eq-eqb, ne-eqb}
+use Rattle.curves.proofs.Laying.{cells-in}
 use borrow.Author.Needs.{needs}
 use Rattle.curves.proofs.runs.prepare.Statement.{statement}
 use Rattle.curves.proofs.runs.prepare.Tie as tie
-use Rattle.curves.proofs.runs.prepare.Reads as reads
-use Rattle.curves.proofs.runs.prepare.Lts as lts
-use Rattle.basis.proofs.tables.prepare_basis.Reads as prepare-basis-reads
-use Rattle.curves.proofs.fitted.lay_fit.Reads as lay-fit-reads
 
--- src/runs.rt:41:13
 prepare-basis-requires : tie.Need-prepare-basis-requires
 prepare-basis-requires c κs = search needs
 
--- src/runs.rt:42:9
 same-length : tie.Need-same-length
 same-length c = search needs
 
--- src/runs.rt:42:9
 same-length-2 : tie.Need-same-length-2
 same-length-2 c = search needs
 
--- src/runs.rt:42:9
 returns : tie.Need-returns
 returns c = record {
   kind = sym (eq-eqb _ _ (c .before .before .before .before .before .before .before .if1 .taken));
@@ -34,24 +28,20 @@ returns c = record {
   metric = (c .before .before .before .before .before .before .before .before .before .before .before .before .before .pre) .1 .0 .0;
   points = (c .before .before .before .before .before .before .before .before .before .before .before .before .before .pre) .1 .0 .1 .0;
   knots = omega (arith, (c .before .before .before .before .prepare-basis .kept .1 .1 .1 .1 .1 .0), (c .before .before .before .before .before .before .before .before .before .before .before .before .before .pre) .1 .1 .0);
-  controls = omega (arith, (c .before .before .before .before .prepare-basis .kept .1 .1 .1 .1 .1 .1 .0), (c .before .before .before .before .before .before .before .before .before .before .before .before .before .pre) .1 .1 .1);
+  controls = omega (arith, (c .before .before .before .before .prepare-basis .kept .1 .1 .1 .1 .1 .1 .0), (c .before .before .before .before .before .before .before .before .before .before .before .before .before .pre) .1 .1 .1, cells-in (c .before .before .before .before .before .before .before .before .before .before .before .before .before .args .n) (c .before .before .before .before .before .before .before .before .before .before .before .before .before .args .ch) ((c .before .before .before .before .before .before .before .before .before .before .before .before .before .pre) .0 .1 .1));
   spline = λ e. (c .before .before .before .before .prepare-basis .ensures);
   fit = λ e. absurd (true≢false e);
 }
 
--- src/runs.rt:49:9
 lay-fit-requires : tie.Need-lay-fit-requires
 lay-fit-requires c κs = search needs
 
--- src/runs.rt:24:1
 same-length-3 : tie.Need-same-length-3
 same-length-3 c = search needs
 
--- src/runs.rt:24:1
 same-length-4 : tie.Need-same-length-4
 same-length-4 c = search needs
 
--- src/runs.rt:24:1
 returns-2 : tie.Need-returns-2
 returns-2 c = record {
   kind = sym (ne-eqb _ _ (c .before .before .before .before .before .before .before .if1 .left));
@@ -63,7 +53,7 @@ returns-2 c = record {
   metric = (c .before .before .before .before .before .before .before .before .before .before .before .before .before .pre) .1 .0 .0;
   points = (c .before .before .before .before .before .before .before .before .before .before .before .before .before .pre) .1 .0 .1 .0;
   knots = omega (arith, (c .before .before .before .before .lay-fit .kept .1 .1 .1 .1 .1 .0), (c .before .before .before .before .before .before .before .before .before .before .before .before .before .pre) .1 .1 .0);
-  controls = omega (arith, (c .before .before .before .before .lay-fit .kept .1 .1 .1 .1 .1 .1 .0), (c .before .before .before .before .before .before .before .before .before .before .before .before .before .pre) .1 .1 .1);
+  controls = omega (arith, (c .before .before .before .before .lay-fit .kept .1 .1 .1 .1 .1 .1 .0), (c .before .before .before .before .before .before .before .before .before .before .before .before .before .pre) .1 .1 .1, cells-in (c .before .before .before .before .before .before .before .before .before .before .before .before .before .args .n) (c .before .before .before .before .before .before .before .before .before .before .before .before .before .args .ch) ((c .before .before .before .before .before .before .before .before .before .before .before .before .before .pre) .0 .1 .1));
   spline = λ e. absurd (false≢true e);
   fit = λ e. (c .before .before .before .before .lay-fit .ensures);
 }

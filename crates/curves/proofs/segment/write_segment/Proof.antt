@@ -1,122 +1,93 @@
+-- `curves::segment::write_segment` meets its contract. Assumes nothing.
 use mathlib.Core.Path.{refl, sym, ap, _∙_, subst}
 use mathlib.Core.List.{List}
 use Prim.Native.Nat.{ℕ, _≤_, _+_}
 use native.Mathlib.Omega.{arith}
 use lib.ListN.{length}
 use lib.Ieee.{Float}
-use Rattle.curves.specs.Runs.{encode}
+use Rattle.walks.specs.Walks.{encode}
+use Rattle.walks.specs.Writing.{one-room, written-as}
+use Rattle.walks.specs.Remembering.{recalls-as, cursor-one, passed-one}
 use Rattle.curves.proofs.Segmenting.{from-in, stretch-of-points, run-one, run-walk, lefts-one, lefts-walk}
-use Rattle.curves.proofs.Writing.{one-room, written-as}
-use Rattle.curves.proofs.Remembering.{recalls-as, cursor-one, passed-one}
 use borrow.Author.Needs.{needs}
 use Rattle.curves.proofs.segment.write_segment.Statement.{statement}
 use Rattle.curves.proofs.segment.write_segment.Tie as tie
-use Rattle.curves.proofs.segment.write_segment.Reads as reads
-use Rattle.curves.proofs.segment.write_segment.Lts as lts
-use Rattle.curves.proofs.walk.put_sample.Reads as put-sample-reads
-use Rattle.curves.proofs.walk.write_walk.Reads as write-walk-reads
 
--- src/segment.rt:117:16
 add-next : tie.Need-add-next
 add-next c = search needs
 
--- src/segment.rt:118:13
 mul-a : tie.Need-mul-a
 mul-a c = omega (arith, from-in (c .before .before .before .before .before .before .args .i) (c .before .before .before .before .before .before .args .s .n) (c .before .before .before .before .before .before .args .s .ch) _ ((c .before .before .before .before .before .before .pre) .1 .1 .0) ((c .before .before .before .before .before .before .pre) .0 .points))
 
--- src/segment.rt:119:13
 add-b : tie.Need-add-b
 add-b c = omega (arith, from-in (c .before .before .before .before .before .before .args .i) (c .before .before .before .before .before .before .args .s .n) (c .before .before .before .before .before .before .args .s .ch) _ ((c .before .before .before .before .before .before .pre) .1 .1 .0) ((c .before .before .before .before .before .before .pre) .0 .points))
 
--- src/segment.rt:120:13
 add-e : tie.Need-add-e
 add-e c = omega (arith, from-in (c .before .before .before .before .before .before .args .i) (c .before .before .before .before .before .before .args .s .n) (c .before .before .before .before .before .before .args .s .ch) _ ((c .before .before .before .before .before .before .pre) .1 .1 .0) ((c .before .before .before .before .before .before .pre) .0 .points))
 
--- src/segment.rt:121:14
 mul-t0 : tie.Need-mul-t0
 mul-t0 c = search needs
 
--- src/segment.rt:121:14
 shared-slice-read-t0 : tie.Need-shared-slice-read-t0
 shared-slice-read-t0 c = search needs
 
--- src/segment.rt:122:14
 mul-t1 : tie.Need-mul-t1
 mul-t1 c = search needs
 
--- src/segment.rt:122:14
 shared-slice-read-t1 : tie.Need-shared-slice-read-t1
 shared-slice-read-t1 c = search needs
 
--- src/segment.rt:124:27
 mul-put-sample : tie.Need-mul-put-sample
 mul-put-sample c = omega (arith, from-in (c .before .before .before .before .before .before .before .before .before .args .i) (c .before .before .before .before .before .before .before .before .before .args .s .n) (c .before .before .before .before .before .before .before .before .before .args .s .ch) _ ((c .before .before .before .before .before .before .before .before .before .pre) .1 .1 .0) ((c .before .before .before .before .before .before .before .before .before .pre) .0 .points))
 
--- src/segment.rt:124:27
 sub-put-sample : tie.Need-sub-put-sample
 sub-put-sample c = search needs
 
--- src/segment.rt:124:27
 part-put-sample-start : tie.Need-part-put-sample-start
 part-put-sample-start c = search needs
 
--- src/segment.rt:124:27
 part-put-sample-end : tie.Need-part-put-sample-end
 part-put-sample-end c = omega (arith, from-in (c .before .before .before .before .before .before .before .before .before .args .i) (c .before .before .before .before .before .before .before .before .before .args .s .n) (c .before .before .before .before .before .before .before .before .before .args .s .ch) _ ((c .before .before .before .before .before .before .before .before .before .pre) .1 .1 .0) ((c .before .before .before .before .before .before .before .before .before .pre) .0 .points))
 
--- src/segment.rt:124:9
 put-sample-requires : tie.Need-put-sample-requires
 put-sample-requires c κs = (one-room _ (c .before .before .before .before .before .before .before .before .before .before .before .args .out .now) _ (run-one (c .before .before .before .before .before .before .before .before .before .before .before .args .s) (c .before .before .before .before .before .before .before .before .before .before .before .args .ms .now) (c .before .before .before .before .before .before .before .before .before .before .before .args .tol) (c .before .before .before .before .before .before .before .before .before .before .before .args .pts .now) (c .before .before .before .before .before .before .before .before .before .before .before .args .ks .now) (c .before .before .before .before .before .before .before .before .before .before .before .args .cs .now) (c .before .before .before .before .before .before .before .before .before .before .before .args .i) refl (c .before .before .if1 .taken)) ((c .before .before .before .before .before .before .before .before .before .before .before .pre) .1 .1 .1), cursor-one ((c .before .before .before .before .before .before .before .before .before .before .before .pre) .1 .0 .1))
 
--- src/segment.rt:124:9
 same-length : tie.Need-same-length
 same-length c = search needs
 
--- src/segment.rt:124:9
 returns : tie.Need-returns
 returns c = (written-as (run-one (c .before .before .before .before .before .before .before .before .before .before .before .before .before .before .args .s) (c .before .before .before .before .before .before .before .before .before .before .before .before .before .before .args .ms .now) (c .before .before .before .before .before .before .before .before .before .before .before .before .before .before .args .tol) (c .before .before .before .before .before .before .before .before .before .before .before .before .before .before .args .pts .now) (c .before .before .before .before .before .before .before .before .before .before .before .before .before .before .args .ks .now) (c .before .before .before .before .before .before .before .before .before .before .before .before .before .before .args .cs .now) (c .before .before .before .before .before .before .before .before .before .before .before .before .before .before .args .i) refl (c .before .before .before .before .before .if1 .taken)) ((c .before .before .put-sample .ensures) .0), passed-one (c .before .before .before .before .before .before .before .before .before .before .before .before .before .before .args .at .sample) (lefts-one (c .before .before .before .before .before .before .before .before .before .before .before .before .before .before .args .s) (c .before .before .before .before .before .before .before .before .before .before .before .before .before .before .args .ms .now) (c .before .before .before .before .before .before .before .before .before .before .before .before .before .before .args .tol) (c .before .before .before .before .before .before .before .before .before .before .before .before .before .before .args .pts .now) (c .before .before .before .before .before .before .before .before .before .before .before .before .before .before .args .ks .now) (c .before .before .before .before .before .before .before .before .before .before .before .before .before .before .args .cs .now) (c .before .before .before .before .before .before .before .before .before .before .before .before .before .before .args .i) refl (c .before .before .before .before .before .if1 .taken)) ((c .before .before .put-sample .ensures) .1))
 
--- src/segment.rt:132:9
 mul-write-walk : tie.Need-mul-write-walk
 mul-write-walk c = omega (arith, from-in (c .before .before .before .before .before .before .before .before .before .args .i) (c .before .before .before .before .before .before .before .before .before .args .s .n) (c .before .before .before .before .before .before .before .before .before .args .s .ch) _ ((c .before .before .before .before .before .before .before .before .before .pre) .1 .1 .0) ((c .before .before .before .before .before .before .before .before .before .pre) .0 .points))
 
--- src/segment.rt:132:9
 sub-write-walk : tie.Need-sub-write-walk
 sub-write-walk c = search needs
 
--- src/segment.rt:132:9
 part-write-walk-start : tie.Need-part-write-walk-start
 part-write-walk-start c = search needs
 
--- src/segment.rt:132:9
 part-write-walk-end : tie.Need-part-write-walk-end
 part-write-walk-end c = omega (arith, from-in (c .before .before .before .before .before .before .before .before .before .args .i) (c .before .before .before .before .before .before .before .before .before .args .s .n) (c .before .before .before .before .before .before .before .before .before .args .s .ch) _ ((c .before .before .before .before .before .before .before .before .before .pre) .1 .1 .0) ((c .before .before .before .before .before .before .before .before .before .pre) .0 .points))
 
--- src/segment.rt:134:9
 mul-write-walk-2 : tie.Need-mul-write-walk-2
 mul-write-walk-2 c = omega (arith, from-in (c .before .before .before .before .before .before .before .before .before .before .args .i) (c .before .before .before .before .before .before .before .before .before .before .args .s .n) (c .before .before .before .before .before .before .before .before .before .before .args .s .ch) _ ((c .before .before .before .before .before .before .before .before .before .before .pre) .1 .1 .0) ((c .before .before .before .before .before .before .before .before .before .before .pre) .0 .points))
 
--- src/segment.rt:134:9
 sub-write-walk-2 : tie.Need-sub-write-walk-2
 sub-write-walk-2 c = search needs
 
--- src/segment.rt:134:9
 part-write-walk-start-2 : tie.Need-part-write-walk-start-2
 part-write-walk-start-2 c = search needs
 
--- src/segment.rt:134:9
 part-write-walk-end-2 : tie.Need-part-write-walk-end-2
 part-write-walk-end-2 c = omega (arith, from-in (c .before .before .before .before .before .before .before .before .before .before .args .i) (c .before .before .before .before .before .before .before .before .before .before .args .s .n) (c .before .before .before .before .before .before .before .before .before .before .args .s .ch) _ ((c .before .before .before .before .before .before .before .before .before .before .pre) .1 .1 .0) ((c .before .before .before .before .before .before .before .before .before .before .pre) .0 .points))
 
--- src/segment.rt:126:5
 write-walk-requires : tie.Need-write-walk-requires
 write-walk-requires c κs = (stretch-of-points ((c .before .before .before .before .before .before .before .before .before .before .before .before .pre) .0) (c .before .before .before .before .before .before .before .before .before .before .before .before .args .i) ((c .before .before .before .before .before .before .before .before .before .before .before .before .pre) .1 .1 .0), ((recalls-as (lefts-walk (c .before .before .before .before .before .before .before .before .before .before .before .before .args .s) (c .before .before .before .before .before .before .before .before .before .before .before .before .args .ms .now) (c .before .before .before .before .before .before .before .before .before .before .before .before .args .tol) (c .before .before .before .before .before .before .before .before .before .before .before .before .args .pts .now) (c .before .before .before .before .before .before .before .before .before .before .before .before .args .ks .now) (c .before .before .before .before .before .before .before .before .before .before .before .before .args .cs .now) (c .before .before .before .before .before .before .before .before .before .before .before .before .args .i) refl (c .before .before .before .if1 .left)) ((c .before .before .before .before .before .before .before .before .before .before .before .before .pre) .1 .0 .0), (c .before .before .before .before .before .before .before .before .before .before .before .before .pre) .1 .0 .1), subst (λ (z : List (List Float)). (c .before .before .before .before .before .before .before .before .before .before .before .before .args .at .word) + length (encode z) ≤ length (c .before .before .before .before .before .before .before .before .before .before .before .before .args .out .now)) (run-walk (c .before .before .before .before .before .before .before .before .before .before .before .before .args .s) (c .before .before .before .before .before .before .before .before .before .before .before .before .args .ms .now) (c .before .before .before .before .before .before .before .before .before .before .before .before .args .tol) (c .before .before .before .before .before .before .before .before .before .before .before .before .args .pts .now) (c .before .before .before .before .before .before .before .before .before .before .before .before .args .ks .now) (c .before .before .before .before .before .before .before .before .before .before .before .before .args .cs .now) (c .before .before .before .before .before .before .before .before .before .before .before .before .args .i) refl (c .before .before .before .if1 .left)) ((c .before .before .before .before .before .before .before .before .before .before .before .before .pre) .1 .1 .1)))
 
--- src/segment.rt:98:1
 same-length-2 : tie.Need-same-length-2
 same-length-2 c = search needs
 
--- src/segment.rt:98:1
 returns-2 : tie.Need-returns-2
 returns-2 c = (written-as (run-walk (c .before .before .before .before .before .before .before .before .before .before .before .before .before .before .before .args .s) (c .before .before .before .before .before .before .before .before .before .before .before .before .before .before .before .args .ms .now) (c .before .before .before .before .before .before .before .before .before .before .before .before .before .before .before .args .tol) (c .before .before .before .before .before .before .before .before .before .before .before .before .before .before .before .args .pts .now) (c .before .before .before .before .before .before .before .before .before .before .before .before .before .before .before .args .ks .now) (c .before .before .before .before .before .before .before .before .before .before .before .before .before .before .before .args .cs .now) (c .before .before .before .before .before .before .before .before .before .before .before .before .before .before .before .args .i) refl (c .before .before .before .before .before .before .if1 .left)) ((c .before .before .write-walk .ensures) .0), ((c .before .before .write-walk .ensures) .1) ∙ ap (λ (z : List ℕ). (c .before .before .before .before .before .before .before .before .before .before .before .before .before .before .before .args .at .sample) + length z) (sym (lefts-walk (c .before .before .before .before .before .before .before .before .before .before .before .before .before .before .before .args .s) (c .before .before .before .before .before .before .before .before .before .before .before .before .before .before .before .args .ms .now) (c .before .before .before .before .before .before .before .before .before .before .before .before .before .before .before .args .tol) (c .before .before .before .before .before .before .before .before .before .before .before .before .before .before .before .args .pts .now) (c .before .before .before .before .before .before .before .before .before .before .before .before .before .before .before .args .ks .now) (c .before .before .before .before .before .before .before .before .before .before .before .before .before .before .before .args .cs .now) (c .before .before .before .before .before .before .before .before .before .before .before .before .before .before .before .args .i) refl (c .before .before .before .before .before .before .if1 .left))))
 

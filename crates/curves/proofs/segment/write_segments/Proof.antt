@@ -1,18 +1,21 @@
-use mathlib.Core.Path.{_≡_, refl, ap, _∙_}
+-- `curves::segment::write_segments` meets its contract. Assumes nothing.
+use mathlib.Core.Path.{_≡_, refl, sym, ap, _∙_, subst}
+use mathlib.Core.List.{List}
 use Prim.Native.Nat.{ℕ, _≤_, _-_, _+_}
 use native.Mathlib.Omega.{arith}
 use lib.ListN.{length}
+use lib.Ieee.{Float}
 use Rattle.floats.specs.Lists.{upto, flatten, spliced}
-use Rattle.curves.specs.Runs.{encode}
-use Rattle.curves.specs.Walks.{fitRunAt, Written}
+use Rattle.walks.specs.Walks.{encode, Written}
+use Rattle.walks.specs.Writing.{written-as}
+use Rattle.walks.specs.Remembering.{recalls-as}
+use Rattle.curves.specs.Stretches.{fitRunAt}
 use Rattle.curves.specs.Lefts.{fitLefts, joined}
 use Rattle.curves.proofs.Segmenting.{runs-none, run-room, run-written, lefts-few}
-use Rattle.curves.proofs.Remembering.{passed-none, passed-more, recalls-part, cursor-part}
+use Rattle.curves.proofs.Hinting.{pieces-of, count-as, segments-as, run-as, lefts-as}
+use Rattle.curves.proofs.Joining.{passed-none, passed-more, recalls-part, cursor-part}
 use Rattle.curves.proofs.segment.write_segments.Statement.{statement}
 use Rattle.curves.proofs.segment.write_segments.Tie as tie
-use Rattle.curves.proofs.segment.write_segments.Reads as reads
-use Rattle.curves.proofs.segment.write_segments.Lts as lts
-use Rattle.curves.proofs.segment.write_segment.Reads as write-segment-reads
 
 abbrev Inv-loop : tie.InvT-loop
 Inv-loop s tol ms pts ks cs lefts out₀ n last at₀ i₀ out at i = ((i ≤ s .n - 1) × (length out ≡ length out₀)) × (Written out₀ 0 (flatten (upto (fitRunAt s ms tol pts ks cs) i)) (at .word) out × (at .sample ≡ 0 + length (joined (fitLefts s ms tol pts ks cs) i)))
@@ -20,35 +23,30 @@ Inv-loop s tol ms pts ks cs lefts out₀ n last at₀ i₀ out at i = ((i ≤ s 
 abbrev μ-loop : tie.MeasureT-loop
 μ-loop s tol ms pts ks cs lefts out₀ n last at₀ i₀ out at i = s .n - 1 - i
 
--- src/segment.rt:160:16
 sub-last : tie.Need-sub-last Inv-loop μ-loop
 sub-last c = omega (arith, (c .before .before .before .before .before .before .pre) .0 .two)
 
--- src/segment.rt:166:5
 loop-holds : tie.Need-loop-holds Inv-loop μ-loop
 loop-holds c = ((omega arith, refl), (runs-none (fitRunAt (c .before .before .before .before .before .before .args .s) (c .before .before .before .before .before .before .args .ms .now) (c .before .before .before .before .before .before .args .tol) (c .before .before .before .before .before .before .args .pts .now) (c .before .before .before .before .before .before .args .ks .now) (c .before .before .before .before .before .before .args .cs .now)) _, passed-none (fitLefts (c .before .before .before .before .before .before .args .s) (c .before .before .before .before .before .before .args .ms .now) (c .before .before .before .before .before .before .args .tol) (c .before .before .before .before .before .before .args .pts .now) (c .before .before .before .before .before .before .args .ks .now) (c .before .before .before .before .before .before .args .cs .now))))
 
--- src/segment.rt:167:9
+add-next : tie.Need-add-next Inv-loop μ-loop
+add-next c = omega (arith, (c .loop-test .taken), (c .before .before .before .before .before .before .before .before .pre) .0 .tables .few)
+
+at-stretch-requires : tie.Need-at-stretch-requires Inv-loop μ-loop
+at-stretch-requires c κs = (pieces-of ((c .before .before .before .before .before .before .before .before .pre) .0), omega (arith, (c .loop-test .taken), (c .before .before .before .before .before .before .before .before .pre) .0 .tables .few, (c .before .before .before .before .before .before .before .before .pre) .0 .tables .knots))
+
 write-segment-requires : tie.Need-write-segment-requires Inv-loop μ-loop
-write-segment-requires c κs = ((c .before .before .before .before .before .before .before .before .before .pre) .0, ((recalls-part (fitLefts (c .before .before .before .before .before .before .before .before .before .args .s) (c .before .before .before .before .before .before .before .before .before .args .ms .now) (c .before .before .before .before .before .before .before .before .before .args .tol) (c .before .before .before .before .before .before .before .before .before .args .pts .now) (c .before .before .before .before .before .before .before .before .before .args .ks .now) (c .before .before .before .before .before .before .before .before .before .args .cs .now)) (c .before .before .loop .i) _ (c .before .loop-test .taken) ((c .before .before .loop .inv) .1 .1) ((c .before .before .before .before .before .before .before .before .before .pre) .1 .0), cursor-part (fitLefts (c .before .before .before .before .before .before .before .before .before .args .s) (c .before .before .before .before .before .before .before .before .before .args .ms .now) (c .before .before .before .before .before .before .before .before .before .args .tol) (c .before .before .before .before .before .before .before .before .before .args .pts .now) (c .before .before .before .before .before .before .before .before .before .args .ks .now) (c .before .before .before .before .before .before .before .before .before .args .cs .now)) (lefts-few (c .before .before .before .before .before .before .before .before .before .args .s) (c .before .before .before .before .before .before .before .before .before .args .ms .now) (c .before .before .before .before .before .before .before .before .before .args .tol) (c .before .before .before .before .before .before .before .before .before .args .pts .now) (c .before .before .before .before .before .before .before .before .before .args .ks .now) (c .before .before .before .before .before .before .before .before .before .args .cs .now)) (c .before .before .loop .i) (omega (arith, (c .before .loop-test .taken), (c .before .before .before .before .before .before .before .before .before .pre) .0 .tables .few)) ((c .before .before .loop .inv) .1 .1)), (omega (arith, (c .before .loop-test .taken)), run-room (fitRunAt (c .before .before .before .before .before .before .before .before .before .args .s) (c .before .before .before .before .before .before .before .before .before .args .ms .now) (c .before .before .before .before .before .before .before .before .before .args .tol) (c .before .before .before .before .before .before .before .before .before .args .pts .now) (c .before .before .before .before .before .before .before .before .before .args .ks .now) (c .before .before .before .before .before .before .before .before .before .args .cs .now)) (c .before .before .loop .i) _ (c .before .loop-test .taken) ((c .before .before .before .before .before .before .before .before .before .pre) .1 .1) ((c .before .before .loop .inv) .1 .0))))
+write-segment-requires c κs = (segments-as _ (c .before .at-stretch .ensures) ((c .before .before .before .before .before .before .before .before .before .before .pre) .0), ((recalls-as (sym (lefts-as (c .before .before .before .before .before .before .before .before .before .before .args .s) (c .before .at-stretch .ensures) (c .before .before .before .before .before .before .before .before .before .before .args .ms .now) (c .before .before .before .before .before .before .before .before .before .before .args .tol) (c .before .before .before .before .before .before .before .before .before .before .args .pts .now) (c .before .before .before .before .before .before .before .before .before .before .args .ks .now) (c .before .before .before .before .before .before .before .before .before .before .args .cs .now) (c .before .before .before .loop .i))) (recalls-part (fitLefts (c .before .before .before .before .before .before .before .before .before .before .args .s) (c .before .before .before .before .before .before .before .before .before .before .args .ms .now) (c .before .before .before .before .before .before .before .before .before .before .args .tol) (c .before .before .before .before .before .before .before .before .before .before .args .pts .now) (c .before .before .before .before .before .before .before .before .before .before .args .ks .now) (c .before .before .before .before .before .before .before .before .before .before .args .cs .now)) (c .before .before .before .loop .i) _ (c .before .before .loop-test .taken) ((c .before .before .before .loop .inv) .1 .1) ((c .before .before .before .before .before .before .before .before .before .before .pre) .1 .0)), cursor-part (fitLefts (c .before .before .before .before .before .before .before .before .before .before .args .s) (c .before .before .before .before .before .before .before .before .before .before .args .ms .now) (c .before .before .before .before .before .before .before .before .before .before .args .tol) (c .before .before .before .before .before .before .before .before .before .before .args .pts .now) (c .before .before .before .before .before .before .before .before .before .before .args .ks .now) (c .before .before .before .before .before .before .before .before .before .before .args .cs .now)) (lefts-few (c .before .before .before .before .before .before .before .before .before .before .args .s) (c .before .before .before .before .before .before .before .before .before .before .args .ms .now) (c .before .before .before .before .before .before .before .before .before .before .args .tol) (c .before .before .before .before .before .before .before .before .before .before .args .pts .now) (c .before .before .before .before .before .before .before .before .before .before .args .ks .now) (c .before .before .before .before .before .before .before .before .before .before .args .cs .now)) (c .before .before .before .loop .i) (omega (arith, (c .before .before .loop-test .taken), (c .before .before .before .before .before .before .before .before .before .before .pre) .0 .tables .few)) ((c .before .before .before .loop .inv) .1 .1)), (omega (arith, (c .before .before .loop-test .taken), count-as (c .before .before .before .before .before .before .before .before .before .before .args .s) (c .before .at-stretch .ensures)), subst (λ (z : List (List Float)). (c .before .before .before .loop .at .word) + length (encode z) ≤ length (c .before .before .before .loop .out)) (sym (run-as (c .before .before .before .before .before .before .before .before .before .before .args .s) (c .before .at-stretch .ensures) (c .before .before .before .before .before .before .before .before .before .before .args .ms .now) (c .before .before .before .before .before .before .before .before .before .before .args .tol) (c .before .before .before .before .before .before .before .before .before .before .args .pts .now) (c .before .before .before .before .before .before .before .before .before .before .args .ks .now) (c .before .before .before .before .before .before .before .before .before .before .args .cs .now) (c .before .before .before .loop .i))) (run-room (fitRunAt (c .before .before .before .before .before .before .before .before .before .before .args .s) (c .before .before .before .before .before .before .before .before .before .before .args .ms .now) (c .before .before .before .before .before .before .before .before .before .before .args .tol) (c .before .before .before .before .before .before .before .before .before .before .args .pts .now) (c .before .before .before .before .before .before .before .before .before .before .args .ks .now) (c .before .before .before .before .before .before .before .before .before .before .args .cs .now)) (c .before .before .before .loop .i) _ (c .before .before .loop-test .taken) ((c .before .before .before .before .before .before .before .before .before .before .pre) .1 .1) ((c .before .before .before .loop .inv) .1 .0)))))
 
--- src/segment.rt:168:9
-add-i : tie.Need-add-i Inv-loop μ-loop
-add-i c = omega (arith, (c .before .before .before .before .loop-test .taken), (c .before .before .before .before .before .before .before .before .before .before .before .before .pre) .0 .tables .few)
-
--- src/segment.rt:166:5
 loop-less : tie.Need-loop-less Inv-loop μ-loop
-loop-less c = omega (arith, (c .before .before .before .before .loop-test .taken))
+loop-less c = omega (arith, (c .before .before .before .before .before .loop-test .taken))
 
--- src/segment.rt:166:5
 loop-again : tie.Need-loop-again Inv-loop μ-loop
-loop-again c = ((omega (arith, (c .before .before .before .before .loop-test .taken)), (c .before .before .write-segment .kept .1 .1 .1 .1 .1 .1 .1 .1 .1 .0) ∙ (c .before .before .before .before .before .loop .inv) .0 .1), (run-written (fitRunAt (c .before .before .before .before .before .before .before .before .before .before .before .before .args .s) (c .before .before .before .before .before .before .before .before .before .before .before .before .args .ms .now) (c .before .before .before .before .before .before .before .before .before .before .before .before .args .tol) (c .before .before .before .before .before .before .before .before .before .before .before .before .args .pts .now) (c .before .before .before .before .before .before .before .before .before .before .before .before .args .ks .now) (c .before .before .before .before .before .before .before .before .before .before .before .before .args .cs .now)) (c .before .before .before .before .before .loop .i) _ (c .before .before .before .before .loop-test .taken) ((c .before .before .before .before .before .before .before .before .before .before .before .before .pre) .1 .1) ((c .before .before .before .before .before .loop .inv) .1 .0) ((c .before .before .write-segment .ensures) .0), passed-more (fitLefts (c .before .before .before .before .before .before .before .before .before .before .before .before .args .s) (c .before .before .before .before .before .before .before .before .before .before .before .before .args .ms .now) (c .before .before .before .before .before .before .before .before .before .before .before .before .args .tol) (c .before .before .before .before .before .before .before .before .before .before .before .before .args .pts .now) (c .before .before .before .before .before .before .before .before .before .before .before .before .args .ks .now) (c .before .before .before .before .before .before .before .before .before .before .before .before .args .cs .now)) (c .before .before .before .before .before .loop .i) ((c .before .before .before .before .before .loop .inv) .1 .1) ((c .before .before .write-segment .ensures) .1)))
+loop-again c = ((omega (arith, (c .before .before .before .before .before .loop-test .taken)), (c .before .before .write-segment .kept .1 .1 .1 .1 .1 .1 .1 .1 .1 .0) ∙ (c .before .before .before .before .before .before .loop .inv) .0 .1), (run-written (fitRunAt (c .before .before .before .before .before .before .before .before .before .before .before .before .before .args .s) (c .before .before .before .before .before .before .before .before .before .before .before .before .before .args .ms .now) (c .before .before .before .before .before .before .before .before .before .before .before .before .before .args .tol) (c .before .before .before .before .before .before .before .before .before .before .before .before .before .args .pts .now) (c .before .before .before .before .before .before .before .before .before .before .before .before .before .args .ks .now) (c .before .before .before .before .before .before .before .before .before .before .before .before .before .args .cs .now)) (c .before .before .before .before .before .before .loop .i) _ (c .before .before .before .before .before .loop-test .taken) ((c .before .before .before .before .before .before .before .before .before .before .before .before .before .pre) .1 .1) ((c .before .before .before .before .before .before .loop .inv) .1 .0) (written-as (sym (run-as (c .before .before .before .before .before .before .before .before .before .before .before .before .before .args .s) (c .before .before .before .before .at-stretch .ensures) (c .before .before .before .before .before .before .before .before .before .before .before .before .before .args .ms .now) (c .before .before .before .before .before .before .before .before .before .before .before .before .before .args .tol) (c .before .before .before .before .before .before .before .before .before .before .before .before .before .args .pts .now) (c .before .before .before .before .before .before .before .before .before .before .before .before .before .args .ks .now) (c .before .before .before .before .before .before .before .before .before .before .before .before .before .args .cs .now) (c .before .before .before .before .before .before .loop .i))) ((c .before .before .write-segment .ensures) .0)), passed-more (fitLefts (c .before .before .before .before .before .before .before .before .before .before .before .before .before .args .s) (c .before .before .before .before .before .before .before .before .before .before .before .before .before .args .ms .now) (c .before .before .before .before .before .before .before .before .before .before .before .before .before .args .tol) (c .before .before .before .before .before .before .before .before .before .before .before .before .before .args .pts .now) (c .before .before .before .before .before .before .before .before .before .before .before .before .before .args .ks .now) (c .before .before .before .before .before .before .before .before .before .before .before .before .before .args .cs .now)) (c .before .before .before .before .before .before .loop .i) ((c .before .before .before .before .before .before .loop .inv) .1 .1) ((c .before .before .write-segment .ensures) .1 ∙ ap (λ (z : List ℕ). (c .before .before .before .before .before .before .loop .at .sample) + length z) (lefts-as (c .before .before .before .before .before .before .before .before .before .before .before .before .before .args .s) (c .before .before .before .before .at-stretch .ensures) (c .before .before .before .before .before .before .before .before .before .before .before .before .before .args .ms .now) (c .before .before .before .before .before .before .before .before .before .before .before .before .before .args .tol) (c .before .before .before .before .before .before .before .before .before .before .before .before .before .args .pts .now) (c .before .before .before .before .before .before .before .before .before .before .before .before .before .args .ks .now) (c .before .before .before .before .before .before .before .before .before .before .before .before .before .args .cs .now) (c .before .before .before .before .before .before .loop .i)))))
 
--- src/segment.rt:144:1
 same-length : tie.Need-same-length Inv-loop μ-loop
 same-length c = (c .before .loop .inv) .0 .1
 
--- src/segment.rt:144:1
 returns : tie.Need-returns Inv-loop μ-loop
 returns c = let e : (c .before .loop .i) ≡ (c .before .before .before .before .before .before .before .before .args .s .n) - 1 = omega (arith, (c .loop-test .left), (c .before .loop .inv) .0 .0) in (c .before .loop .inv) .1 .0 .is ∙ ap (λ (z : ℕ). spliced (c .before .before .before .before .before .before .before .before .args .out .now) 0 (encode (flatten (upto (fitRunAt (c .before .before .before .before .before .before .before .before .args .s) (c .before .before .before .before .before .before .before .before .args .ms .now) (c .before .before .before .before .before .before .before .before .args .tol) (c .before .before .before .before .before .before .before .before .args .pts .now) (c .before .before .before .before .before .before .before .before .args .ks .now) (c .before .before .before .before .before .before .before .before .args .cs .now)) z)))) e
 
@@ -60,8 +58,9 @@ write-segments-spec =
     μ-loop
     sub-last
     loop-holds
+    add-next
+    at-stretch-requires
     write-segment-requires
-    add-i
     loop-less
     loop-again
     same-length

@@ -1,3 +1,4 @@
+-- `curves::spline::count_spline` meets its contract. Assumes nothing.
 use mathlib.Core.Path.{_≡_, refl, sym, ap, _∙_}
 use Prim.Native.Nat.{ℕ, _≤_, _-_}
 use native.Mathlib.Omega.{arith}
@@ -5,17 +6,16 @@ use lib.ListN.{length, replicate}
 use lib.Seq.{sets}
 use Rattle.floats.specs.Numbers.{ofNat, f0}
 use Rattle.floats.specs.Lists.{filled}
-use Rattle.curves.specs.Walks.{pointAt, evalOf, ownOf, splineSamples, counted, Counted}
-use Rattle.curves.specs.Lefts.{spanLefts, joined, Stored}
-use Rattle.curves.proofs.Walking.{point-is, point-length, point-room}
+use Rattle.walks.specs.Walks.{pointAt, evalOf, ownOf, counted, Counted}
+use Rattle.walks.specs.Lefts.{Stored}
+use Rattle.walks.specs.Points.{point-is, point-length, point-room}
+use Rattle.walks.specs.Remembering.{stored-as, stored-length}
+use Rattle.curves.specs.Stretches.{splineSamples}
+use Rattle.curves.specs.Lefts.{spanLefts, joined}
 use Rattle.curves.proofs.Spanning.{zero-time, first-point, whole-in, stretch-of, span-lefts, span-few, count-none, count-more, count-room}
-use Rattle.curves.proofs.Remembering.{stored-start, stored-more, stored-as, stored-length, cursor-part}
+use Rattle.curves.proofs.Joining.{stored-start, stored-more, cursor-part}
 use Rattle.curves.proofs.spline.count_spline.Statement.{statement}
 use Rattle.curves.proofs.spline.count_spline.Tie as tie
-use Rattle.curves.proofs.spline.count_spline.Reads as reads
-use Rattle.curves.proofs.spline.count_spline.Lts as lts
-use Rattle.curves.proofs.walk.count_walk.Reads as count-walk-reads
-use Rattle.curves.proofs.walk.point_at.Reads as point-at-reads
 
 abbrev Inv-loop : tie.InvT-loop
 Inv-loop s tol ms ks cs counts₀ lefts₀ n p ch spans at₀ t₀ prev₀ j₀ counts lefts at t prev j = ((j ≤ s .n - s .size) × (length counts ≡ length counts₀)) × ((t ≡ ofNat j) × ((prev ≡ filled (pointAt s ks cs (ofNat j)) (s .ch) (replicate 16 f0)) × (Counted (ownOf s ks) 1 (splineSamples (evalOf s ks cs) ms tol j) counts₀ (at .owner) counts × Stored lefts₀ 0 (joined (spanLefts (evalOf s ks cs) ms tol) j) (at .sample) lefts)))
@@ -23,71 +23,54 @@ Inv-loop s tol ms ks cs counts₀ lefts₀ n p ch spans at₀ t₀ prev₀ j₀ 
 abbrev μ-loop : tie.MeasureT-loop
 μ-loop s tol ms ks cs counts₀ lefts₀ n p ch spans at₀ t₀ prev₀ j₀ counts lefts at t prev j = s .n - s .size - j
 
--- src/spline.rt:38:17
 sub-spans : tie.Need-sub-spans Inv-loop μ-loop
 sub-spans c = omega (arith, (c .before .before .before .before .before .pre) .0 .0 .spline ((c .before .before .before .before .before .pre) .0 .1) .under)
 
--- src/spline.rt:44:20
 point-at-requires : tie.Need-point-at-requires Inv-loop μ-loop
 point-at-requires c κs = (c .before .before .before .before .before .pre) .0 .0
 
--- src/spline.rt:46:5
 loop-holds : tie.Need-loop-holds Inv-loop μ-loop
 loop-holds c = ((omega arith, refl), (zero-time, (first-point _ _ _ _ (c .point-at .ensures), (count-none (evalOf (c .before .before .before .before .before .before .args .s) (c .before .before .before .before .before .before .args .ks .now) (c .before .before .before .before .before .before .args .cs .now)) _ _ _ _, stored-start (spanLefts (evalOf (c .before .before .before .before .before .before .args .s) (c .before .before .before .before .before .before .args .ks .now) (c .before .before .before .before .before .before .args .cs .now)) (c .before .before .before .before .before .before .args .ms .now) (c .before .before .before .before .before .before .args .tol))))))
 
--- src/spline.rt:47:18
 add-u : tie.Need-add-u Inv-loop μ-loop
 add-u c = omega (arith, (c .before .before .before .before .before .before .before .before .pre) .0 .0 .spline ((c .before .before .before .before .before .before .before .before .pre) .0 .1) .few, (c .loop-test .taken))
 
--- src/spline.rt:47:17
 int-to-float-u : tie.Need-int-to-float-u Inv-loop μ-loop
 int-to-float-u c = whole-in _ (omega (arith, (c .before .before .before .before .before .before .before .before .before .pre) .0 .0 .spline ((c .before .before .before .before .before .before .before .before .before .pre) .0 .1) .few, (c .before .loop-test .taken), (c .before .before .before .before .before .before .before .before .before .pre) .0 .0 .spline ((c .before .before .before .before .before .before .before .before .before .pre) .0 .1) .some))
 
--- src/spline.rt:48:20
 point-at-requires-2 : tie.Need-point-at-requires-2 Inv-loop μ-loop
 point-at-requires-2 c κs = (c .before .before .before .before .before .before .before .before .before .pre) .0 .0
 
--- src/spline.rt:55:13
 array-share-prefix-prev : tie.Need-array-share-prefix-prev Inv-loop μ-loop
 array-share-prefix-prev c = omega (arith, (c .before .before .before .before .before .before .before .before .before .before .pre) .0 .0 .narrow, point-room _ _ ((c .before .before .before .loop .inv) .1 .1 .0) ((c .before .before .before .before .before .before .before .before .before .before .pre) .0 .0 .narrow))
 
--- src/spline.rt:55:13
 slice-aggregate-count-walk : tie.Need-slice-aggregate-count-walk Inv-loop μ-loop
 slice-aggregate-count-walk c = sym (point-length _ _ ((c .before .before .before .before .loop .inv) .1 .1 .0))
 
--- src/spline.rt:57:13
 array-share-prefix-next : tie.Need-array-share-prefix-next Inv-loop μ-loop
 array-share-prefix-next c = omega (arith, (c .before .before .before .before .before .before .before .before .before .before .before .pre) .0 .0 .narrow)
 
--- src/spline.rt:57:13
 slice-aggregate-count-walk-2 : tie.Need-slice-aggregate-count-walk-2 Inv-loop μ-loop
 slice-aggregate-count-walk-2 c = sym (point-length _ _ (c .before .before .point-at2 .ensures))
 
--- src/spline.rt:49:9
 count-walk-requires : tie.Need-count-walk-requires Inv-loop μ-loop
 count-walk-requires c κs = (stretch-of ((c .before .before .before .before .before .before .before .before .before .before .before .before .before .before .pre) .0 .0) ((c .before .before .before .before .before .before .before .before .before .before .before .before .before .before .pre) .1 .0) (point-length _ _ ((c .before .before .before .before .before .before .before .loop .inv) .1 .1 .0)) (point-length _ _ (c .before .before .before .before .point-at2 .ensures)), (count-room (evalOf (c .before .before .before .before .before .before .before .before .before .before .before .before .before .before .args .s) (c .before .before .before .before .before .before .before .before .before .before .before .before .before .before .args .ks .now) (c .before .before .before .before .before .before .before .before .before .before .before .before .before .before .args .cs .now)) _ _ _ _ (omega (arith, (c .before .before .before .before .before .before .before .before .before .before .before .before .before .before .pre) .0 .0 .spline ((c .before .before .before .before .before .before .before .before .before .before .before .before .before .before .pre) .0 .1) .some, (c .before .before .before .before .before .before .before .before .before .before .before .before .before .before .pre) .0 .0 .spline ((c .before .before .before .before .before .before .before .before .before .before .before .before .before .before .pre) .0 .1) .under)) (omega (arith, (c .before .before .before .before .before .before .before .before .before .before .before .before .before .before .pre) .0 .0 .spline ((c .before .before .before .before .before .before .before .before .before .before .before .before .before .before .pre) .0 .1) .few, (c .before .before .before .before .before .before .loop-test .taken))) ((c .before .before .before .before .before .before .before .before .before .before .before .before .before .before .pre) .1 .1) ((c .before .before .before .before .before .before .before .loop .inv) .1 .1 .1 .0), cursor-part (spanLefts (evalOf (c .before .before .before .before .before .before .before .before .before .before .before .before .before .before .args .s) (c .before .before .before .before .before .before .before .before .before .before .before .before .before .before .args .ks .now) (c .before .before .before .before .before .before .before .before .before .before .before .before .before .before .args .cs .now)) (c .before .before .before .before .before .before .before .before .before .before .before .before .before .before .args .ms .now) (c .before .before .before .before .before .before .before .before .before .before .before .before .before .before .args .tol)) (span-few (evalOf (c .before .before .before .before .before .before .before .before .before .before .before .before .before .before .args .s) (c .before .before .before .before .before .before .before .before .before .before .before .before .before .before .args .ks .now) (c .before .before .before .before .before .before .before .before .before .before .before .before .before .before .args .cs .now)) (c .before .before .before .before .before .before .before .before .before .before .before .before .before .before .args .ms .now) (c .before .before .before .before .before .before .before .before .before .before .before .before .before .before .args .tol)) (c .before .before .before .before .before .before .before .loop .j) (omega (arith, (c .before .before .before .before .before .before .before .before .before .before .before .before .before .before .pre) .0 .0 .spline ((c .before .before .before .before .before .before .before .before .before .before .before .before .before .before .pre) .0 .1) .few, (c .before .before .before .before .before .before .loop-test .taken))) ((c .before .before .before .before .before .before .before .loop .inv) .1 .1 .1 .1 .end)))
 
--- src/spline.rt:66:9
 add-j : tie.Need-add-j Inv-loop μ-loop
 add-j c = omega (arith, (c .before .before .before .before .before .before .before .before .before .before .before .before .before .before .before .before .before .before .before .pre) .0 .0 .spline ((c .before .before .before .before .before .before .before .before .before .before .before .before .before .before .before .before .before .before .before .pre) .0 .1) .few, (c .before .before .before .before .before .before .before .before .before .before .before .loop-test .taken))
 
--- src/spline.rt:46:5
 loop-less : tie.Need-loop-less Inv-loop μ-loop
 loop-less c = omega (arith, (c .before .before .before .before .before .before .before .before .before .before .before .loop-test .taken))
 
--- src/spline.rt:46:5
 loop-again : tie.Need-loop-again Inv-loop μ-loop
 loop-again c = ((omega (arith, (c .before .before .before .before .before .before .before .before .before .before .before .loop-test .taken)), (c .before .before .before .before .count-walk .kept .1 .1 .1 .1 .1 .1 .1 .1 .1 .1 .1 .0) ∙ (c .before .before .before .before .before .before .before .before .before .before .before .before .loop .inv) .0 .1), (refl, ((c .before .before .before .before .before .before .before .before .before .point-at2 .ensures), (count-more (evalOf (c .before .before .before .before .before .before .before .before .before .before .before .before .before .before .before .before .before .before .before .args .s) (c .before .before .before .before .before .before .before .before .before .before .before .before .before .before .before .before .before .before .before .args .ks .now) (c .before .before .before .before .before .before .before .before .before .before .before .before .before .before .before .before .before .before .before .args .cs .now)) _ _ _ _ _ ((c .before .before .before .before .before .before .before .before .before .before .before .before .loop .inv) .1 .0) refl (point-is _ _ ((c .before .before .before .before .before .before .before .before .before .before .before .before .loop .inv) .1 .1 .0)) (point-is _ _ (c .before .before .before .before .before .before .before .before .before .point-at2 .ensures)) ((c .before .before .before .before .before .before .before .before .before .before .before .before .loop .inv) .1 .1 .1 .0) ((c .before .before .before .before .count-walk .ensures) .0), stored-more (spanLefts (evalOf (c .before .before .before .before .before .before .before .before .before .before .before .before .before .before .before .before .before .before .before .args .s) (c .before .before .before .before .before .before .before .before .before .before .before .before .before .before .before .before .before .before .before .args .ks .now) (c .before .before .before .before .before .before .before .before .before .before .before .before .before .before .before .before .before .before .before .args .cs .now)) (c .before .before .before .before .before .before .before .before .before .before .before .before .before .before .before .before .before .before .before .args .ms .now) (c .before .before .before .before .before .before .before .before .before .before .before .before .before .before .before .before .before .before .before .args .tol)) (c .before .before .before .before .before .before .before .before .before .before .before .before .loop .j) ((c .before .before .before .before .before .before .before .before .before .before .before .before .loop .inv) .1 .1 .1 .1) (stored-as (span-lefts (evalOf (c .before .before .before .before .before .before .before .before .before .before .before .before .before .before .before .before .before .before .before .args .s) (c .before .before .before .before .before .before .before .before .before .before .before .before .before .before .before .before .before .before .before .args .ks .now) (c .before .before .before .before .before .before .before .before .before .before .before .before .before .before .before .before .before .before .before .args .cs .now)) _ _ (c .before .before .before .before .before .before .before .before .before .before .before .before .loop .j) _ _ ((c .before .before .before .before .before .before .before .before .before .before .before .before .loop .inv) .1 .0) refl (point-is _ _ ((c .before .before .before .before .before .before .before .before .before .before .before .before .loop .inv) .1 .1 .0)) (point-is _ _ (c .before .before .before .before .before .before .before .before .before .point-at2 .ensures))) ((c .before .before .before .before .count-walk .ensures) .1))))))
 
--- src/spline.rt:21:1
 same-length : tie.Need-same-length Inv-loop μ-loop
 same-length c = (c .before .loop .inv) .0 .1
 
--- src/spline.rt:21:1
 same-length-2 : tie.Need-same-length-2 Inv-loop μ-loop
 same-length-2 c = stored-length ((c .before .loop .inv) .1 .1 .1 .1)
 
--- src/spline.rt:21:1
 returns : tie.Need-returns Inv-loop μ-loop
 returns c = let e : (c .before .loop .j) ≡ (c .before .before .before .before .before .before .before .before .args .s .n) - (c .before .before .before .before .before .before .before .before .args .s .size) = omega (arith, (c .loop-test .left), (c .before .loop .inv) .0 .0) in ((c .before .loop .inv) .1 .1 .1 .0 .is ∙ ap (λ (z : ℕ). counted (ownOf (c .before .before .before .before .before .before .before .before .args .s) (c .before .before .before .before .before .before .before .before .args .ks .now)) 1 (splineSamples (evalOf (c .before .before .before .before .before .before .before .before .args .s) (c .before .before .before .before .before .before .before .before .args .ks .now) (c .before .before .before .before .before .before .before .before .args .cs .now)) (c .before .before .before .before .before .before .before .before .args .ms .now) (c .before .before .before .before .before .before .before .before .args .tol) z) (c .before .before .before .before .before .before .before .before .args .counts .now)) e, (c .before .loop .inv) .1 .1 .1 .1 .is ∙ ap (λ (z : ℕ). sets (c .before .before .before .before .before .before .before .before .args .lefts .now) 0 (joined (spanLefts (evalOf (c .before .before .before .before .before .before .before .before .args .s) (c .before .before .before .before .before .before .before .before .args .ks .now) (c .before .before .before .before .before .before .before .before .args .cs .now)) (c .before .before .before .before .before .before .before .before .args .ms .now) (c .before .before .before .before .before .before .before .before .args .tol)) z)) e)
 

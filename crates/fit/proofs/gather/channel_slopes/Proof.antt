@@ -1,16 +1,26 @@
+-- `fit::gather::channel_slopes` meets its contract. Assumes nothing.
 use mathlib.Core.Path.{sym}
+use Prim.Native.Nat.{_+_, _*_}
 use native.Mathlib.Nat.{le-of-eq}
-use lib.ListN.{replicate}
-use Rattle.floats.specs.Numbers.{f0}
+use native.Mathlib.Omega.{arith}
+use lib.ListN.{length}
 use lib.Seq.{length-take-le}
-use borrow.Author.Needs.{needs}
+use borrow.Rule.Slice.PartMut.{mid-len}
 use Rattle.metric.specs.Points.{row-fits}
 use Rattle.fit.proofs.Gathers.{channel-block}
+use borrow.Author.Needs.{needs}
 use Rattle.fit.proofs.gather.channel_slopes.Statement.{statement}
 use Rattle.fit.proofs.gather.channel_slopes.Tie as tie
 
-slice-aggregate-column : tie.Need-slice-aggregate-column
-slice-aggregate-column c = search needs
+mul-a : tie.Need-mul-a
+mul-a c =
+    let start = c .before .before .before .before in
+    omega (arith, row-fits (start .args .c) (start .args .ch) (start .args .m) (length (start .args .slopes .now)) (start .pre .1 .0) (start .pre .1 .1 .1))
+
+add-e : tie.Need-add-e
+add-e c =
+    let start = c .before .before .before .before in
+    omega (arith, row-fits (start .args .c) (start .args .ch) (start .args .m) (length (start .args .slopes .now)) (start .pre .1 .0) (start .pre .1 .1 .1))
 
 column-requires : tie.Need-column-requires
 column-requires c κs = search needs
@@ -18,42 +28,54 @@ column-requires c κs = search needs
 slice-aggregate-slopes-of : tie.Need-slice-aggregate-slopes-of
 slice-aggregate-slopes-of c = sym (length-take-le _ _ (search needs))
 
-array-share-prefix-ys : tie.Need-array-share-prefix-ys
-array-share-prefix-ys c = search needs
+mul-slopes-of : tie.Need-mul-slopes-of
+mul-slopes-of c =
+    let start = c .before .before .before .before .before .before .before .before .before .before in
+    omega (arith, row-fits (start .args .c) (start .args .ch) (start .args .m) (length (start .args .slopes .now)) (start .pre .1 .0) (start .pre .1 .1 .1))
 
-slice-aggregate-slopes-of-2 : tie.Need-slice-aggregate-slopes-of-2
-slice-aggregate-slopes-of-2 c = sym (length-take-le _ _ (search needs))
+sub-slopes-of : tie.Need-sub-slopes-of
+sub-slopes-of c = search needs
 
-slice-aggregate-slopes-of-3 : tie.Need-slice-aggregate-slopes-of-3
-slice-aggregate-slopes-of-3 c = search needs
+part-slopes-of-start : tie.Need-part-slopes-of-start
+part-slopes-of-start c = search needs
+
+part-slopes-of-end : tie.Need-part-slopes-of-end
+part-slopes-of-end c =
+    let start = c .before .before .before .before .before .before .before .before .before .before in
+    omega (arith, row-fits (start .args .c) (start .args .ch) (start .args .m) (length (start .args .slopes .now)) (start .pre .1 .0) (start .pre .1 .1 .1))
 
 slopes-of-requires : tie.Need-slopes-of-requires
-slopes-of-requires c κs = ((search needs, search needs), (le-of-eq (sym (length-take-le _ _ (search needs))), (le-of-eq (sym (length-take-le _ _ (search needs))), search needs)))
-
-slice-aggregate-copy-row : tie.Need-slice-aggregate-copy-row
-slice-aggregate-copy-row c = search needs
-
-copy-row-requires : tie.Need-copy-row-requires
-copy-row-requires c κs = (search needs, row-fits _ (c .before .before .before .before .before .before .before .before .before .before .before .before .before .args .ch) _ _ ((c .before .before .before .before .before .before .before .before .before .before .before .before .before .pre .1 .0)) ((c .before .before .before .before .before .before .before .before .before .before .before .before .before .pre .1 .1 .1)))
+slopes-of-requires c κs =
+    let start = c .before .before .before .before .before .before .before .before .before .before .before in
+    let fits = row-fits (start .args .c) (start .args .ch) (start .args .m) (length (start .args .slopes .now)) (start .pre .1 .0) (start .pre .1 .1 .1) in
+    let long = mid-len (start .args .c * start .args .m) (start .args .c * start .args .m + start .args .m) (start .args .slopes .now) fits in
+    ((search needs, search needs), (le-of-eq (sym (length-take-le _ _ (search needs))), (omega (arith, (c .before .before .before .before .before .column .kept .1 .1 .1 .1 .0)), omega arith)))
 
 same-length : tie.Need-same-length
 same-length c = search needs
 
+same-length-2 : tie.Need-same-length-2
+same-length-2 c = search needs
+
 returns : tie.Need-returns
-returns c = channel-block (c .before .before .before .before .before .before .before .before .before .before .before .before .before .before .before .before .args .cubic) (c .before .before .before .before .before .before .before .before .before .before .before .before .before .before .before .before .args .fts .now) (c .before .before .before .before .before .before .before .before .before .before .before .before .before .before .before .before .args .fps .now) (c .before .before .before .before .before .before .before .before .before .before .before .before .before .before .before .before .args .m) (c .before .before .before .before .before .before .before .before .before .before .before .before .before .before .before .before .args .ch) (c .before .before .before .before .before .before .before .before .before .before .before .before .before .before .before .before .args .c) (replicate 257 f0) (replicate 257 f0) (c .before .before .before .before .before .before .before .before .before .before .before .column .ensures) (c .before .before .before .before .before .before .slopes-of .ensures) (c .before .before .copy-row .ensures)
+returns c =
+    let start = c .before .before .before .before .before .before .before .before .before .before .before .before .before .before in
+    let fits = row-fits (start .args .c) (start .args .ch) (start .args .m) (length (start .args .slopes .now)) (start .pre .1 .0) (start .pre .1 .1 .1) in
+    channel-block (start .args .cubic) (start .args .fts .now) (start .args .fps .now) (start .args .m) (start .args .ch) (start .args .c) (start .args .c * start .args .m) (start .args .ys .now) (omega arith) (c .before .before .before .before .before .before .before .before .column .ensures) fits (c .before .before .slopes-of .kept .1 .1 .1 .1 .0) (c .before .before .slopes-of .ensures)
 
 pub channel-slopes-spec : {M : Type 1} → statement M
 channel-slopes-spec =
     tie.close
     (tie.spec
-    slice-aggregate-column
+    mul-a
+    add-e
     column-requires
     slice-aggregate-slopes-of
-    array-share-prefix-ys
-    slice-aggregate-slopes-of-2
-    slice-aggregate-slopes-of-3
+    mul-slopes-of
+    sub-slopes-of
+    part-slopes-of-start
+    part-slopes-of-end
     slopes-of-requires
-    slice-aggregate-copy-row
-    copy-row-requires
     same-length
+    same-length-2
     returns)

@@ -1,3 +1,4 @@
+-- `fit::gather::gather` meets its contract. Assumes nothing.
 use native.Mathlib.Omega.{arith}
 use lib.ListN.{length}
 use Rattle.fit.proofs.Gathers.{below-more, fewer-rows, fewer-blocks, gathered}

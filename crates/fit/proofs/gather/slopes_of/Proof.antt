@@ -1,3 +1,4 @@
+-- `fit::gather::slopes_of` meets its contract. Assumes nothing.
 use borrow.Author.Needs.{needs}
 use Rattle.fit.proofs.gather.slopes_of.Statement.{statement}
 use Rattle.fit.proofs.gather.slopes_of.Tie as tie

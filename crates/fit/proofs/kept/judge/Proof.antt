@@ -1,3 +1,4 @@
+-- `fit::kept::judge` meets its contract. Assumes nothing.
 use borrow.Author.Needs.{needs}
 use Rattle.fit.proofs.kept.judge.Statement.{statement}
 use Rattle.fit.proofs.kept.judge.Tie as tie

@@ -1,15 +1,14 @@
 -- `flattener::call::flat_push` meets its contract. Assumes nothing.
 use mathlib.Core.Path.{refl, sym, ap, _∙_}
-use mathlib.Core.Bool.{Bool, cond}
 use native.Mathlib.Omega.{arith}
-use Prim.Native.Nat.{ℕ, _+_}
-use Rattle.flattener.specs.Start.{plain}
+use Rattle.replies.specs.Replies.{plain, answers}
 use Rattle.saved.specs.StateLaws.{good, good-few}
-use Rattle.flattener.specs.Push.{untouched}
-use Rattle.flattener.specs.Replies.{answers, doneReply}
 use Rattle.saved.specs.Checked.{saved-ok}
-use Rattle.flattener.specs.Emitted.{few-own}
-use Rattle.flattener.proofs.Calls.{passes, passes-ready, turned-is, few-is, done-is, both-written, row-room, room-left, room-short, put-refused, put-written}
+use Rattle.own.specs.Few.{few-own}
+use Rattle.settle.specs.Settle.{settled}
+use Rattle.closes.specs.Close.{untouched}
+use Rattle.closes.specs.Emitted.{room-left, room-short, put-refused, put-written}
+use Rattle.flattener.proofs.Calls.{passes, passes-ready, turned-is, few-is, done-is, both-written, row-room}
 use borrow.Author.Needs.{needs}
 use Rattle.flattener.proofs.call.flat_push.Statement.{statement}
 use Rattle.flattener.proofs.call.flat_push.Tie as tie
@@ -34,10 +33,10 @@ plan-own-requires : tie.Need-plan-own-requires
 plan-own-requires c κs = passes-ready (passes _ _ _ (sym (c .before .before .push-check .ensures) ∙ (c .before .if1 .left)))
 
 put-before-requires : tie.Need-put-before-requires
-put-before-requires c κs = (passes _ _ _ (sym (c .before .before .before .before .before .before .push-check .ensures) ∙ (c .before .before .before .before .before .if1 .left)) .saved, (passes-ready (passes _ _ _ (sym (c .before .before .before .before .before .before .push-check .ensures) ∙ (c .before .before .before .before .before .if1 .left))) .block, omega (arith, (c .before .before .before .plan-own .ensures) .count, few-own ((c .before .before .before .before .before .before .before .before .before .before .before .before .before .args .state .now)) ((c .before .before .before .before .before .before .before .before .before .before .before .before .before .args .row .now)))))
+put-before-requires c κs = (passes _ _ _ (sym (c .before .before .before .before .before .before .push-check .ensures) ∙ (c .before .before .before .before .before .if1 .left)) .saved, (passes-ready (passes _ _ _ (sym (c .before .before .before .before .before .before .push-check .ensures) ∙ (c .before .before .before .before .before .if1 .left))) .block, omega (arith, (c .before .before .before .plan-own .ensures) .count, few-own (c .before .before .before .before .before .before .before .before .before .before .before .before .before .args .state .now) (c .before .before .before .before .before .before .before .before .before .before .before .before .before .args .row .now))))
 
 add-needed : tie.Need-add-needed
-add-needed c = omega (arith, (c .before .before .before .before .before .before .before .plan-own .ensures) .count, few-own ((c .before .before .before .before .before .before .before .before .before .before .before .before .before .before .before .before .before .args .state .now)) ((c .before .before .before .before .before .before .before .before .before .before .before .before .before .before .before .before .before .args .row .now)), (c .before .before .before .put-before .ensures) .few)
+add-needed c = omega (arith, (c .before .before .before .before .before .before .before .plan-own .ensures) .count, few-own (c .before .before .before .before .before .before .before .before .before .before .before .before .before .before .before .before .before .args .state .now) (c .before .before .before .before .before .before .before .before .before .before .before .before .before .before .before .before .before .args .row .now), (c .before .before .before .put-before .ensures) .few)
 
 too-few-requires : tie.Need-too-few-requires
 too-few-requires c κs = search needs
@@ -53,28 +52,10 @@ same-length-5 c = search needs
 
 returns-2 : tie.Need-returns-2
 unfolding untouched
-returns-2 c = answers (few-is ((c .before .before .before .before .before .before .before .before .before .before .before .before .before .before .before .before .before .before .before .args .state .now)) ((c .before .before .before .before .before .before .before .before .before .before .before .before .before .before .before .before .before .before .before .args .store .now)) ((c .before .before .before .before .before .before .before .before .before .before .before .before .before .before .before .before .before .before .before .args .rows .now)) ((c .before .before .before .before .before .before .before .before .before .before .before .before .before .before .before .before .before .before .before .args .row .now)) (sym (c .before .before .before .before .before .before .before .before .before .before .before .before .push-check .ensures) ∙ (c .before .before .before .before .before .before .before .before .before .before .before .if1 .left)) (c .before .before .before .before .before .before .before .before .before .plan-own .result) (c .before .before .before .before .before .before .before .before .before .plan-own .ensures) (c .before .before .before .before .before .put-before .result) ((c .before .before .before .before .before .put-before .ensures) .count) (room-short _ _ _ _ _ (c .before .before .before .before .before .put-before .ensures) (c .before .before .before .before .before .put-before .kept .1 .1 .0) _ refl (c .before .if2 .taken))) (c .too-few .ensures) refl refl (put-refused _ _ _ _ _ (c .before .before .before .before .before .put-before .ensures) (c .before .before .before .before .before .put-before .kept .1 .1 .0) _ refl (c .before .if2 .taken))
+returns-2 c = answers (few-is (c .before .before .before .before .before .before .before .before .before .before .before .before .before .before .before .before .before .before .before .args .state .now) (c .before .before .before .before .before .before .before .before .before .before .before .before .before .before .before .before .before .before .before .args .store .now) (c .before .before .before .before .before .before .before .before .before .before .before .before .before .before .before .before .before .before .before .args .rows .now) (c .before .before .before .before .before .before .before .before .before .before .before .before .before .before .before .before .before .before .before .args .row .now) (sym (c .before .before .before .before .before .before .before .before .before .before .before .before .push-check .ensures) ∙ (c .before .before .before .before .before .before .before .before .before .before .before .if1 .left)) (c .before .before .before .before .before .before .before .before .before .plan-own .result) (c .before .before .before .before .before .before .before .before .before .plan-own .ensures) (c .before .before .before .before .before .put-before .result) ((c .before .before .before .before .before .put-before .ensures) .count) (room-short _ _ _ _ _ (c .before .before .before .before .before .put-before .ensures) (c .before .before .before .before .before .put-before .kept .1 .1 .0) _ refl (c .before .if2 .taken))) (c .too-few .ensures) refl refl (put-refused _ _ _ _ _ (c .before .before .before .before .before .put-before .ensures) (c .before .before .before .before .before .put-before .kept .1 .1 .0) _ refl (c .before .if2 .taken))
 
-is-news-requires : tie.Need-is-news-requires
-is-news-requires c κs = passes-ready (passes _ _ _ (sym (c .before .before .before .before .before .before .before .before .before .before .before .before .push-check .ensures) ∙ (c .before .before .before .before .before .before .before .before .before .before .before .if1 .left))) .block
-
-warning-of-requires : tie.Need-warning-of-requires
-warning-of-requires c κs = search needs
-
-mul-write-own : tie.Need-mul-write-own
-mul-write-own c = omega (arith, (c .before .before .before .before .before .before .before .before .put-before .ensures) .few)
-
-write-own-requires : tie.Need-write-own-requires
-write-own-requires c κs = (passes-ready (passes _ _ _ (sym (c .before .before .before .before .before .before .before .before .before .before .before .before .before .before .before .before .push-check .ensures) ∙ (c .before .before .before .before .before .before .before .before .before .before .before .before .before .before .before .if1 .left))), ((c .before .before .before .before .before .before .before .before .before .before .before .before .before .plan-own .ensures), omega (arith, row-room (c .before .before .before .before .before .before .before .before .before .put-before .result) ((c .before .before .before .before .before .before .before .before .before .before .before .before .before .plan-own .result) .count) _ (c .before .before .before .before .before .if2 .left))))
-
-push-store-requires : tie.Need-push-store-requires
-push-store-requires c κs = (passes-ready (passes _ _ _ (sym (c .before .before .before .before .before .before .before .before .before .before .before .before .before .before .before .before .before .before .before .before .before .push-check .ensures) ∙ (c .before .before .before .before .before .before .before .before .before .before .before .before .before .before .before .before .before .before .before .before .if1 .left))) .block, passes _ _ _ (sym (c .before .before .before .before .before .before .before .before .before .before .before .before .before .before .before .before .before .before .before .before .before .push-check .ensures) ∙ (c .before .before .before .before .before .before .before .before .before .before .before .before .before .before .before .before .before .before .before .before .if1 .left)) .space)
-
-push-state-requires : tie.Need-push-state-requires
-push-state-requires c κs = (passes-ready (passes _ _ _ (sym (c .before .before .before .before .before .before .before .before .before .before .before .before .before .before .before .before .before .before .before .before .before .before .before .before .before .push-check .ensures) ∙ (c .before .before .before .before .before .before .before .before .before .before .before .before .before .before .before .before .before .before .before .before .before .before .before .before .if1 .left))) .block, good-few _ (good _ (saved-ok _ _ (passes _ _ _ (sym (c .before .before .before .before .before .before .before .before .before .before .before .before .before .before .before .before .before .before .before .before .before .before .before .before .before .push-check .ensures) ∙ (c .before .before .before .before .before .before .before .before .before .before .before .before .before .before .before .before .before .before .before .before .before .before .before .before .if1 .left)) .saved))))
-
-done-reply-requires : tie.Need-done-reply-requires
-done-reply-requires c κs = search needs
+settle-requires : tie.Need-settle-requires
+settle-requires c κs = record { ready = passes-ready (passes _ _ _ (sym (c .before .before .before .before .before .before .before .before .before .before .before .before .before .before .push-check .ensures) ∙ (c .before .before .before .before .before .before .before .before .before .before .before .before .before .if1 .left))); planned = (c .before .before .before .before .before .before .before .before .before .before .before .plan-own .ensures); few = good-few _ (good _ (saved-ok _ _ (passes _ _ _ (sym (c .before .before .before .before .before .before .before .before .before .before .before .before .before .before .push-check .ensures) ∙ (c .before .before .before .before .before .before .before .before .before .before .before .before .before .if1 .left)) .saved))); space = passes _ _ _ (sym (c .before .before .before .before .before .before .before .before .before .before .before .before .before .before .push-check .ensures) ∙ (c .before .before .before .before .before .before .before .before .before .before .before .before .before .if1 .left)) .space; small = omega (arith, (c .before .before .before .before .before .before .before .before .before .before .before .plan-own .ensures) .count, few-own (c .before .before .before .before .before .before .before .before .before .before .before .before .before .before .before .before .before .before .before .before .before .args .state .now) (c .before .before .before .before .before .before .before .before .before .before .before .before .before .before .before .before .before .before .before .before .before .args .row .now), (c .before .before .before .before .before .before .before .put-before .ensures) .few); room = row-room (c .before .before .before .before .before .before .before .put-before .result) ((c .before .before .before .before .before .before .before .before .before .before .before .plan-own .result) .count) _ (c .before .before .before .if2 .left) }
 
 same-length-6 : tie.Need-same-length-6
 same-length-6 c = search needs
@@ -86,7 +67,8 @@ same-length-8 : tie.Need-same-length-8
 same-length-8 c = search needs
 
 returns-3 : tie.Need-returns-3
-returns-3 c = answers (done-is ((c .before .before .before .before .before .before .before .before .before .before .before .before .before .before .before .before .before .before .before .before .before .before .before .before .before .before .before .before .before .before .before .before .before .before .before .before .args .state .now)) ((c .before .before .before .before .before .before .before .before .before .before .before .before .before .before .before .before .before .before .before .before .before .before .before .before .before .before .before .before .before .before .before .before .before .before .before .before .args .store .now)) ((c .before .before .before .before .before .before .before .before .before .before .before .before .before .before .before .before .before .before .before .before .before .before .before .before .before .before .before .before .before .before .before .before .before .before .before .before .args .rows .now)) ((c .before .before .before .before .before .before .before .before .before .before .before .before .before .before .before .before .before .before .before .before .before .before .before .before .before .before .before .before .before .before .before .before .before .before .before .before .args .row .now)) (sym (c .before .before .before .before .before .before .before .before .before .before .before .before .before .before .before .before .before .before .before .before .before .before .before .before .before .before .before .before .before .push-check .ensures) ∙ (c .before .before .before .before .before .before .before .before .before .before .before .before .before .before .before .before .before .before .before .before .before .before .before .before .before .before .before .before .if1 .left)) (c .before .before .before .before .before .before .before .before .before .before .before .before .before .before .before .before .before .before .before .before .before .before .before .before .before .before .plan-own .result) (c .before .before .before .before .before .before .before .before .before .before .before .before .before .before .before .before .before .before .before .before .before .before .before .before .before .before .plan-own .ensures) (c .before .before .before .before .before .before .before .before .before .before .before .before .before .before .before .before .before .before .before .before .before .before .put-before .result) ((c .before .before .before .before .before .before .before .before .before .before .before .before .before .before .before .before .before .before .before .before .before .before .put-before .ensures) .count) (room-left _ _ _ _ _ (c .before .before .before .before .before .before .before .before .before .before .before .before .before .before .before .before .before .before .before .before .before .before .put-before .ensures) (c .before .before .before .before .before .before .before .before .before .before .before .before .before .before .before .before .before .before .before .before .before .before .put-before .kept .1 .1 .0) _ refl (c .before .before .before .before .before .before .before .before .before .before .before .before .before .before .before .before .before .before .if2 .left))) ((c .done-reply .ensures) ∙ ap (λ (n : ℕ). doneReply ((c .before .before .before .before .before .before .before .before .before .before .before .before .before .before .before .before .before .before .before .before .before .before .put-before .result) + (c .before .before .before .before .before .before .before .before .before .before .before .before .before .before .before .before .before .before .before .before .before .before .before .before .before .before .plan-own .result) .count) n ((c .before .before .before .before .before .before .before .before .before .before .before .before .before .before .before .before .before .before .before .before .before .before .before .before .before .before .plan-own .result) .wanted) ((c .before .before .before .before .before .before .before .before .before .before .before .before .before .before .before .before .before .before .before .before .before .before .before .before .before .before .plan-own .result) .held)) ((c .before .before .before .before .before .before .before .before .before .before .before .before .before .before .before .warning-of .ensures) ∙ ap (λ (b : Bool). cond b 7 ((c .before .before .before .before .before .before .before .before .before .before .before .before .before .before .before .before .before .before .before .before .before .before .before .before .before .before .plan-own .result) .warning)) (c .before .before .before .before .before .before .before .before .before .before .before .before .before .before .before .before .is-news .ensures))) (c .before .before .before .push-state .ensures) (c .before .before .before .before .before .before .before .push-store .ensures) (both-written ((c .before .before .before .before .before .before .before .before .before .before .before .before .before .before .before .before .before .before .before .before .before .before .before .before .before .before .before .before .before .before .before .before .before .before .before .before .args .state .now)) ((c .before .before .before .before .before .before .before .before .before .before .before .before .before .before .before .before .before .before .before .before .before .before .before .before .before .before .before .before .before .before .before .before .before .before .before .before .args .store .now)) ((c .before .before .before .before .before .before .before .before .before .before .before .before .before .before .before .before .before .before .before .before .before .before .before .before .before .before .before .before .before .before .before .before .before .before .before .before .args .rows .now)) ((c .before .before .before .before .before .before .before .before .before .before .before .before .before .before .before .before .before .before .before .before .before .before .before .before .before .before .before .before .before .before .before .before .before .before .before .before .args .row .now)) (sym (c .before .before .before .before .before .before .before .before .before .before .before .before .before .before .before .before .before .before .before .before .before .before .before .before .before .before .before .before .before .push-check .ensures) ∙ (c .before .before .before .before .before .before .before .before .before .before .before .before .before .before .before .before .before .before .before .before .before .before .before .before .before .before .before .before .if1 .left)) (c .before .before .before .before .before .before .before .before .before .before .before .before .before .before .before .before .before .before .before .before .before .before .before .before .before .before .plan-own .result) (c .before .before .before .before .before .before .before .before .before .before .before .before .before .before .before .before .before .before .before .before .before .before .before .before .before .before .plan-own .ensures) (c .before .before .before .before .before .before .before .before .before .before .before .before .before .before .before .before .before .before .before .before .before .before .put-before .result) ((c .before .before .before .before .before .before .before .before .before .before .before .before .before .before .before .before .before .before .before .before .before .before .put-before .ensures) .count) (room-left _ _ _ _ _ (c .before .before .before .before .before .before .before .before .before .before .before .before .before .before .before .before .before .before .before .before .before .before .put-before .ensures) (c .before .before .before .before .before .before .before .before .before .before .before .before .before .before .before .before .before .before .before .before .before .before .put-before .kept .1 .1 .0) _ refl (c .before .before .before .before .before .before .before .before .before .before .before .before .before .before .before .before .before .before .if2 .left)) _ _ (put-written _ _ _ _ _ (c .before .before .before .before .before .before .before .before .before .before .before .before .before .before .before .before .before .before .before .before .before .before .put-before .ensures) (c .before .before .before .before .before .before .before .before .before .before .before .before .before .before .before .before .before .before .before .before .before .before .put-before .kept .1 .1 .0) _ refl (c .before .before .before .before .before .before .before .before .before .before .before .before .before .before .before .before .before .before .if2 .left)) (c .before .before .before .before .before .before .before .before .before .before .before .before .write-own .ensures))
+unfolding settled
+returns-3 c = answers (done-is (c .before .before .before .before .before .before .before .before .before .before .before .before .before .before .before .before .before .before .before .before .before .before .before .before .before .before .before .before .args .state .now) (c .before .before .before .before .before .before .before .before .before .before .before .before .before .before .before .before .before .before .before .before .before .before .before .before .before .before .before .before .args .store .now) (c .before .before .before .before .before .before .before .before .before .before .before .before .before .before .before .before .before .before .before .before .before .before .before .before .before .before .before .before .args .rows .now) (c .before .before .before .before .before .before .before .before .before .before .before .before .before .before .before .before .before .before .before .before .before .before .before .before .before .before .before .before .args .row .now) (sym (c .before .before .before .before .before .before .before .before .before .before .before .before .before .before .before .before .before .before .before .before .before .push-check .ensures) ∙ (c .before .before .before .before .before .before .before .before .before .before .before .before .before .before .before .before .before .before .before .before .if1 .left)) (c .before .before .before .before .before .before .before .before .before .before .before .before .before .before .before .before .before .before .plan-own .result) (c .before .before .before .before .before .before .before .before .before .before .before .before .before .before .before .before .before .before .plan-own .ensures) (c .before .before .before .before .before .before .before .before .before .before .before .before .before .before .put-before .result) ((c .before .before .before .before .before .before .before .before .before .before .before .before .before .before .put-before .ensures) .count) (room-left _ _ _ _ _ (c .before .before .before .before .before .before .before .before .before .before .before .before .before .before .put-before .ensures) (c .before .before .before .before .before .before .before .before .before .before .before .before .before .before .put-before .kept .1 .1 .0) _ refl (c .before .before .before .before .before .before .before .before .before .before .if2 .left))) ((c .before .before .before .before .before .before .settle .ensures) .reply) ((c .before .before .before .before .before .before .settle .ensures) .state) ((c .before .before .before .before .before .before .settle .ensures) .store) (both-written (c .before .before .before .before .before .before .before .before .before .before .before .before .before .before .before .before .before .before .before .before .before .before .before .before .before .before .before .before .args .state .now) (c .before .before .before .before .before .before .before .before .before .before .before .before .before .before .before .before .before .before .before .before .before .before .before .before .before .before .before .before .args .store .now) (c .before .before .before .before .before .before .before .before .before .before .before .before .before .before .before .before .before .before .before .before .before .before .before .before .before .before .before .before .args .rows .now) (c .before .before .before .before .before .before .before .before .before .before .before .before .before .before .before .before .before .before .before .before .before .before .before .before .before .before .before .before .args .row .now) (sym (c .before .before .before .before .before .before .before .before .before .before .before .before .before .before .before .before .before .before .before .before .before .push-check .ensures) ∙ (c .before .before .before .before .before .before .before .before .before .before .before .before .before .before .before .before .before .before .before .before .if1 .left)) (c .before .before .before .before .before .before .before .before .before .before .before .before .before .before .before .before .before .before .plan-own .result) (c .before .before .before .before .before .before .before .before .before .before .before .before .before .before .before .before .before .before .plan-own .ensures) (c .before .before .before .before .before .before .before .before .before .before .before .before .before .before .put-before .result) ((c .before .before .before .before .before .before .before .before .before .before .before .before .before .before .put-before .ensures) .count) (room-left _ _ _ _ _ (c .before .before .before .before .before .before .before .before .before .before .before .before .before .before .put-before .ensures) (c .before .before .before .before .before .before .before .before .before .before .before .before .before .before .put-before .kept .1 .1 .0) _ refl (c .before .before .before .before .before .before .before .before .before .before .if2 .left)) _ _ (put-written _ _ _ _ _ (c .before .before .before .before .before .before .before .before .before .before .before .before .before .before .put-before .ensures) (c .before .before .before .before .before .before .before .before .before .before .before .before .before .before .put-before .kept .1 .1 .0) _ refl (c .before .before .before .before .before .before .before .before .before .before .if2 .left)) ((c .before .before .before .before .before .before .settle .ensures) .rows))
 
 pub flat-push-spec : {M : Type 1} → statement M
 flat-push-spec =
@@ -105,13 +87,7 @@ flat-push-spec =
     same-length-4
     same-length-5
     returns-2
-    is-news-requires
-    warning-of-requires
-    mul-write-own
-    write-own-requires
-    push-store-requires
-    push-state-requires
-    done-reply-requires
+    settle-requires
     same-length-6
     same-length-7
     same-length-8

@@ -16,43 +16,33 @@ use Rattle.gather.proofs.channels.add_channel.Reads as reads
 use Rattle.gather.proofs.channels.add_channel.Lts as lts
 use Rattle.gather.proofs.channels.is_new.Reads as is-new-reads
 
--- src/channels.rt:84:24
 slice-reshare-prefix-is-new : tie.Need-slice-reshare-prefix-is-new
 slice-reshare-prefix-is-new c = search needs
 
--- src/channels.rt:84:24
 slice-aggregate-is-new : tie.Need-slice-aggregate-is-new
 slice-aggregate-is-new c = sym (length-take-le _ _ ((c .before .before .pre) .0))
 
--- src/channels.rt:84:8
 is-new-requires : tie.Need-is-new-requires
 is-new-requires c κs = search needs
 
--- src/channels.rt:85:9
 mul-chans : tie.Need-mul-chans
 mul-chans c = search needs
 
--- src/channels.rt:85:9
 slice-write-chans : tie.Need-slice-write-chans
 slice-write-chans c = omega (arith, ap length (keep-yes (isNew (c .before .before .before .before .args .present) (take (c .before .before .before .before .args .n) (c .before .before .before .before .args .chans .now))) (c .before .before .before .before .args .k) (sym (c .before .is-new .ensures) ∙ (c .if1 .taken))))
 
--- src/channels.rt:86:16
 add-result : tie.Need-add-result
 add-result c = search needs
 
--- src/channels.rt:86:9
 same-length : tie.Need-same-length
 same-length c = search needs
 
--- src/channels.rt:86:9
 returns : tie.Need-returns
 returns c = appended-kept _ _ (sym (c .before .is-new .ensures) ∙ (c .if1 .taken)) (omega (arith, ap length (keep-yes (isNew (c .before .before .before .before .args .present) (take (c .before .before .before .before .args .n) (c .before .before .before .before .args .chans .now))) (c .before .before .before .before .args .k) (sym (c .before .is-new .ensures) ∙ (c .if1 .taken)))))
 
--- src/channels.rt:80:1
 same-length-2 : tie.Need-same-length-2
 same-length-2 c = search needs
 
--- src/channels.rt:80:1
 returns-2 : tie.Need-returns-2
 returns-2 c = appended-left _ _ (sym (c .before .is-new .ensures) ∙ (c .if1 .left))
 

@@ -19,40 +19,31 @@ Inv-loop axes present chans₀ n m₀ i₀ chans m i = (i ≤ length axes) × Ap
 abbrev μ-loop : tie.MeasureT-loop
 μ-loop axes present chans₀ n m₀ i₀ chans m i = length axes - i
 
--- src/channels.rt:98:5
 loop-holds : tie.Need-loop-holds Inv-loop μ-loop
 unfolding keep
 loop-holds c = (omega arith, appended-none)
 
--- src/channels.rt:99:47
 mul-add-channel : tie.Need-mul-add-channel Inv-loop μ-loop
 mul-add-channel c = search needs
 
--- src/channels.rt:99:47
 shared-slice-read-add-channel : tie.Need-shared-slice-read-add-channel Inv-loop μ-loop
 shared-slice-read-add-channel c = search needs
 
--- src/channels.rt:99:9
 add-channel-requires : tie.Need-add-channel-requires Inv-loop μ-loop
 add-channel-requires c κs = channel-room _ _ _ _ (c .before .before .before .before .before .before .pre) (c .before .before .loop-test .taken) ((c .before .before .before .loop .inv) .1)
 
--- src/channels.rt:100:9
 add-i : tie.Need-add-i Inv-loop μ-loop
 add-i c = search needs
 
--- src/channels.rt:98:5
 loop-less : tie.Need-loop-less Inv-loop μ-loop
 loop-less c = search needs
 
--- src/channels.rt:98:5
 loop-again : tie.Need-loop-again Inv-loop μ-loop
 loop-again c = (omega arith, channel-step _ _ _ _ (c .before .before .before .before .before .before .before .before .before .pre) (c .before .before .before .before .before .loop-test .taken) ((c .before .before .before .before .before .before .loop .inv) .1) (c .before .before .add-channel .ensures))
 
--- src/channels.rt:92:1
 same-length : tie.Need-same-length Inv-loop μ-loop
 same-length c = (c .before .loop .inv) .1 .same
 
--- src/channels.rt:92:1
 returns : tie.Need-returns Inv-loop μ-loop
 returns c = appended-all _ _ _ (c .loop-test .left) ((c .before .loop .inv) .1)
 

@@ -21,48 +21,37 @@ Inv-loop axes store held chans₀ n₀ i₀ chans n i = (i ≤ held) × Appended
 abbrev μ-loop : tie.MeasureT-loop
 μ-loop axes store held chans₀ n₀ i₀ chans n i = held - i
 
--- src/channels.rt:112:5
 loop-holds : tie.Need-loop-holds Inv-loop μ-loop
 unfolding channelsFrom upto
 loop-holds c = (omega arith, appended-none)
 
--- src/channels.rt:113:38
 mul-add-channels : tie.Need-mul-add-channels Inv-loop μ-loop
 mul-add-channels c = search needs
 
--- src/channels.rt:113:38
 add-add-channels : tie.Need-add-add-channels Inv-loop μ-loop
 add-add-channels c = search needs
 
--- src/channels.rt:113:32
 mul-add-channels-2 : tie.Need-mul-add-channels-2 Inv-loop μ-loop
 mul-add-channels-2 c = search needs
 
--- src/channels.rt:113:32
 shared-slice-read-add-channels : tie.Need-shared-slice-read-add-channels Inv-loop μ-loop
 shared-slice-read-add-channels c = search needs
 
--- src/channels.rt:113:9
 add-channels-requires : tie.Need-add-channels-requires Inv-loop μ-loop
 add-channels-requires c κs = channels-room _ _ (c .before .before .before .before .before .before .before .args .held) _ ((c .before .before .before .before .before .before .before .pre) .0) ((c .before .before .before .before .before .before .before .pre) .1 .1) _ ((c .before .before .before .loop .inv) .1)
 
--- src/channels.rt:114:9
 add-i : tie.Need-add-i Inv-loop μ-loop
 add-i c = search needs
 
--- src/channels.rt:112:5
 loop-less : tie.Need-loop-less Inv-loop μ-loop
 loop-less c = search needs
 
--- src/channels.rt:112:5
 loop-again : tie.Need-loop-again Inv-loop μ-loop
 loop-again c = (omega arith, channels-step _ _ (c .before .before .before .before .before .before .before .before .before .before .args .held) _ ((c .before .before .before .before .before .before .before .before .before .before .pre) .0) ((c .before .before .before .before .before .before .before .before .before .before .pre) .1 .1) _ ((c .before .before .before .before .before .before .loop .inv) .1) (c .before .before .add-channels .ensures))
 
--- src/channels.rt:106:1
 same-length : tie.Need-same-length Inv-loop μ-loop
 same-length c = (c .before .loop .inv) .1 .same
 
--- src/channels.rt:106:1
 returns : tie.Need-returns Inv-loop μ-loop
 returns c = let e : (c .before .loop .i) ≡ (c .before .before .before .before .before .args .held) = omega arith in rw e at ((c .before .loop .inv) .1)
 

@@ -21,44 +21,34 @@ Inv-loop axes row present i₀ i = (i ≤ length axes) × (hasPoint (geometricOf
 abbrev μ-loop : tie.MeasureT-loop
 μ-loop axes row present i₀ i = length axes - i
 
--- src/channels.rt:45:19
 shared-slice-read-present : tie.Need-shared-slice-read-present Inv-loop μ-loop
 shared-slice-read-present c = search needs
 
--- src/channels.rt:47:5
 loop-holds : tie.Need-loop-holds Inv-loop μ-loop
 unfolding hasPoint geometricOf
 loop-holds c = (omega arith, any-keep _ _ _)
 
--- src/channels.rt:48:30
 mul-programs : tie.Need-mul-programs Inv-loop μ-loop
 mul-programs c = search needs
 
--- src/channels.rt:48:30
 shared-slice-read-programs : tie.Need-shared-slice-read-programs Inv-loop μ-loop
 shared-slice-read-programs c = search needs
 
--- src/channels.rt:48:12
 programs-requires : tie.Need-programs-requires Inv-loop μ-loop
 programs-requires c κs = search needs
 
--- src/channels.rt:49:13
 returns : tie.Need-returns Inv-loop μ-loop
 returns c = sym ((c .before .before .before .before .loop .inv) .1 ∙ any-hit _ _ _ 0 (c .before .before .before .loop-test .taken) (sym (c .before .programs .ensures) ∙ (c .if1 .taken)))
 
--- src/channels.rt:51:9
 add-i : tie.Need-add-i Inv-loop μ-loop
 add-i c = search needs
 
--- src/channels.rt:47:5
 loop-less : tie.Need-loop-less Inv-loop μ-loop
 loop-less c = search needs
 
--- src/channels.rt:47:5
 loop-again : tie.Need-loop-again Inv-loop μ-loop
 loop-again c = (omega arith, (c .before .before .before .before .loop .inv) .1 ∙ any-miss _ _ _ 0 (c .before .before .before .loop-test .taken) (sym (c .before .programs .ensures) ∙ (c .if1 .left)))
 
--- src/channels.rt:41:1
 returns-2 : tie.Need-returns-2 Inv-loop μ-loop
 returns-2 c = sym ((c .before .loop .inv) .1 ∙ any-none _ _ _ (c .loop-test .left))
 

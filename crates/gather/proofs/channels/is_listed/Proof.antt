@@ -18,35 +18,27 @@ Inv-loop codes k i₀ i = (i ≤ length codes) × (member k codes ≡ anyOf (λ 
 abbrev μ-loop : tie.MeasureT-loop
 μ-loop codes k i₀ i = length codes - i
 
--- src/channels.rt:60:5
 loop-holds : tie.Need-loop-holds Inv-loop μ-loop
 loop-holds c = (omega arith, member-any _ _)
 
--- src/channels.rt:61:12
 mul-if1 : tie.Need-mul-if1 Inv-loop μ-loop
 mul-if1 c = search needs
 
--- src/channels.rt:61:12
 shared-slice-read-if1 : tie.Need-shared-slice-read-if1 Inv-loop μ-loop
 shared-slice-read-if1 c = search needs
 
--- src/channels.rt:62:13
 returns : tie.Need-returns Inv-loop μ-loop
 returns c = sym ((c .before .before .before .loop .inv) .1 ∙ any-hit _ _ _ 0 (c .before .before .loop-test .taken) (eq-eqb _ _ (c .if1 .taken)))
 
--- src/channels.rt:64:9
 add-i : tie.Need-add-i Inv-loop μ-loop
 add-i c = search needs
 
--- src/channels.rt:60:5
 loop-less : tie.Need-loop-less Inv-loop μ-loop
 loop-less c = search needs
 
--- src/channels.rt:60:5
 loop-again : tie.Need-loop-again Inv-loop μ-loop
 loop-again c = (omega arith, (c .before .before .before .loop .inv) .1 ∙ any-miss _ _ _ 0 (c .before .before .loop-test .taken) (ne-eqb _ _ (c .if1 .left)))
 
--- src/channels.rt:56:1
 returns-2 : tie.Need-returns-2 Inv-loop μ-loop
 returns-2 c = sym ((c .before .loop .inv) .1 ∙ any-none _ _ _ (c .loop-test .left))
 

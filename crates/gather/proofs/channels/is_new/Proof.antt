@@ -10,19 +10,15 @@ use Rattle.gather.proofs.channels.is_new.Lts as lts
 use Rattle.gather.proofs.channels.is_listed.Reads as is-listed-reads
 use Rattle.gather.proofs.channels.programs.Reads as programs-reads
 
--- src/channels.rt:73:9
 programs-requires : tie.Need-programs-requires
 programs-requires c κs = search needs
 
--- src/channels.rt:74:9
 returns : tie.Need-returns
 returns c = not-new _ _ _ (sym (c .before .programs .ensures) ∙ not-true _ (c .if1 .taken))
 
--- src/channels.rt:76:6
 is-listed-requires : tie.Need-is-listed-requires
 is-listed-requires c κs = search needs
 
--- src/channels.rt:70:1
 returns-2 : tie.Need-returns-2
 returns-2 c = ap not (c .is-listed .ensures) ∙ maybe-new _ _ _ (sym (c .before .before .programs .ensures) ∙ not-false _ (c .before .if1 .left))
 

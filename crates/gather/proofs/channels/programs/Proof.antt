@@ -8,15 +8,12 @@ use Rattle.gather.proofs.channels.programs.Reads as reads
 use Rattle.gather.proofs.channels.programs.Lts as lts
 use Rattle.rows.proofs.has_bit.Reads as has-bit-reads
 
--- src/channels.rt:35:9
 returns : tie.Need-returns
 returns c = rw (lt-leb _ 9 (c .if1 .taken))
 
--- src/channels.rt:37:5
 has-bit-requires : tie.Need-has-bit-requires
 has-bit-requires c κs = search needs
 
--- src/channels.rt:31:1
 returns-2 : tie.Need-returns-2
 returns-2 c = (c .has-bit .ensures) ∙ rw (le-leb _ 9 (c .before .if1 .left))
 

@@ -16,36 +16,28 @@ Inv-loop n places₀ i₀ places i = (i ≤ n) × Appended (upto (λ (i : ℕ). 
 abbrev μ-loop : tie.MeasureT-loop
 μ-loop n places₀ i₀ places i = n - i
 
--- src/metric.rt:45:5
 loop-holds : tie.Need-loop-holds Inv-loop μ-loop
 unfolding upto
 loop-holds c = (omega arith, appended-none)
 
--- src/metric.rt:46:9
 mul-places : tie.Need-mul-places Inv-loop μ-loop
 mul-places c = search needs
 
--- src/metric.rt:46:9
 slice-write-places : tie.Need-slice-write-places Inv-loop μ-loop
 slice-write-places c = omega (arith, (c .before .loop .inv) .1 .same)
 
--- src/metric.rt:47:9
 add-i : tie.Need-add-i Inv-loop μ-loop
 add-i c = search needs
 
--- src/metric.rt:45:5
 loop-less : tie.Need-loop-less Inv-loop μ-loop
 loop-less c = search needs
 
--- src/metric.rt:45:5
 loop-again : tie.Need-loop-again Inv-loop μ-loop
 loop-again c = (omega arith, appended-upto _ _ ((c .before .loop .inv) .1) (appended-one (omega (arith, (c .before .loop .inv) .1 .same))))
 
--- src/metric.rt:40:1
 same-length : tie.Need-same-length Inv-loop μ-loop
 same-length c = search needs
 
--- src/metric.rt:40:1
 returns : tie.Need-returns Inv-loop μ-loop
 returns c = let e : (c .before .loop .i) ≡ (c .before .before .args .n) = omega arith in rw e at ((c .before .loop .inv) .1)
 

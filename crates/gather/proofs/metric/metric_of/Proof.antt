@@ -11,27 +11,21 @@ use Rattle.gather.proofs.metric.metric_of.Lts as lts
 use Rattle.gather.proofs.metric.all_places.Reads as all-places-reads
 use Rattle.gather.proofs.metric.xyz_places.Reads as xyz-places-reads
 
--- src/metric.rt:57:9
 xyz-places-requires : tie.Need-xyz-places-requires
 xyz-places-requires c κs = search needs
 
--- src/metric.rt:59:9
 all-places-requires : tie.Need-all-places-requires
 all-places-requires c κs = search needs
 
--- src/metric.rt:59:9
 same-length : tie.Need-same-length
 same-length c = search needs
 
--- src/metric.rt:59:9
 returns : tie.Need-returns
 returns c = appended-as (metric-all _ (omega (arith, (c .before .before .before .before .before .before .before .xyz-places .ensures) .count, (c .before .before .before .before .if1 .taken)))) (appended-fresh ((c .before .before .before .before .before .before .before .xyz-places .ensures) .same) (c .before .before .all-places .ensures))
 
--- src/metric.rt:53:1
 same-length-2 : tie.Need-same-length-2
 same-length-2 c = search needs
 
--- src/metric.rt:53:1
 returns-2 : tie.Need-returns-2
 returns-2 c = appended-as (metric-xyz _ (λ e. (c .if1 .left) (omega (arith, (c .before .before .before .xyz-places .ensures) .count)))) (c .before .before .before .xyz-places .ensures)
 

@@ -19,32 +19,25 @@ Inv-loop chans places₀ m₀ i₀ places m i = (i ≤ length chans) × Appended
 abbrev μ-loop : tie.MeasureT-loop
 μ-loop chans places₀ m₀ i₀ places m i = length chans - i
 
--- src/metric.rt:32:5
 loop-holds : tie.Need-loop-holds Inv-loop μ-loop
 unfolding upto keep
 loop-holds c = (omega arith, appended-none)
 
--- src/metric.rt:33:9
 add-place-requires : tie.Need-add-place-requires Inv-loop μ-loop
 add-place-requires c κs = (omega arith, omega (arith, (c .before .before .loop .inv) .1 .same, (c .before .before .loop .inv) .1 .count, keep-upto-most (isXyz (c .before .before .before .before .before .args .chans .now)) (λ (i : ℕ). i) (c .before .before .loop .i)))
 
--- src/metric.rt:34:9
 add-i : tie.Need-add-i Inv-loop μ-loop
 add-i c = search needs
 
--- src/metric.rt:32:5
 loop-less : tie.Need-loop-less Inv-loop μ-loop
 loop-less c = search needs
 
--- src/metric.rt:32:5
 loop-again : tie.Need-loop-again Inv-loop μ-loop
 loop-again c = (omega arith, appended-as (sym (keep-upto _ _ _)) (appended-then ((c .before .before .before .before .before .loop .inv) .1) (c .before .before .add-place .ensures)))
 
--- src/metric.rt:26:1
 same-length : tie.Need-same-length Inv-loop μ-loop
 same-length c = (c .before .loop .inv) .1 .same
 
--- src/metric.rt:26:1
 returns : tie.Need-returns Inv-loop μ-loop
 returns c = let e : (c .before .loop .i) ≡ length (c .before .before .before .before .args .chans .now) = omega arith in rw e at ((c .before .loop .inv) .1)
 

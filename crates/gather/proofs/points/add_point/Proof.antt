@@ -12,47 +12,36 @@ use Rattle.gather.proofs.channels.has_point.Reads as has-point-reads
 use Rattle.gather.proofs.points.next_point.Reads as next-point-reads
 use Rattle.gather.proofs.points.weight_of.Reads as weight-of-reads
 
--- src/points.rt:112:8
 has-point-requires : tie.Need-has-point-requires
 has-point-requires c κs = search needs
 
--- src/points.rt:113:37
 mul-next-point : tie.Need-mul-next-point
 mul-next-point c = search needs
 
--- src/points.rt:113:9
 next-point-requires : tie.Need-next-point-requires
 next-point-requires c κs = ((c .before .before .before .before .before .before .before .before .pre) .0, point-room _ _ _ ((c .before .before .before .before .before .before .before .before .pre) .1 .0) ((c .before .before .before .before .before .before .before .before .pre) .1 .1 .0))
 
--- src/points.rt:114:17
 weight-of-requires : tie.Need-weight-of-requires
 weight-of-requires c κs = search needs
 
--- src/points.rt:114:9
 mul-ws : tie.Need-mul-ws
 mul-ws c = search needs
 
--- src/points.rt:114:9
 slice-write-ws : tie.Need-slice-write-ws
 slice-write-ws c = search needs
 
--- src/points.rt:115:16
 add-result : tie.Need-add-result
 add-result c = search needs
 
--- src/points.rt:115:9
 same-length : tie.Need-same-length
 same-length c = search needs
 
--- src/points.rt:115:9
 same-length-2 : tie.Need-same-length-2
 same-length-2 c = search needs
 
--- src/points.rt:115:9
 returns : tie.Need-returns
 returns c = added _ _ _ _ _ _ _ _ (sym (c .before .before .before .before .before .before .has-point .ensures) ∙ (c .before .before .before .before .before .if1 .taken)) (c .before .before .before .next-point .ensures) (c .weight-of .ensures) ((c .before .before .before .before .before .before .before .before .before .before .before .before .pre) .1 .1 .1)
 
--- src/points.rt:107:1
 returns-2 : tie.Need-returns-2
 returns-2 c = unadded _ _ _ _ _ _ (sym (c .before .has-point .ensures) ∙ (c .if1 .left))
 

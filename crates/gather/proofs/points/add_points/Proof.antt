@@ -23,40 +23,31 @@ Inv-loop axes store held chans pts₀ ws₀ n₀ i₀ pts ws n i = (i ≤ held) 
 abbrev μ-loop : tie.MeasureT-loop
 μ-loop axes store held chans pts₀ ws₀ n₀ i₀ pts ws n i = held - i
 
--- src/points.rt:128:5
 loop-holds : tie.Need-loop-holds Inv-loop μ-loop
 unfolding upto keep
 loop-holds c = (omega arith, none-added _ _ _)
 
--- src/points.rt:129:29
 block-requires : tie.Need-block-requires Inv-loop μ-loop
 block-requires c κs = search needs
 
--- src/points.rt:129:9
 add-point-requires : tie.Need-add-point-requires Inv-loop μ-loop
-add-point-requires c κs = ((ap length (c .before .before .block .ensures) ∙ block-length _ _ (omega arith), (c .before .before .before .before .before .before .before .before .before .before .pre) .0 .1 .1), added-room _ _ _ _ _ _ _ ((c .before .before .before .before .loop .inv) .1) (omega (arith, keep-upto-most (hasPoint (geometricOf (c .before .before .before .before .before .before .before .before .before .before .args .axes .now))) (blockAt (c .before .before .before .before .before .before .before .before .before .before .args .store .now)) (c .before .before .before .before .loop .i))) ((c .before .before .before .before .before .before .before .before .before .before .pre) .1 .0) ((c .before .before .before .before .before .before .before .before .before .before .pre) .1 .1 .0) ((c .before .before .before .before .before .before .before .before .before .before .pre) .1 .1 .1))
+add-point-requires c κs = ((ap length (c .before .before .block .ensures) ∙ block-length _ _ (omega arith), (c .before .before .before .before .before .before .before .before .before .before .pre) .0 .1 .1), added-room _ _ _ _ _ _ _ _ ((c .before .before .before .before .loop .inv) .1) (omega (arith, keep-upto-most (hasPoint (geometricOf (c .before .before .before .before .before .before .before .before .before .before .args .axes .now))) (blockAt (c .before .before .before .before .before .before .before .before .before .before .args .store .now)) (c .before .before .before .before .loop .i))) ((c .before .before .before .before .before .before .before .before .before .before .pre) .1 .0) ((c .before .before .before .before .before .before .before .before .before .before .pre) .1 .1 .0) ((c .before .before .before .before .before .before .before .before .before .before .pre) .1 .1 .1))
 
--- src/points.rt:130:9
 add-i : tie.Need-add-i Inv-loop μ-loop
 add-i c = search needs
 
--- src/points.rt:128:5
 loop-less : tie.Need-loop-less Inv-loop μ-loop
 loop-less c = search needs
 
--- src/points.rt:128:5
 loop-again : tie.Need-loop-again Inv-loop μ-loop
-loop-again c = (omega arith, points-step _ _ _ _ _ _ _ _ _ _ _ _ _ (omega arith) ((c .before .before .before .before .before .before .before .before .before .before .before .before .before .before .before .pre) .1 .0) ((c .before .before .before .before .before .before .before .before .before .before .before .before .before .before .before .pre) .1 .1 .0) ((c .before .before .before .before .before .before .before .before .before .before .before .before .before .before .before .pre) .1 .1 .1) (c .before .before .before .before .before .before .before .block .ensures) ((c .before .before .before .before .before .before .before .before .before .loop .inv) .1) (c .before .before .before .before .add-point .ensures))
+loop-again c = (omega arith, points-step _ _ _ _ _ _ _ _ _ _ _ _ _ _ (omega arith) ((c .before .before .before .before .before .before .before .before .before .before .before .before .before .before .before .pre) .1 .0) ((c .before .before .before .before .before .before .before .before .before .before .before .before .before .before .before .pre) .1 .1 .0) ((c .before .before .before .before .before .before .before .before .before .before .before .before .before .before .before .pre) .1 .1 .1) (c .before .before .before .before .before .before .before .block .ensures) ((c .before .before .before .before .before .before .before .before .before .loop .inv) .1) (c .before .before .before .before .add-point .ensures))
 
--- src/points.rt:121:1
 same-length : tie.Need-same-length Inv-loop μ-loop
 same-length c = (c .before .loop .inv) .1 .points .same
 
--- src/points.rt:121:1
 same-length-2 : tie.Need-same-length-2 Inv-loop μ-loop
 same-length-2 c = (c .before .loop .inv) .1 .weights .same
 
--- src/points.rt:121:1
 returns : tie.Need-returns Inv-loop μ-loop
 returns c = let e : (c .before .loop .i) ≡ (c .before .before .before .before .before .before .before .args .held) = omega arith in rw e at ((c .before .loop .inv) .1)
 

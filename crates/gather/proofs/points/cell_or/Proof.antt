@@ -7,31 +7,24 @@ use Rattle.gather.proofs.points.cell_or.Reads as reads
 use Rattle.gather.proofs.points.cell_or.Lts as lts
 use Rattle.rows.proofs.has_bit.Reads as has-bit-reads
 
--- src/points.rt:28:16
 shared-slice-read-has-bit : tie.Need-shared-slice-read-has-bit
 shared-slice-read-has-bit c = search needs
 
--- src/points.rt:28:8
 has-bit-requires : tie.Need-has-bit-requires
 has-bit-requires c κs = search needs
 
--- src/points.rt:29:20
 add-result : tie.Need-add-result
 add-result c = search needs
 
--- src/points.rt:29:16
 mul-result : tie.Need-mul-result
 mul-result c = search needs
 
--- src/points.rt:29:16
 shared-slice-read-result : tie.Need-shared-slice-read-result
 shared-slice-read-result c = search needs
 
--- src/points.rt:29:9
 returns : tie.Need-returns
 returns c = cell-yes _ _ _ (sym (c .before .before .has-bit .ensures) ∙ (c .before .if1 .taken))
 
--- src/points.rt:24:1
 returns-2 : tie.Need-returns-2
 returns-2 c = cell-no _ _ _ (sym (c .before .has-bit .ensures) ∙ (c .if1 .left))
 

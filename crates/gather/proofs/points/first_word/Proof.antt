@@ -22,31 +22,24 @@ Inv-loop store held k word₀ i₀ word i = (i ≤ held) × (firstCell k (upto (
 abbrev μ-loop : tie.MeasureT-loop
 μ-loop store held k word₀ i₀ word i = i
 
--- src/points.rt:41:5
 loop-holds : tie.Need-loop-holds Inv-loop μ-loop
 loop-holds c = (omega arith, first-is _ _)
 
--- src/points.rt:42:9
 sub-i : tie.Need-sub-i Inv-loop μ-loop
 sub-i c = search needs
 
--- src/points.rt:43:24
 block-requires : tie.Need-block-requires Inv-loop μ-loop
 block-requires c κs = search needs
 
--- src/points.rt:43:9
 cell-or-requires : tie.Need-cell-or-requires Inv-loop μ-loop
 cell-or-requires c κs = (ap length (c .block .ensures) ∙ block-length _ _ (omega arith), omega arith)
 
--- src/points.rt:41:5
 loop-less : tie.Need-loop-less Inv-loop μ-loop
 loop-less c = search needs
 
--- src/points.rt:41:5
 loop-again : tie.Need-loop-again Inv-loop μ-loop
 loop-again c = (omega arith, (c .before .before .before .loop .inv) .1 ∙ first-step _ _ _ _ _ _ _ (omega arith) (c .before .block .ensures) (c .cell-or .ensures))
 
--- src/points.rt:35:1
 returns : tie.Need-returns Inv-loop μ-loop
 returns c = sym ((c .before .loop .inv) .1 ∙ first-end _ _ _ _ (omega arith))
 

@@ -18,68 +18,52 @@ Inv-loop row chans pts₀ at before c₀ pts c = (c ≤ length chans) × Appende
 abbrev μ-loop : tie.MeasureT-loop
 μ-loop row chans pts₀ at before c₀ pts c = length chans - c
 
--- src/points.rt:89:18
 sub-before : tie.Need-sub-before Inv-loop μ-loop
 sub-before c = search needs
 
--- src/points.rt:91:5
 loop-holds : tie.Need-loop-holds Inv-loop μ-loop
 unfolding upto
 loop-holds c = (omega arith, appended-to appended-none (omega arith))
 
--- src/points.rt:92:39
 mul-next-value : tie.Need-mul-next-value Inv-loop μ-loop
 mul-next-value c = search needs
 
--- src/points.rt:92:39
 shared-slice-read-next-value : tie.Need-shared-slice-read-next-value Inv-loop μ-loop
 shared-slice-read-next-value c = search needs
 
--- src/points.rt:92:53
 add-next-value : tie.Need-add-next-value Inv-loop μ-loop
 add-next-value c = search needs
 
--- src/points.rt:92:49
 mul-next-value-2 : tie.Need-mul-next-value-2 Inv-loop μ-loop
 mul-next-value-2 c = search needs
 
--- src/points.rt:92:49
 slice-read-next-value : tie.Need-slice-read-next-value Inv-loop μ-loop
 slice-read-next-value c = omega (arith, (c .before .before .before .loop .inv) .1 .same)
 
--- src/points.rt:92:23
 next-value-requires : tie.Need-next-value-requires Inv-loop μ-loop
 next-value-requires c κs = ((c .before .before .before .before .before .before .before .pre) .0 .0, omega (arith, (c .before .before .before .before .before .before .before .pre) .0 .1 .axis _ (c .before .before .loop-test .taken)))
 
--- src/points.rt:92:13
 add-pts : tie.Need-add-pts Inv-loop μ-loop
 add-pts c = search needs
 
--- src/points.rt:92:9
 mul-pts : tie.Need-mul-pts Inv-loop μ-loop
 mul-pts c = search needs
 
--- src/points.rt:92:9
 slice-write-pts : tie.Need-slice-write-pts Inv-loop μ-loop
 slice-write-pts c = omega (arith, (c .before .before .before .before .loop .inv) .1 .same)
 
--- src/points.rt:93:9
 add-c : tie.Need-add-c Inv-loop μ-loop
 add-c c = search needs
 
--- src/points.rt:91:5
 loop-less : tie.Need-loop-less Inv-loop μ-loop
 loop-less c = search needs
 
--- src/points.rt:91:5
 loop-again : tie.Need-loop-again Inv-loop μ-loop
 loop-again c = (omega arith, next-step _ _ _ _ ((c .before .before .before .before .before .before .before .before .pre) .1 .0) ((c .before .before .before .before .before .before .before .before .pre) .1 .1) _ (c .before .before .before .loop-test .taken) refl (c .next-value .ensures) ((c .before .before .before .before .loop .inv) .1))
 
--- src/points.rt:84:1
 same-length : tie.Need-same-length Inv-loop μ-loop
 same-length c = (c .before .loop .inv) .1 .same
 
--- src/points.rt:84:1
 returns : tie.Need-returns Inv-loop μ-loop
 returns c = let e : (c .before .loop .c) ≡ length (c .before .before .before .before .before .args .chans .now) = omega arith in appended-to (appended-as (next-is _ _ _ _ e) ((c .before .loop .inv) .1)) (omega arith)
 

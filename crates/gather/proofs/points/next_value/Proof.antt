@@ -8,35 +8,27 @@ use Rattle.gather.proofs.points.next_value.Lts as lts
 use Rattle.floats.proofs.of_bits.Reads as of-bits-reads
 use Rattle.rows.proofs.has_bit.Reads as has-bit-reads
 
--- src/points.rt:77:16
 shared-slice-read-has-bit : tie.Need-shared-slice-read-has-bit
 shared-slice-read-has-bit c = search needs
 
--- src/points.rt:77:8
 has-bit-requires : tie.Need-has-bit-requires
 has-bit-requires c κs = search needs
 
--- src/points.rt:78:28
 add-of-bits : tie.Need-add-of-bits
 add-of-bits c = search needs
 
--- src/points.rt:78:24
 mul-of-bits : tie.Need-mul-of-bits
 mul-of-bits c = search needs
 
--- src/points.rt:78:24
 shared-slice-read-of-bits : tie.Need-shared-slice-read-of-bits
 shared-slice-read-of-bits c = search needs
 
--- src/points.rt:78:9
 of-bits-requires : tie.Need-of-bits-requires
 of-bits-requires c κs = search needs
 
--- src/points.rt:78:9
 returns : tie.Need-returns
 returns c = (c .of-bits .ensures) ∙ number-yes _ _ _ (sym (c .before .before .before .has-bit .ensures) ∙ (c .before .before .if1 .taken))
 
--- src/points.rt:73:1
 returns-2 : tie.Need-returns-2
 returns-2 c = number-no _ _ _ (sym (c .before .has-bit .ensures) ∙ (c .if1 .left))
 

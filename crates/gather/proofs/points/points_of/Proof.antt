@@ -11,27 +11,21 @@ use Rattle.gather.proofs.points.points_of.Lts as lts
 use Rattle.gather.proofs.points.add_points.Reads as add-points-reads
 use Rattle.gather.proofs.points.start_point.Reads as start-point-reads
 
--- src/points.rt:142:5
 start-point-requires : tie.Need-start-point-requires
 start-point-requires c κs = search needs
 
--- src/points.rt:143:5
 slice-write-ws : tie.Need-slice-write-ws
 slice-write-ws c = search needs
 
--- src/points.rt:144:5
 add-points-requires : tie.Need-add-points-requires
 add-points-requires c κs = ((search needs, (search needs, (c .before .before .before .before .before .before .before .before .before .before .before .before .pre) .0 .1 .1)), (search needs, (omega (arith, (c .before .before .before .before .start-point .ensures) .same), simp length-set (omega arith))))
 
--- src/points.rt:136:1
 same-length : tie.Need-same-length
 same-length c = (c .before .before .before .before .add-points .ensures) .points .same ∙ (c .before .before .before .before .before .before .before .before .before .start-point .ensures) .same
 
--- src/points.rt:136:1
 same-length-2 : tie.Need-same-length-2
 same-length-2 c = (c .before .before .before .before .add-points .ensures) .weights .same ∙ simp length-set
 
--- src/points.rt:136:1
 returns : tie.Need-returns
 returns c = points-are _ _ _ _ _ _ _ (c .before .before .before .before .before .before .before .before .before .before .before .before .before .before .before .before .before .args .ws .now) _ _ (omega arith) (c .before .before .before .before .before .before .before .before .before .start-point .ensures) (c .before .before .before .before .add-points .ensures)
 

@@ -22,47 +22,36 @@ Inv-loop start words store held chans pts₀ c₀ pts c = (c ≤ length chans) �
 abbrev μ-loop : tie.MeasureT-loop
 μ-loop start words store held chans pts₀ c₀ pts c = length chans - c
 
--- src/points.rt:66:5
 loop-holds : tie.Need-loop-holds Inv-loop μ-loop
 loop-holds c = (omega arith, appended-none)
 
--- src/points.rt:67:57
 mul-start-value : tie.Need-mul-start-value Inv-loop μ-loop
 mul-start-value c = search needs
 
--- src/points.rt:67:57
 shared-slice-read-start-value : tie.Need-shared-slice-read-start-value Inv-loop μ-loop
 shared-slice-read-start-value c = search needs
 
--- src/points.rt:67:18
 start-value-requires : tie.Need-start-value-requires Inv-loop μ-loop
 start-value-requires c κs = (search needs, (search needs, (c .before .before .before .before .before .before .before .pre) .0 .1 .1 .axis _ (c .before .loop-test .taken)))
 
--- src/points.rt:67:9
 mul-pts : tie.Need-mul-pts Inv-loop μ-loop
 mul-pts c = search needs
 
--- src/points.rt:67:9
 slice-write-pts : tie.Need-slice-write-pts Inv-loop μ-loop
 slice-write-pts c = omega (arith, (c .before .before .before .loop .inv) .1 .same)
 
--- src/points.rt:68:9
 add-c : tie.Need-add-c Inv-loop μ-loop
 add-c c = search needs
 
--- src/points.rt:66:5
 loop-less : tie.Need-loop-less Inv-loop μ-loop
 loop-less c = search needs
 
--- src/points.rt:66:5
 loop-again : tie.Need-loop-again Inv-loop μ-loop
 loop-again c = (omega arith, start-step _ _ _ (c .before .before .loop-test .taken) (omega arith) (c .start-value .ensures) ((c .before .before .before .loop .inv) .1))
 
--- src/points.rt:60:1
 same-length : tie.Need-same-length Inv-loop μ-loop
 same-length c = (c .before .loop .inv) .1 .same
 
--- src/points.rt:60:1
 returns : tie.Need-returns Inv-loop μ-loop
 returns c = appended-to (appended-as (ap (map _) (take-all _ _ (c .loop-test .left))) ((c .before .loop .inv) .1)) (omega arith)
 

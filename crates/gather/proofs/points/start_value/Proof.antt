@@ -10,35 +10,27 @@ use Rattle.floats.proofs.of_bits.Reads as of-bits-reads
 use Rattle.gather.proofs.points.first_word.Reads as first-word-reads
 use Rattle.rows.proofs.has_bit.Reads as has-bit-reads
 
--- src/points.rt:53:8
 has-bit-requires : tie.Need-has-bit-requires
 has-bit-requires c κs = search needs
 
--- src/points.rt:54:24
 mul-of-bits : tie.Need-mul-of-bits
 mul-of-bits c = search needs
 
--- src/points.rt:54:24
 shared-slice-read-of-bits : tie.Need-shared-slice-read-of-bits
 shared-slice-read-of-bits c = search needs
 
--- src/points.rt:54:9
 of-bits-requires : tie.Need-of-bits-requires
 of-bits-requires c κs = search needs
 
--- src/points.rt:54:9
 returns : tie.Need-returns
 returns c = (c .of-bits .ensures) ∙ start-yes _ _ _ _ (sym (c .before .before .before .has-bit .ensures) ∙ (c .before .before .if1 .taken))
 
--- src/points.rt:56:13
 first-word-requires : tie.Need-first-word-requires
 first-word-requires c κs = search needs
 
--- src/points.rt:56:5
 of-bits-requires-2 : tie.Need-of-bits-requires-2
 of-bits-requires-2 c κs = search needs
 
--- src/points.rt:49:1
 returns-2 : tie.Need-returns-2
 returns-2 c = (c .of-bits2 .ensures) ∙ ap num (c .before .first-word .ensures) ∙ start-no _ _ _ _ (sym (c .before .before .before .has-bit .ensures) ∙ (c .before .before .if1 .left))
 

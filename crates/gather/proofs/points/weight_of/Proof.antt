@@ -7,15 +7,12 @@ use Rattle.gather.proofs.points.weight_of.Reads as reads
 use Rattle.gather.proofs.points.weight_of.Lts as lts
 use Rattle.gather.proofs.points.next_value.Reads as next-value-reads
 
--- src/points.rt:102:9
 next-value-requires : tie.Need-next-value-requires
 next-value-requires c κs = search needs
 
--- src/points.rt:98:1
 returns : tie.Need-returns
 returns c = weight-low _ _ (c .before .next-value .ensures) (c .if1 .taken)
 
--- src/points.rt:98:1
 returns-2 : tie.Need-returns-2
 returns-2 c = weight-high _ _ (c .before .next-value .ensures) (c .if1 .left)
 

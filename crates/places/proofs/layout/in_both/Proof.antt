@@ -6,19 +6,15 @@ use Rattle.places.proofs.layout.in_both.Reads as reads
 use Rattle.places.proofs.layout.in_both.Lts as lts
 use Rattle.rows.proofs.has_bit.Reads as has-bit-reads
 
--- src/layout.rt:54:8
 has-bit-requires : tie.Need-has-bit-requires
 has-bit-requires c κs = search needs
 
--- src/layout.rt:55:9
 has-bit-requires-2 : tie.Need-has-bit-requires-2
 has-bit-requires-2 c κs = search needs
 
--- src/layout.rt:55:9
 returns : tie.Need-returns
 returns c = (c .has-bit2 .ensures) ∙ rw (sym (c .before .before .has-bit .ensures) ∙ (c .before .if1 .taken))
 
--- src/layout.rt:50:1
 returns-2 : tie.Need-returns-2
 returns-2 c = rw (sym (c .before .has-bit .ensures) ∙ (c .if1 .left))
 

@@ -18,32 +18,25 @@ Inv-loop codes m₀ k₀ m k = (k ≤ 10) × (m ≡ maskSum (λ (k : ℕ). membe
 abbrev μ-loop : tie.MeasureT-loop
 μ-loop codes m₀ k₀ m k = 10 - k
 
--- src/layout.rt:43:5
 loop-holds : tie.Need-loop-holds Inv-loop μ-loop
 unfolding maskSum
 loop-holds c = (omega arith, refl)
 
--- src/layout.rt:44:29
 is-listed-requires : tie.Need-is-listed-requires Inv-loop μ-loop
 is-listed-requires c κs = search needs
 
--- src/layout.rt:44:9
 mask-with-requires : tie.Need-mask-with-requires Inv-loop μ-loop
 mask-with-requires c κs = (subst (λ (n : ℕ). n < 2 ^ (c .before .before .loop .k)) (sym ((c .before .before .loop .inv) .1)) (mask-lt _ (c .before .before .loop .k)), omega arith)
 
--- src/layout.rt:45:9
 add-k : tie.Need-add-k Inv-loop μ-loop
 add-k c = search needs
 
--- src/layout.rt:43:5
 loop-less : tie.Need-loop-less Inv-loop μ-loop
 loop-less c = search needs
 
--- src/layout.rt:43:5
 loop-again : tie.Need-loop-again Inv-loop μ-loop
 loop-again c = (omega arith, (c .mask-with .ensures) ∙ ap₂ (λ (n : ℕ) (b : Bool). n + cond b (2 ^ (c .before .before .before .loop .k)) 0) ((c .before .before .before .loop .inv) .1) (c .before .is-listed .ensures) ∙ sym (mask-more _ (c .before .before .before .loop .k)))
 
--- src/layout.rt:38:1
 returns : tie.Need-returns Inv-loop μ-loop
 returns c = let e : (c .before .loop .k) ≡ 10 = omega arith in rw e at ((c .before .loop .inv) .1)
 

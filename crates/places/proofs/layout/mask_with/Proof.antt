@@ -8,19 +8,15 @@ use Rattle.places.proofs.layout.mask_with.Tie as tie
 use Rattle.places.proofs.layout.mask_with.Reads as reads
 use Rattle.places.proofs.layout.mask_with.Lts as lts
 
--- src/layout.rt:32:21
 shl-result : tie.Need-shl-result
 shl-result c = search needs
 
--- src/layout.rt:32:16
 add-result : tie.Need-add-result
 add-result c = omega (arith, pow-lt ((c .before .pre) .1))
 
--- src/layout.rt:32:9
 returns : tie.Need-returns
 returns c = let e : _≡_ {A = ℕ} (1 * 2 ^ (c .before .args .k) % 18446744073709551616) (2 ^ (c .before .args .k)) = omega (arith, pow-lt ((c .before .pre) .1)) in rw (e, (c .if1 .taken))
 
--- src/layout.rt:27:1
 returns-2 : tie.Need-returns-2
 returns-2 c = rw (c .if1 .left) (omega arith)
 

@@ -15,35 +15,27 @@ Inv-loop chans k i₀ i = (i ≤ length chans) × (placeOf k chans ≡ i + place
 abbrev μ-loop : tie.MeasureT-loop
 μ-loop chans k i₀ i = length chans - i
 
--- src/layout.rt:78:5
 loop-holds : tie.Need-loop-holds Inv-loop μ-loop
 loop-holds c = (omega arith, omega arith)
 
--- src/layout.rt:79:12
 mul-if1 : tie.Need-mul-if1 Inv-loop μ-loop
 mul-if1 c = search needs
 
--- src/layout.rt:79:12
 shared-slice-read-if1 : tie.Need-shared-slice-read-if1 Inv-loop μ-loop
 shared-slice-read-if1 c = search needs
 
--- src/layout.rt:80:13
 returns : tie.Need-returns Inv-loop μ-loop
 returns c = place-hit _ _ _ (c .before .before .loop-test .taken) (c .if1 .taken) ∙ sym ((c .before .before .before .loop .inv) .1)
 
--- src/layout.rt:82:9
 add-i : tie.Need-add-i Inv-loop μ-loop
 add-i c = search needs
 
--- src/layout.rt:78:5
 loop-less : tie.Need-loop-less Inv-loop μ-loop
 loop-less c = search needs
 
--- src/layout.rt:78:5
 loop-again : tie.Need-loop-again Inv-loop μ-loop
 loop-again c = (omega arith, (c .before .before .before .loop .inv) .1 ∙ place-miss _ _ _ (c .before .before .loop-test .taken) (c .if1 .left))
 
--- src/layout.rt:74:1
 returns-2 : tie.Need-returns-2 Inv-loop μ-loop
 returns-2 c = place-end _ _ _ (c .loop-test .left) ∙ sym ((c .before .loop .inv) .1)
 

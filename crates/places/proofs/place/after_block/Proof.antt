@@ -9,39 +9,30 @@ use Rattle.places.proofs.place.after_block.Reads as reads
 use Rattle.places.proofs.place.after_block.Lts as lts
 use Rattle.places.proofs.place.size_of.Reads as size-of-reads
 
--- src/place.rt:34:19
 add-t7 : tie.Need-add-t7
 add-t7 c = search needs
 
--- src/place.rt:33:9
 returns : tie.Need-returns
 returns c = moved-plain _ _ _ (not-true _ (c .before .if1 .taken))
 
--- src/place.rt:40:13
 mul-c : tie.Need-mul-c
 mul-c c = search needs
 
--- src/place.rt:40:13
 shared-slice-read-c : tie.Need-shared-slice-read-c
 shared-slice-read-c c = search needs
 
--- src/place.rt:42:28
 size-of-requires : tie.Need-size-of-requires
 size-of-requires c κs = search needs
 
--- src/place.rt:42:15
 add-t10 : tie.Need-add-t10
 add-t10 c = omega (arith, (c .before .before .before .before .before .pre) .1 .0, (c .before .size-of .ensures), size-most (getD (c .before .before .before .before .before .args .counts .now) (c .before .before .before .before .before .args .place .points) 0) .1, (c .before .before .before .before .before .pre) .0 .1 .few (c .before .before .before .before .before .args .place .points))
 
--- src/place.rt:43:18
 add-t11 : tie.Need-add-t11
 add-t11 c = omega (arith, (c .before .before .before .before .before .before .pre) .1 .1, (c .before .before .before .before .before .before .pre) .0 .1 .few (c .before .before .before .before .before .before .args .place .points))
 
--- src/place.rt:44:17
 add-t12 : tie.Need-add-t12
 add-t12 c = search needs
 
--- src/place.rt:27:1
 returns-2 : tie.Need-returns-2
 returns-2 c = moved-point _ _ _ _ (not-false _ (c .before .before .before .before .if1 .left)) (c .before .before .size-of .ensures)
 

@@ -8,39 +8,30 @@ use Rattle.places.proofs.place.before_block.Reads as reads
 use Rattle.places.proofs.place.before_block.Lts as lts
 use Rattle.places.proofs.place.size_of.Reads as size-of-reads
 
--- src/place.rt:55:19
 sub-t7 : tie.Need-sub-t7
 sub-t7 c = behind-not _ _ _ (not-true _ (c .before .if1 .taken)) (c .before .before .before .pre)
 
--- src/place.rt:54:9
 returns : tie.Need-returns
 returns c = unmoved-plain _ _ _ (not-true _ (c .before .if1 .taken))
 
--- src/place.rt:60:13
 sub-j : tie.Need-sub-j
 sub-j c = behind-is _ _ _ (not-false _ (c .before .if1 .left)) (c .before .before .before .pre) .some
 
--- src/place.rt:61:13
 mul-c : tie.Need-mul-c
 mul-c c = omega (arith, behind-is _ _ _ (not-false _ (c .before .if1 .left)) (c .before .before .before .pre) .known)
 
--- src/place.rt:61:13
 shared-slice-read-c : tie.Need-shared-slice-read-c
 shared-slice-read-c c = behind-is _ _ _ (not-false _ (c .before .before .if1 .left)) (c .before .before .before .before .pre) .known
 
--- src/place.rt:63:28
 size-of-requires : tie.Need-size-of-requires
 size-of-requires c κs = search needs
 
--- src/place.rt:63:15
 sub-t10 : tie.Need-sub-t10
 sub-t10 c = rw (c .before .size-of .ensures) (behind-is _ _ _ (not-false _ (c .before .before .before .before .if1 .left)) (c .before .before .before .before .before .before .pre) .rows)
 
--- src/place.rt:64:18
 sub-t11 : tie.Need-sub-t11
 sub-t11 c = behind-is _ _ _ (not-false _ (c .before .before .before .before .before .if1 .left)) (c .before .before .before .before .before .before .before .pre) .samples
 
--- src/place.rt:49:1
 returns-2 : tie.Need-returns-2
 returns-2 c = unmoved-point _ _ _ _ (not-false _ (c .before .before .before .before .before .if1 .left)) (c .before .before .size-of .ensures)
 

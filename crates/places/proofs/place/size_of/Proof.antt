@@ -4,11 +4,9 @@ use Rattle.places.proofs.place.size_of.Tie as tie
 use Rattle.places.proofs.place.size_of.Reads as reads
 use Rattle.places.proofs.place.size_of.Lts as lts
 
--- src/place.rt:20:1
 returns : tie.Need-returns
 returns c = size-zero _ (c .if1 .taken)
 
--- src/place.rt:20:1
 returns-2 : tie.Need-returns-2
 returns-2 c = size-some _ (c .if1 .left)
 

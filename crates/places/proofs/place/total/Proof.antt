@@ -21,36 +21,28 @@ Inv-loop axes store held counts place₀ i₀ place i = (i ≤ held) × (place �
 abbrev μ-loop : tie.MeasureT-loop
 μ-loop axes store held counts place₀ i₀ place i = held - i
 
--- src/place.rt:81:5
 loop-holds : tie.Need-loop-holds Inv-loop μ-loop
 unfolding placeTo
 loop-holds c = (omega arith, refl)
 
--- src/place.rt:82:45
 block-requires : tie.Need-block-requires Inv-loop μ-loop
 block-requires c κs = search needs
 
--- src/place.rt:82:29
 has-point-requires : tie.Need-has-point-requires Inv-loop μ-loop
 has-point-requires c κs = ap length (c .block .ensures) ∙ block-length _ _ (omega arith)
 
--- src/place.rt:82:9
 after-block-requires : tie.Need-after-block-requires Inv-loop μ-loop
 after-block-requires c κs = place-room _ _ _ _ _ ((c .before .before .before .before .before .before .before .pre) .1) (omega arith) (omega arith) ((c .before .before .before .loop .inv) .1)
 
--- src/place.rt:83:9
 add-i : tie.Need-add-i Inv-loop μ-loop
 add-i c = search needs
 
--- src/place.rt:81:5
 loop-less : tie.Need-loop-less Inv-loop μ-loop
 loop-less c = search needs
 
--- src/place.rt:81:5
 loop-again : tie.Need-loop-again Inv-loop μ-loop
 loop-again c = (omega arith, place-step _ _ _ _ _ _ _ _ (c .after-block .ensures) (c .before .has-point .ensures) (c .before .before .block .ensures) ((c .before .before .before .before .loop .inv) .1))
 
--- src/place.rt:70:1
 returns : tie.Need-returns Inv-loop μ-loop
 returns c = let e : (c .before .loop .i) ≡ (c .before .before .before .before .before .args .held) = omega arith in rw e at ((c .before .loop .inv) .1)
 

@@ -1,4 +1,4 @@
--- `flattener::state::axes_mask` meets its contract. Assumes nothing.
+-- `saved::state::axes_mask` meets its contract. Assumes nothing.
 use native.Mathlib.Omega.{arith}
 use Prim.Native.Nat.{_-_, _≤_}
 use lib.ListN.{length}

@@ -1,4 +1,4 @@
--- `flattener::state::axes_ok` meets its contract. Assumes nothing.
+-- `saved::state::axes_ok` meets its contract. Assumes nothing.
 use mathlib.Core.Path.{sym, ap, _∙_}
 use borrow.Author.Tests.{le-leb, lt-leb}
 use Rattle.rows.specs.Truth.{and-t, and-f}

@@ -1,4 +1,4 @@
--- `flattener::state::between` meets its contract. Assumes nothing.
+-- `saved::state::between` meets its contract. Assumes nothing.
 use borrow.Author.Tests.{le-leb, lt-leb}
 use Rattle.saved.proofs.state.between.Statement.{statement}
 use Rattle.saved.proofs.state.between.Tie as tie

@@ -1,4 +1,4 @@
--- `flattener::state::codes_ok` meets its contract. Assumes nothing.
+-- `saved::state::codes_ok` meets its contract. Assumes nothing.
 use mathlib.Core.Path.{_≡_, sym, _∙_, subst}
 use mathlib.Core.Bool.{true}
 use native.Mathlib.Omega.{arith}

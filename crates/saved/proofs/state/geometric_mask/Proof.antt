@@ -1,4 +1,4 @@
--- `flattener::state::geometric_mask` meets its contract. Assumes nothing.
+-- `saved::state::geometric_mask` meets its contract. Assumes nothing.
 use mathlib.Core.Path.{_∙_}
 use Rattle.saved.specs.Walk.{part-codes}
 use Rattle.saved.proofs.Marks.{mask-of-codes}

@@ -1,4 +1,4 @@
--- `flattener::state::held_ok` meets its contract. Assumes nothing.
+-- `saved::state::held_ok` meets its contract. Assumes nothing.
 use mathlib.Core.Path.{sym, _∙_}
 use borrow.Author.Tests.{le-leb, lt-leb, eq-eqb, ne-eqb}
 use Rattle.rows.specs.Truth.{and-t, and-f, or-t, or-f}

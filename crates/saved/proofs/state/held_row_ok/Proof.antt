@@ -1,4 +1,4 @@
--- `flattener::state::held_row_ok` meets its contract. Assumes nothing.
+-- `saved::state::held_row_ok` meets its contract. Assumes nothing.
 use mathlib.Core.Path.{ap, _∙_}
 use Rattle.saved.specs.StateLaws.{rowFits, fits-held}
 use Rattle.saved.specs.Walk.{part-row}

@@ -1,4 +1,4 @@
--- `flattener::state::held_rows_ok` meets its contract. Assumes nothing.
+-- `saved::state::held_rows_ok` meets its contract. Assumes nothing.
 use mathlib.Core.Path.{_≡_, refl, sym, _∙_, subst}
 use mathlib.Core.Bool.{true}
 use native.Mathlib.Omega.{arith}

@@ -1,4 +1,4 @@
--- `flattener::state::is_geometric` meets its contract. Assumes nothing.
+-- `saved::state::is_geometric` meets its contract. Assumes nothing.
 use mathlib.Core.Path.{sym, ap, _∙_}
 use borrow.Author.Tests.{le-leb, lt-leb}
 use Rattle.floats.specs.Lists.{member}

@@ -1,4 +1,4 @@
--- `flattener::state::is_in` meets its contract. Assumes nothing.
+-- `saved::state::is_in` meets its contract. Assumes nothing.
 use mathlib.Core.Path.{_≡_, refl, sym, _∙_}
 use native.Mathlib.Omega.{arith}
 use Prim.Native.Nat.{_-_, _≤_}

@@ -1,4 +1,4 @@
--- `flattener::state::is_new` meets its contract. Assumes nothing.
+-- `saved::state::is_new` meets its contract. Assumes nothing.
 use mathlib.Core.Path.{sym, ap, _∙_}
 use mathlib.Core.Bool.{not}
 use borrow.Author.Tests.{le-leb, lt-leb}

@@ -1,4 +1,4 @@
--- `flattener::state::is_spline` meets its contract. Assumes nothing.
+-- `saved::state::is_spline` meets its contract. Assumes nothing.
 use borrow.Author.Tests.{le-leb, lt-leb}
 use Rattle.rows.specs.Codes.{isSpline}
 use Rattle.saved.proofs.state.is_spline.Statement.{statement}

@@ -1,4 +1,4 @@
--- `flattener::state::place` meets its contract. Assumes nothing.
+-- `saved::state::place` meets its contract. Assumes nothing.
 use mathlib.Core.Path.{ap}
 use native.Mathlib.Omega.{arith}
 use Prim.Native.Nat.{ℕ, _+_}

@@ -1,4 +1,4 @@
--- `flattener::state::point_at_ok` meets its contract. Assumes nothing.
+-- `saved::state::point_at_ok` meets its contract. Assumes nothing.
 use mathlib.Core.Path.{sym, _∙_}
 use borrow.Author.Tests.{not-true, not-false}
 use Rattle.rows.specs.Truth.{and-t, and-f}

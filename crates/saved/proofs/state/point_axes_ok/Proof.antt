@@ -1,4 +1,4 @@
--- `flattener::state::point_axes_ok` meets its contract. Assumes nothing.
+-- `saved::state::point_axes_ok` meets its contract. Assumes nothing.
 use mathlib.Core.Path.{_≡_, sym, _∙_, subst}
 use mathlib.Core.Bool.{true}
 use native.Mathlib.Omega.{arith}

@@ -1,4 +1,4 @@
--- `flattener::state::point_ok` meets its contract. Assumes nothing.
+-- `saved::state::point_ok` meets its contract. Assumes nothing.
 use mathlib.Core.Path.{sym, _∙_}
 use native.Mathlib.Omega.{arith}
 use borrow.Author.Tests.{lt-ltb, le-ltb}

@@ -1,4 +1,4 @@
--- `flattener::state::saved_check` meets its contract. Assumes nothing.
+-- `saved::state::saved_check` meets its contract. Assumes nothing.
 use mathlib.Core.Path.{sym, _∙_}
 use native.Mathlib.Omega.{arith}
 use borrow.Author.Tests.{le-leb, lt-leb, not-true, not-false}

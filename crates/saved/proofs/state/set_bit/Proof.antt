@@ -1,4 +1,4 @@
--- `flattener::state::set_bit` meets its contract. Assumes nothing.
+-- `saved::state::set_bit` meets its contract. Assumes nothing.
 use mathlib.Core.Path.{_≡_, sym, _∙_}
 use native.Mathlib.Omega.{arith}
 use Prim.Native.Nat.{ℕ, _+_, _*_, _%_, _<_, _^_}

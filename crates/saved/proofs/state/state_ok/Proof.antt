@@ -1,4 +1,4 @@
--- `flattener::state::state_ok` meets its contract. Assumes nothing.
+-- `saved::state::state_ok` meets its contract. Assumes nothing.
 use mathlib.Core.Path.{sym, _∙_}
 use native.Mathlib.Omega.{arith}
 use borrow.Author.Tests.{eq-eqb, ne-eqb, not-true, not-false}

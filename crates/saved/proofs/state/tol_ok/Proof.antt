@@ -1,4 +1,4 @@
--- `flattener::state::tol_ok` meets its contract. Assumes nothing.
+-- `saved::state::tol_ok` meets its contract. Assumes nothing.
 use borrow.Author.Tests.{lt-ltb, le-ltb}
 use Rattle.saved.specs.State.{tolOk}
 use Rattle.saved.proofs.state.tol_ok.Statement.{statement}

@@ -1,4 +1,4 @@
--- `flattener::state::with_axis` meets its contract. Assumes nothing.
+-- `saved::state::with_axis` meets its contract. Assumes nothing.
 use mathlib.Core.Path.{sym, _∙_}
 use borrow.Author.Tests.{lt-ltb, le-ltb}
 use Rattle.rows.specs.Truth.{cond-t, cond-f}

@@ -1,0 +1,4 @@
+pub mod boor;
+pub mod four;
+pub mod low;
+pub mod point;

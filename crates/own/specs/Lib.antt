@@ -1,0 +1,4 @@
+pub mod Answer
+pub mod ArcSame
+pub mod Own
+pub mod Few

@@ -1,0 +1,3 @@
+// Starting, and seeding a position: the calls on the state alone.
+pub mod seed;
+pub mod start;

@@ -1,0 +1,6 @@
+pub mod Walks
+pub mod Lefts
+pub mod Points
+pub mod Counting
+pub mod Writing
+pub mod Remembering
