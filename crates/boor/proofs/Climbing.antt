@@ -16,7 +16,7 @@ use Rattle.floats.specs.Fill.{length-upto, at-upto, lt-or-le, upto-below}
 use Rattle.basis.specs.Basis.{share, raisedAt, levels}
 use Rattle.basis.specs.Tables.{weighted, window, heldAt, spanIn, curveAt}
 use Rattle.basis.specs.RowLaws.{length-row, row-order}
-use Rattle.boor.specs.Low.{mixOf}
+use Rattle.low.specs.Low.{mixOf}
 use Rattle.boor.specs.Climb.{Put, Raised, Level, column, Climbed, Loaded}
 
 -- ---- numbers put one after another

@@ -7,7 +7,7 @@ use lib.Ieee.{Float}
 use Rattle.floats.specs.Numbers.{at}
 use Rattle.floats.specs.Lists.{upto}
 use Rattle.basis.specs.Basis.{levels}
-use Rattle.boor.specs.Low.{mixOf}
+use Rattle.low.specs.Low.{mixOf}
 
 -- whole fours, of which there are three at most
 pub record Width (wide : ℕ) : Type 0 where

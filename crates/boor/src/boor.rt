@@ -1,29 +1,14 @@
 // De Boor's triangle in work memory: a row of numbers for each control point, one a channel, the last point first. So
 // each level goes upwards in place, over the rows that still count.
+use low::low::share_at;
 ghost use mathlib.Core.Path.{_≡_};
 ghost use Prim.Native.Nat.{_≤_, _<_, _+_, _*_, _-_, min};
 ghost use lib.ListN.{length, replicate};
 ghost use Rattle.floats.specs.Numbers.{_⊘_, f0, at};
 ghost use Rattle.floats.specs.Lists.{filled};
 ghost use Rattle.basis.specs.Basis.{share};
-ghost use Rattle.boor.specs.Low.{placed};
+ghost use Rattle.low.specs.Low.{placed};
 ghost use Rattle.boor.specs.Climb.{Width, Put, Raised, Level, Climbed, Loaded};
-
-// The share of row j at level r, in knot span k.
-pub fn share_at(ks: &[f64], t: f64, p: usize, k: usize, r: usize, j: usize) -> f64
-    requires { ⌜ (1 ≤ r) × ((r ≤ p) × ((p ≤ k) × ((j ≤ p) × (k + p < length (now ks))))) ⌝ }
-    ensures { λ x. ⌜ x ≡ share (now (ks .entry)) t p k r j ⌝ }
-{
-    let i = j + k - p;
-    let e = i + p + 1 - r;
-    let low = ks[i];
-    let wide = ks[e] - low;
-    if floats::abs(wide) < 1e-30 {
-        0.0
-    } else {
-        (t - low) / wide
-    }
-}
 
 // The numbers of a row that has ch channels and the weights: whole fours.
 pub fn row_width(ch: usize) -> usize

@@ -1,4 +1,2 @@
 pub mod boor;
-pub mod four;
-pub mod low;
 pub mod point;

@@ -1,6 +1,6 @@
 use mathlib.Core.Path.{refl}
 use native.Mathlib.Omega.{arith}
-use Rattle.boor.proofs.Straight.{placed-in, placed-out}
+use Rattle.low.specs.LowLaws.{placed-in, placed-out}
 use Rattle.floats.specs.Numbers.{at}
 use borrow.Author.Needs.{needs}
 use Rattle.boor.proofs.boor.first_at.Statement.{statement}

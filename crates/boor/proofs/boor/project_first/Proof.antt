@@ -1,5 +1,5 @@
 use mathlib.Core.Path.{refl}
-use Rattle.boor.proofs.Straight.{ten, places-are}
+use Rattle.low.specs.LowLaws.{ten, places-are}
 use borrow.Author.Needs.{needs}
 use Rattle.boor.proofs.boor.project_first.Statement.{statement}
 use Rattle.boor.proofs.boor.project_first.Tie as tie

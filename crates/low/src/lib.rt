@@ -1,0 +1,2 @@
+pub mod four;
+pub mod low;
