@@ -9,15 +9,12 @@ use crate::input::field;
 use crate::input::last_field;
 use crate::input::raw_words;
 use crate::input::unread;
+use crate::memory::MOST_BLOCKS;
+use crate::memory::MOST_LENGTH;
 use crate::memory::MOST_ROOM;
-use crate::memory::ROW_WORDS;
+use rows::ROW_WORDS;
 ghost use lib.ListN.{length};
 ghost use mathlib.Core.Path.{_≡_};
-
-// Docs/INTERFACE.md: "0 to 256", "0 to 64".
-const MOST_BLOCKS: u64 = 256;
-
-const MOST_LENGTH: u64 = 64;
 
 // A call, or a change of what is lent or of what it holds. Codes and rows are in the words that reading filled, and
 // `count` is how many.
@@ -127,7 +124,7 @@ fn fill_row(line: &[u8], from: usize, row: &mut [u64]) -> bool
 fn push_ask(line: &[u8], from: usize, words: &mut [u64]) -> Ask
     requires { ⌜ length (now words) ≡ 64 ⌝ }
 {
-    if fill_row(line, from, &mut words[..29]) {
+    if fill_row(line, from, &mut words[..ROW_WORDS]) {
         return Ask::Push {
             count: ROW_WORDS as u64,
         };
@@ -155,19 +152,19 @@ fn setting(line: &[u8], from: usize, most: u64) -> Part {
 
 // room N
 fn room_ask(line: &[u8], from: usize) -> Ask {
-    let n = setting(line, from, MOST_ROOM);
+    let n = setting(line, from, MOST_ROOM as u64);
     if n.ok { Ask::Room(n.value) } else { Ask::Bad }
 }
 
 // blocks N
 fn blocks_ask(line: &[u8], from: usize) -> Ask {
-    let n = setting(line, from, MOST_BLOCKS);
+    let n = setting(line, from, MOST_BLOCKS as u64);
     if n.ok { Ask::Blocks(n.value) } else { Ask::Bad }
 }
 
 // length N
 fn length_ask(line: &[u8], from: usize) -> Ask {
-    let n = setting(line, from, MOST_LENGTH);
+    let n = setting(line, from, MOST_LENGTH as u64);
     if n.ok { Ask::Length(n.value) } else { Ask::Bad }
 }
 

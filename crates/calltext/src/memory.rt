@@ -1,15 +1,26 @@
 // The memory that is lent, and whether a refused call left it alone.
+use rows::ROW_WORDS;
 ghost use Prim.Native.Nat.{_≤_, _<_, _+_};
 ghost use lib.ListN.{length};
 ghost use Rattle.io.specs.Counts.{Counts};
 ghost use mathlib.Core.Path.{_≡_};
 
-pub const ROW_WORDS: usize = 29;
+// The most that is lent, by docs/INTERFACE.md: words of a state or a row, blocks of a store, rows; and the words of these.
+pub const MOST_LENGTH: usize = 64;
 
-// The most rows that a call has room for, as docs/INTERFACE.md's "0 to 16384", and their words.
-pub const MOST_ROOM: u64 = 16384;
+pub const MOST_BLOCKS: usize = 256;
 
-pub const ROOM_WORDS: usize = 475136;
+pub const MOST_ROOM: usize = 16384;
+
+pub const STORE_WORDS: usize = MOST_BLOCKS * ROW_WORDS;
+
+pub const ROOM_WORDS: usize = MOST_ROOM * ROW_WORDS;
+
+// What a state and a store held before a call.
+pub const OLD_WORDS: usize = MOST_LENGTH + STORE_WORDS;
+
+// The input and the output wait in so many bytes.
+pub const TEXT_ROOM: usize = 65536;
 
 // The lesser of a and b.
 pub fn least(a: usize, b: usize) -> usize
@@ -78,7 +89,7 @@ pub fn is_resting(rows: &[u64]) -> bool {
 
 // The words of n rows, of as many as are ever lent.
 pub fn row_words(n: u64) -> usize {
-    if n < MOST_ROOM {
+    if n < MOST_ROOM as u64 {
         return n as usize * ROW_WORDS;
     }
     ROOM_WORDS

@@ -1,7 +1,7 @@
 // Answers, put into a buffer from a place on; what does not fit is left out, and the callers flush in time.
-use crate::memory::ROW_WORDS;
 use crate::memory::least;
 use libc::STDOUT_FILENO;
+use rows::ROW_WORDS;
 ghost use Prim.Native.Nat.{_≤_, _<_, _+_};
 ghost use lib.ListN.{length};
 ghost use mathlib.Core.Path.{_≡_};

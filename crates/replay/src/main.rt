@@ -6,11 +6,17 @@ use crate::session::Lent;
 use crate::session::done;
 use calltext::ask::Ask;
 use calltext::ask::read_ask;
+use calltext::memory::MOST_LENGTH;
+use calltext::memory::OLD_WORDS;
+use calltext::memory::ROOM_WORDS;
+use calltext::memory::STORE_WORDS;
+use calltext::memory::TEXT_ROOM;
 use calltext::memory::rest;
 use calltext::output::flush;
 use lines::line_end;
 use lines::read_more;
 use lines::to_front;
+use saved::STATE_WORDS;
 ghost use Prim.Native.Nat.{ℕ, _+_, _-_, _<_, _≤_};
 ghost use lib.ListN.{length};
 ghost use mathlib.Core.Path.{_≡_};
@@ -30,7 +36,7 @@ fn next(n: u64) -> u64 {
 }
 
 // The line that ends before place e.
-fn take_line(w: Window, e: usize, buf: &[u8], words: &mut [u64; 64]) -> Window
+fn take_line(w: Window, e: usize, buf: &[u8], words: &mut [u64; MOST_LENGTH]) -> Window
     requires { ⌜ (w .at < e) × ((e ≤ w .end) × (w .end ≤ length (now buf))) ⌝ }
     ensures { λ r. ⌜ (r .at ≤ r .end) × (r .end ≤ length (now (buf .entry))) ⌝ }
 {
@@ -47,7 +53,7 @@ fn take_line(w: Window, e: usize, buf: &[u8], words: &mut [u64; 64]) -> Window
 }
 
 // The end of the input: n bytes that no LF ends are a line too.
-fn take_rest(n: usize, lines: u64, buf: &[u8], words: &mut [u64; 64]) -> Window
+fn take_rest(n: usize, lines: u64, buf: &[u8], words: &mut [u64; MOST_LENGTH]) -> Window
     requires { ⌜ n ≤ length (now buf) ⌝ }
     ensures { λ r. ⌜ (r .at ≤ r .end) × (r .end ≤ length (now (buf .entry))) ⌝ }
 {
@@ -78,7 +84,7 @@ fn at_front(end: usize, lines: u64, turns: u64) -> Window
 }
 
 // The bytes that are not read yet go to the front, and more are read behind them.
-fn read_on(w: Window, buf: &mut [u8], words: &mut [u64; 64]) -> Window
+fn read_on(w: Window, buf: &mut [u8], words: &mut [u64; MOST_LENGTH]) -> Window
     requires { ⌜ (w .at ≤ w .end) × (w .end ≤ length (now buf)) ⌝ }
     ensures { λ r. ⌜ (r .at ≤ r .end) × (r .end ≤ length (now (buf .exit))) ⌝ }
 {
@@ -91,7 +97,7 @@ fn read_on(w: Window, buf: &mut [u8], words: &mut [u64; 64]) -> Window
 }
 
 // One turn: a whole line that is in the buffer, or a read.
-fn turn(w: Window, buf: &mut [u8], words: &mut [u64; 64]) -> Window
+fn turn(w: Window, buf: &mut [u8], words: &mut [u64; MOST_LENGTH]) -> Window
     requires { ⌜ (w .at ≤ w .end) × (w .end ≤ length (now buf)) ⌝ }
     ensures { λ r. ⌜ (r .at ≤ r .end) × (r .end ≤ length (now (buf .exit))) ⌝ }
 {
@@ -110,7 +116,7 @@ fn turns_left(wanted: u64, left: u64) -> u64
 }
 
 // A turn over an array, whose length needs no word in a loop.
-fn turn_all(w: Window, buf: &mut [u8; 65536], words: &mut [u64; 64]) -> Window
+fn turn_all(w: Window, buf: &mut [u8; TEXT_ROOM], words: &mut [u64; MOST_LENGTH]) -> Window
     requires { ⌜ (w .at ≤ w .end) × ((w .end ≤ 65536) × (0 < w .turns)) ⌝ }
     ensures { λ r. ⌜ (r .at ≤ r .end) × ((r .end ≤ 65536) × (r .turns < w .turns)) ⌝ }
 {
@@ -135,17 +141,17 @@ struct Stand {
 // One turn, and what its line asks for.
 fn step(
     s: Stand,
-    buf: &mut [u8; 65536],
-    state: &mut [u64; 64],
-    store: &mut [u64; 7424],
-    rows: &mut [u64; 475136],
-    old: &mut [u64; 7488],
-    out: &mut [u8; 65536],
+    buf: &mut [u8; TEXT_ROOM],
+    state: &mut [u64; MOST_LENGTH],
+    store: &mut [u64; STORE_WORDS],
+    rows: &mut [u64; ROOM_WORDS],
+    old: &mut [u64; OLD_WORDS],
+    out: &mut [u8; TEXT_ROOM],
 ) -> Stand
     requires { ⌜ (s .window .at ≤ s .window .end) × ((s .window .end ≤ 65536) × (0 < s .window .turns)) ⌝ }
     ensures { λ r. ⌜ (r .window .at ≤ r .window .end) × ((r .window .end ≤ 65536) × (r .window .turns < s .window .turns)) ⌝ }
 {
-    let mut words = [0u64; 64];
+    let mut words = [0u64; MOST_LENGTH];
     let window = turn_all(s.window, buf, &mut words);
     let ask = window.ask;
     let lent = done(
@@ -169,27 +175,27 @@ fn begun() -> Stand
     Stand {
         window: at_front(0, 0, u64::MAX),
         lent: Lent {
-            state: 44,
-            store: 7424,
-            rows: 475136,
+            state: STATE_WORDS,
+            store: STORE_WORDS,
+            rows: ROOM_WORDS,
             at: 0,
         },
     }
 }
 
-fn flush_all(out: &[u8; 65536], s: Stand) {
+fn flush_all(out: &[u8; TEXT_ROOM], s: Stand) {
     flush(out, s.lent.at);
 }
 
 // Every line, and then what of the answers is not written yet.
 fn main() {
-    let mut buf = [0u8; 65536];
-    let mut out = [0u8; 65536];
-    let mut state = [0u64; 64];
-    let mut store = [0u64; 7424];
-    let mut old = [0u64; 7488];
-    let mut rows = [0u64; 475136];
-    rest(&mut rows, 475136);
+    let mut buf = [0u8; TEXT_ROOM];
+    let mut out = [0u8; TEXT_ROOM];
+    let mut state = [0u64; MOST_LENGTH];
+    let mut store = [0u64; STORE_WORDS];
+    let mut old = [0u64; OLD_WORDS];
+    let mut rows = [0u64; ROOM_WORDS];
+    rest(&mut rows, ROOM_WORDS);
     let mut s = begun();
     while s.window.turns > 0 {
         s = step(

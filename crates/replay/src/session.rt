@@ -1,6 +1,11 @@
 // What a line asks for, done: a call and its answer, or a change of what is lent.
 use crate::answer::put_answer;
 use calltext::ask::Ask;
+use calltext::memory::MOST_LENGTH;
+use calltext::memory::OLD_WORDS;
+use calltext::memory::ROOM_WORDS;
+use calltext::memory::STORE_WORDS;
+use calltext::memory::TEXT_ROOM;
 use calltext::memory::copy;
 use calltext::memory::is_resting;
 use calltext::memory::part;
@@ -9,8 +14,6 @@ use calltext::memory::row_words;
 use calltext::memory::same;
 use calltext::output::put_line_number;
 use replies::Reply;
-
-const STATE_WORDS: usize = 64;
 
 // The words lent from now on, and where the output stands.
 pub struct Lent {
@@ -22,7 +25,7 @@ pub struct Lent {
 
 // The words of the state and the store as they are before a call.
 fn save(state: &[u64], store: &[u64], old: &mut [u64]) {
-    let n = part(STATE_WORDS, old);
+    let n = part(MOST_LENGTH, old);
     copy(state, &mut old[..n]);
     copy(store, &mut old[n..]);
 }
@@ -32,7 +35,7 @@ fn is_untouched(state: &[u64], store: &[u64], rows: &[u64], old: &[u64]) -> bool
     if !same(state, old) {
         return false;
     }
-    let n = part(STATE_WORDS, old);
+    let n = part(MOST_LENGTH, old);
     if !same(store, &old[n..]) {
         return false;
     }
@@ -190,13 +193,13 @@ fn lent_after(ask: Ask, lent: Lent, at: usize) -> Lent {
 pub fn done(
     ask: Ask,
     number: u64,
-    words: &[u64; 64],
+    words: &[u64; MOST_LENGTH],
     lent: Lent,
-    state: &mut [u64; 64],
-    store: &mut [u64; 7424],
-    rows: &mut [u64; 475136],
-    old: &mut [u64; 7488],
-    out: &mut [u8; 65536],
+    state: &mut [u64; MOST_LENGTH],
+    store: &mut [u64; STORE_WORDS],
+    rows: &mut [u64; ROOM_WORDS],
+    old: &mut [u64; OLD_WORDS],
+    out: &mut [u8; TEXT_ROOM],
 ) -> Lent {
     if is_call(ask) {
         let at = called(ask, words, lent, state, store, rows, old, out);
