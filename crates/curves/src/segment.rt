@@ -29,7 +29,7 @@ fn at_stretch(s: Shape, ks: &[f64], i: usize) -> Shape
     let size = s.size;
     let end = ks[i];
     let times = n + n;
-    let piece = fit::piece(&ks[n..times], size, end);
+    let piece = hermite::piece(&ks[n..times], size, end);
     with_piece(s, piece)
 }
 

@@ -1,3 +1,2 @@
 pub mod Gathers
 pub mod Keeps
-pub mod Pieces

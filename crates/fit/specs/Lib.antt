@@ -1,5 +1,4 @@
 pub mod Blocks
-pub mod Channels
 pub mod Fit
 pub mod FitLaws
 pub mod Kept

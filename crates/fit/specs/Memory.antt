@@ -48,6 +48,10 @@ fitAt fts fps slopes m ch t c =
     let w = pieceOf fts m t in
     pieceAt t (at fts w) (at fts (w + 1)) (at fps (w * ch + c)) (at slopes (c * m + w)) (at fps ((w + 1) * ch + c)) (at slopes (c * m + (w + 1)))
 
+-- number j of row i of m, of n each
+pub cell-fits : (i m n j len : ℕ) → i < m → j < n → m * n ≤ len → i * n + j < len
+cell-fits i m n j len h l r = omega (arith, row-fits i m n len h r)
+
 -- the piece found is one of the n - 1
 piece-in : (ts : List Float) (t : Float) (f w : ℕ) → pieceFrom ts t f w ≤ w + f
 unfolding pieceFrom

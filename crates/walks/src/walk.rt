@@ -32,7 +32,7 @@ pub fn point_at(s: Shape, ks: &[f64], cs: &[f64], t: f64) -> [f64; 16]
     let times = n + n;
     let points = n * ch;
     let slopes = points + points;
-    fit::eval_fit(
+    hermite::eval_fit(
         &ks[n..times],
         &cs[..points],
         &cs[points..slopes],

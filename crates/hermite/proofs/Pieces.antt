@@ -14,13 +14,12 @@ use lib.Ieee.{Float, nan, le}
 use Rattle.floats.specs.Numbers.{_⊖_, _⊘_, f0, f1, heldIn, at}
 use Rattle.floats.specs.Lists.{upto, filled}
 use Rattle.floats.specs.Fill.{length-upto, at-upto, length-filled, at-filled, past-filled, lt-or-le}
-use Rattle.metric.specs.Points.{row-fits}
 use Rattle.slopes.specs.Slopes.{step}
 use Rattle.fit.specs.Fit.{pieceFrom, pieceOf}
 use Rattle.fit.specs.Memory.{Rising, pieceAt, fitAt}
-use Rattle.fit.specs.Channels.{BlendIs, blendOf, channelOf}
-use Rattle.fit.specs.declared.Blend.{Blend}
+use Rattle.hermite.specs.Channels.{BlendIs, blendOf, channelOf}
+use Rattle.hermite.specs.declared.Blend.{Blend}
 use Rattle.fit.specs.Order as Order
 
 -- t lies in a piece from lo to hi
 pub record Narrowed (ts : List Float) (n : ℕ) (t : Float) (lo hi : ℕ) : Type 0 where
@@ -84,10 +83,6 @@ module _ (ts : List Float) (n : ℕ) (t : Float) where
       passed k l =
           let e : w - 1 + 1 ≡ w = omega arith in
           not-yet rise (w - 1) (omega arith) (rw e (before (omega arith))) k (omega arith)
-
--- number j of row i of m, of n each
-pub cell-fits : (i m n j len : ℕ) → i < m → j < n → m * n ≤ len → i * n + j < len
-cell-fits i m n j len h l r = omega (arith, row-fits i m n len h r)
 
 -- ---- one channel
 module _ (b : Blend) (fps slopes : List Float) (m ch w c : ℕ) where

@@ -1,8 +1,8 @@
--- `fit::eval_fit` meets its contract. Assumes nothing.
-use Rattle.fit.proofs.Pieces.{fit-is}
+-- `hermite::eval_fit` meets its contract. Assumes nothing.
+use Rattle.hermite.proofs.Pieces.{fit-is}
 use borrow.Author.Needs.{needs}
-use Rattle.fit.proofs.eval_fit.Statement.{statement}
-use Rattle.fit.proofs.eval_fit.Tie as tie
+use Rattle.hermite.proofs.eval_fit.Statement.{statement}
+use Rattle.hermite.proofs.eval_fit.Tie as tie
 
 piece-near-requires : tie.Need-piece-near-requires
 piece-near-requires c κs = search needs

@@ -1,10 +1,10 @@
--- `fit::piece` meets its contract. Assumes nothing.
+-- `hermite::piece` meets its contract. Assumes nothing.
 use Prim.Native.Nat.{_-_}
 use native.Mathlib.Omega.{arith}
-use Rattle.fit.proofs.Pieces.{Narrowed, narrowed-start, narrowed-low, narrowed-high, narrowed-end}
+use Rattle.hermite.proofs.Pieces.{Narrowed, narrowed-start, narrowed-low, narrowed-high, narrowed-end}
 use borrow.Author.Needs.{needs}
-use Rattle.fit.proofs.piece.Statement.{statement}
-use Rattle.fit.proofs.piece.Tie as tie
+use Rattle.hermite.proofs.piece.Statement.{statement}
+use Rattle.hermite.proofs.piece.Tie as tie
 
 abbrev Inv-loop : tie.InvT-loop
 Inv-loop ts n t lo₀ hi₀ lo hi = Narrowed ts n t lo hi

@@ -6,8 +6,8 @@ use Prim.Native.Nat.{ℕ, _+_, _*_}
 use lib.Dec.{ltb}
 use lib.Ieee.{Float}
 use Rattle.floats.specs.Numbers.{_⊕_, _⊗_, f0, at}
 use Rattle.fit.specs.Fit.{h00, h10, h01, h11}
-use Rattle.fit.specs.declared.Blend.{Blend}
+use Rattle.hermite.specs.declared.Blend.{Blend}
 
 -- what the ends and the slopes are multiplied by at the fraction s of a step h
 pub record BlendIs (s h : Float) (b : Blend) : Type 0 where

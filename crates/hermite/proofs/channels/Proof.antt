@@ -1,7 +1,7 @@
--- `fit::channels` meets its contract. Assumes nothing.
-use Rattle.fit.proofs.Pieces.{sixteen}
-use Rattle.fit.proofs.channels.Statement.{statement}
-use Rattle.fit.proofs.channels.Tie as tie
+-- `hermite::channels` meets its contract. Assumes nothing.
+use Rattle.hermite.proofs.Pieces.{sixteen}
+use Rattle.hermite.proofs.channels.Statement.{statement}
+use Rattle.hermite.proofs.channels.Tie as tie
 
 channel-at-requires : tie.Need-channel-at-requires
 channel-at-requires c κs = c .before .before .pre

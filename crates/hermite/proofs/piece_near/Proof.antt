@@ -1,8 +1,8 @@
--- `fit::piece_near` meets its contract. Assumes nothing.
+-- `hermite::piece_near` meets its contract. Assumes nothing.
 use native.Mathlib.Omega.{arith}
 use borrow.Author.Needs.{needs}
-use Rattle.fit.proofs.piece_near.Statement.{statement}
-use Rattle.fit.proofs.piece_near.Tie as tie
+use Rattle.hermite.proofs.piece_near.Statement.{statement}
+use Rattle.hermite.proofs.piece_near.Tie as tie
 
 sub-if1 : tie.Need-sub-if1
 sub-if1 c = search needs

@@ -1,12 +1,12 @@
--- `fit::is_piece` meets its contract. Assumes nothing.
+-- `hermite::is_piece` meets its contract. Assumes nothing.
 use mathlib.Core.Bool.{false≢true}
 use mathlib.Core.Logic.{inl, inr, ⊎-elim}
 use native.Mathlib.Omega.{arith}
 use borrow.Author.Tests.{eqb-true}
-use Rattle.fit.proofs.Pieces.{piece-named}
+use Rattle.hermite.proofs.Pieces.{piece-named}
 use borrow.Author.Needs.{needs}
-use Rattle.fit.proofs.is_piece.Statement.{statement}
-use Rattle.fit.proofs.is_piece.Tie as tie
+use Rattle.hermite.proofs.is_piece.Statement.{statement}
+use Rattle.hermite.proofs.is_piece.Tie as tie
 
 mul-if2 : tie.Need-mul-if2
 mul-if2 c = search needs

@@ -1,9 +1,10 @@
--- `fit::channel_at` meets its contract. Assumes nothing.
+-- `hermite::channel_at` meets its contract. Assumes nothing.
 use native.Mathlib.Omega.{arith}
-use Rattle.fit.proofs.Pieces.{cell-fits, channel-in, channel-out}
+use Rattle.fit.specs.Memory.{cell-fits}
+use Rattle.hermite.proofs.Pieces.{channel-in, channel-out}
 use borrow.Author.Needs.{needs}
-use Rattle.fit.proofs.channel_at.Statement.{statement}
-use Rattle.fit.proofs.channel_at.Tie as tie
+use Rattle.hermite.proofs.channel_at.Statement.{statement}
+use Rattle.hermite.proofs.channel_at.Tie as tie
 
 cell-requires : tie.Need-cell-requires
 cell-requires c κs = cell-fits _ (c .before .before .before .args .m) _ _ _ (omega arith) (c .if1 .taken) (c .before .before .before .pre .1 .0)
