@@ -8,12 +8,13 @@ use mathlib.Core.Option.{none}
 use lib.ListN.{length, getD}
 use lib.Dec.{leb, ltb, eqb}
 use borrow.Author.Tests.{eqb-true, eqb-false, ne-eqb, leb-true, leb-false, ltb-true}
-use Rattle.rows.specs.Codes.{axisCodes, rowWords, wKnown, wStart, stateWords, mostHeld, mostDegree, isSpline}
+use Rattle.layout.specs.Layout.{axisCodes, rowWords, wKnown, wStart, stateWords, mostHeld, mostDegree}
+use Rattle.rows.specs.Codes.{isSpline}
 use Rattle.rows.specs.Row.{all, shapeOk, numbersOk, turnOk, rowCheck}
 use Rattle.rows.specs.Masks.{has-past}
 use Rattle.rows.specs.Truth.{by-bit, cond-t, cond-f, and-left, and-right}
-use Rattle.saved.specs.State.{tolOk, axisCount, axesOk, motionNow, planeNow, degree, pointAtOk, pointOk, pointWord, position, curveStart, heldOk, stateOk, storeOk, savedCheck, held, heldRowOk}
-use Rattle.blocks.specs.Blocks.{kept, motionThen, isFull, pushCheck}
+use Rattle.saved_state.specs.State.{tolOk, axisCount, axesOk, motionNow, planeNow, degree, pointAtOk, pointOk, pointWord, position, curveStart, heldOk, stateOk, storeOk, savedCheck, held, heldRowOk}
+use Rattle.push_check.specs.Blocks.{kept, motionThen, isFull, pushCheck}
 
 -- a chain of tests answers 0 only where every one passes
 passes : (b : Bool) (x y : ℕ) → (y ≡ 0 → ⊥) → cond b x y ≡ 0 → (b ≡ true) × (x ≡ 0)

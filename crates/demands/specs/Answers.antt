@@ -7,15 +7,15 @@ use lib.ListN.{length}
 use lib.Dec.{leb, eqb}
 use borrow.Author.Tests.{eqb-true, eqb-false, eq-eqb, ne-eqb, leb-true, leb-false, le-leb, lt-leb}
 use Rattle.rows.specs.Truth.{by-bit, cond-t, cond-f}
-use Rattle.replies.specs.declared.Reply.{Reply}
+use Rattle.call_reply.specs.declared.Reply.{Reply}
 use Rattle.floats.specs.Lists.{flatten, spliced}
-use Rattle.rows.specs.Codes.{rowWords}
+use Rattle.layout.specs.Layout.{rowWords}
 use Rattle.rows.specs.Row.{all, shapeOk, numbersOk, turnOk, rowCheck}
-use Rattle.saved.specs.State.{stateOk, storeOk, held, heldRowOk, savedCheck}
-use Rattle.replies.specs.Replies.{plain, After, AfterState, StateIs, tooFew, PushIs}
-use Rattle.blocks.specs.Blocks.{isFull, pushCheck}
+use Rattle.saved_state.specs.State.{stateOk, storeOk, held, heldRowOk, savedCheck}
+use Rattle.call_reply.specs.Replies.{plain, After, AfterState, StateIs, tooFew, PushIs}
+use Rattle.push_check.specs.Blocks.{isFull, pushCheck}
 use Rattle.flattener.specs.Push.{pushRows, pushDone, pushSpec}
-use Rattle.closes.specs.Close.{untouched, closeRows, closeState, closeSpec}
+use Rattle.call_close.specs.Close.{untouched, closeRows, closeState, closeSpec}
 use Rattle.demands.specs.Laws.{cond-both}
 
 -- ---- "two replies allowed for one input agree"

@@ -10,11 +10,12 @@ use borrow.Author.Tests.{eqb-true, eqb-false, eq-eqb, ne-eqb}
 use lib.Ieee.{Float, eq}
 use Rattle.floats.specs.Numbers.{num, bits, ofNat, _⊘_}
 use Rattle.floats.specs.Lists.{upto, member}
-use Rattle.rows.specs.Codes.{axisCodes, gOne, planeU, planeV, Kind, same, linear, clockwise, counter, akima, basis, cubic, other, refused, kindOf, isSpline}
+use Rattle.layout.specs.Layout.{axisCodes}
+use Rattle.rows.specs.Codes.{gOne, planeU, planeV, Kind, same, linear, clockwise, counter, akima, basis, cubic, other, refused, kindOf, isSpline}
 use Rattle.rows.specs.Row.{cell, lineOf, markOf, madeRow}
 use Rattle.rows.specs.Truth.{by-bit, cond-t, cond-f}
-use Rattle.arcs.specs.Arc.{Answer, passed, silent, Centre, centred, warned, Ends, Arc, wantedOf, countOf, lastCell, midCell, arcRow, arcRows, fromCentre, fromStart, arcAnswer}
-use Rattle.own.specs.Answer.{answerAs}
+use Rattle.arc_rows.specs.Arc.{Answer, passed, silent, Centre, centred, warned, Ends, Arc, wantedOf, countOf, lastCell, midCell, arcRow, arcRows, fromCentre, fromStart, arcAnswer}
+use Rattle.push_rows.specs.Answer.{answerAs}
 use Rattle.demands.specs.Demands.{Bare, Carries}
 use Rattle.demands.specs.Laws.{none-some, cond-both}
 use Rattle.demands.specs.Accepted.{Fine}

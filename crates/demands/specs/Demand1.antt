@@ -8,18 +8,18 @@ use lib.ListN.{length}
 use lib.Dec.{leb, eqb}
 use borrow.Author.Tests.{eqb-true}
 use Rattle.rows.specs.Truth.{by-bit}
-use Rattle.replies.specs.declared.Reply.{Reply}
+use Rattle.call_reply.specs.declared.Reply.{Reply}
 use Rattle.floats.specs.Lists.{member}
 use Rattle.floats.specs.Fill.{length-upto}
-use Rattle.rows.specs.Codes.{stateWords, lastCode}
+use Rattle.layout.specs.Layout.{stateWords, lastCode}
 use Rattle.rows.specs.Row.{all, within, shapeOk, numbersOk, turnOk, rowCheck}
-use Rattle.saved.specs.State.{stateOk, storeOk, tolOk, codesOk, geometric, held, heldRowOk, savedCheck}
-use Rattle.replies.specs.Replies.{plain, AfterState, tooFew}
-use Rattle.starts.specs.Start.{freshWord, fresh, startSpec}
-use Rattle.starts.specs.Seed.{seeded, seedSpec}
-use Rattle.blocks.specs.Blocks.{isFull, pushCheck}
+use Rattle.saved_state.specs.State.{stateOk, storeOk, tolOk, codesOk, geometric, held, heldRowOk, savedCheck}
+use Rattle.call_reply.specs.Replies.{plain, AfterState, tooFew}
+use Rattle.call_start.specs.Start.{freshWord, fresh, startSpec}
+use Rattle.call_start.specs.Seed.{seeded, seedSpec}
+use Rattle.push_check.specs.Blocks.{isFull, pushCheck}
 use Rattle.flattener.specs.Push.{pushRows, pushDone, pushSpec}
-use Rattle.closes.specs.Close.{untouched, fits, closeRows, closeState, closeSpec}
+use Rattle.call_close.specs.Close.{untouched, fits, closeRows, closeState, closeSpec}
 use Rattle.demands.specs.Demands.{Turned, Safe, SafeState, Demand1}
 use Rattle.demands.specs.Laws.{cond-both}
 use Rattle.demands.specs.RowLengths.{pushRows-long, closeRows-long}

@@ -6,11 +6,12 @@ use mathlib.Core.List.{List, [], _∷_, _++_, map}
 use native.Mathlib.Omega.{arith}
 use lib.ListN.{length}
 use lib.Dec.{eqb}
-use Rattle.rows.specs.Codes.{stateWords, geometricOf}
+use Rattle.layout.specs.Layout.{stateWords}
+use Rattle.rows.specs.Codes.{geometricOf}
 use Rattle.rows.specs.Truth.{by-bit}
-use Rattle.saved.specs.State.{tolOk, codesOk}
-use Rattle.starts.specs.Start.{fresh, startSpec}
-use Rattle.closes.specs.Close.{closeSpec}
+use Rattle.saved_state.specs.State.{tolOk, codesOk}
+use Rattle.call_start.specs.Start.{fresh, startSpec}
+use Rattle.call_close.specs.Close.{closeSpec}
 use Rattle.demands.specs.Groups.{Event, seed, block, closed, blocksOf, Standing, atFirst, withBlock, withSeed, withClose, Piece, pieceOf, piecesFrom, pieces}
 use Rattle.demands.specs.Demands.{wrote, Ran, run, Written, Demand3}
 use Rattle.demands.specs.Stands.{Stands, small-axes, fresh-stands}

@@ -7,17 +7,18 @@ use mathlib.Core.Option.{none, some}
 use lib.ListN.{length, getD, take}
 use lib.Dec.{eqb}
 use lib.Ieee.{eq}
-use Rattle.replies.specs.declared.Reply.{Reply}
+use Rattle.call_reply.specs.declared.Reply.{Reply}
 use Rattle.floats.specs.Numbers.{num, f1}
 use Rattle.floats.specs.Lists.{member, flatten}
-use Rattle.rows.specs.Codes.{rowWords, lastCode, geometricOf}
+use Rattle.layout.specs.Layout.{rowWords, lastCode}
+use Rattle.rows.specs.Codes.{geometricOf}
 use Rattle.rows.specs.Row.{lineOf, motionOf, planeOf, markOf, carryOf, cell}
-use Rattle.replies.specs.Replies.{After, AfterState}
-use Rattle.starts.specs.Start.{startSpec}
-use Rattle.starts.specs.Seed.{seedSpec}
-use Rattle.splines.specs.Emission.{weightOf}
+use Rattle.call_reply.specs.Replies.{After, AfterState}
+use Rattle.call_start.specs.Start.{startSpec}
+use Rattle.call_start.specs.Seed.{seedSpec}
+use Rattle.spline_emission.specs.Emission.{weightOf}
 use Rattle.flattener.specs.Push.{pushSpec}
-use Rattle.closes.specs.Close.{closeSpec}
+use Rattle.call_close.specs.Close.{closeSpec}
 use Rattle.demands.specs.Groups.{Event, seed, block, closed, blocksOf, Piece, pieces, groups}
 use Rattle.demands.specs.Laws.{Every}
 

@@ -12,11 +12,12 @@ use lib.Ieee.{Float, eq, lt}
 use Rattle.floats.specs.Numbers.{num, f1, 1e-4}
 use Rattle.floats.specs.Lists.{keep, member, anyOf, opt}
 use Rattle.floats.specs.Fill.{at-upto}
-use Rattle.rows.specs.Codes.{axisCodes, cPW, mostHeld, isSpline}
+use Rattle.layout.specs.Layout.{axisCodes, cPW, mostHeld}
+use Rattle.rows.specs.Codes.{isSpline}
 use Rattle.rows.specs.Row.{has, cell, number, presentOf, hasPoint, outRow, within}
 use Rattle.rows.specs.Truth.{by-bit, and-left, cond-t, cond-f}
 use Rattle.rows.specs.RowLaws.{out-line, out-plane, out-carry, out-cell, out-point, out-check, check-cell-within, shape-present}
-use Rattle.splines.specs.Emission.{Spline, splineGroups, heldGroup, runsOf, weightOf}
+use Rattle.spline_emission.specs.Emission.{Spline, splineGroups, heldGroup, runsOf, weightOf}
 use Rattle.demands.specs.Laws.{some-same, none-some, cond-both, Every, nil, more, every-append}
 use Rattle.demands.specs.Groups.{Event, block, Standing, atFirst, movedByBlock, movedBySeed, motionWith, goesOn, withBlock, withSeed, withClose, together, splineWith, Piece, pieceOf, piecesFrom}
 use Rattle.demands.specs.Demands.{Group}

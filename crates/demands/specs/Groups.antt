@@ -7,12 +7,13 @@ use lib.ListN.{length, getD}
 use lib.Dec.{eqb}
 use Rattle.floats.specs.Numbers.{num}
 use Rattle.floats.specs.Lists.{member, anyOf}
-use Rattle.rows.specs.Codes.{gOne, cSD, isSpline, kindOf, geometricOf}
+use Rattle.layout.specs.Layout.{cSD}
+use Rattle.rows.specs.Codes.{gOne, isSpline, kindOf, geometricOf}
 use Rattle.rows.specs.Row.{cell, number, motionOf, planeOf, presentOf, has, hasPoint, outRow}
-use Rattle.splines.specs.Emission.{Spline, splineGroups}
-use Rattle.blocks.specs.Blocks.{orNow}
-use Rattle.own.specs.Answer.{answerAs}
-use Rattle.pushed.specs.Pushed.{degreeWith}
+use Rattle.spline_emission.specs.Emission.{Spline, splineGroups}
+use Rattle.push_check.specs.Blocks.{orNow}
+use Rattle.push_rows.specs.Answer.{answerAs}
+use Rattle.push_state.specs.Pushed.{degreeWith}
 
 -- what a host gives after a start: seeds, blocks, and closes on the way
 pub data Event : Type 0 where

@@ -11,13 +11,14 @@ use borrow.Author.Tests.{leb-true}
 use Rattle.floats.specs.Lists.{upto, flatten, member, spliced}
 use Rattle.floats.specs.Fill.{length-upto}
 use Rattle.floats.specs.Splice.{length-spliced}
-use Rattle.rows.specs.Codes.{axisCodes, cSD, rowWords, wMotion, wPlane, wKnown, wWarned, wStart, wDegree, wHeld, stateWords, mostHeld, isSpline}
+use Rattle.layout.specs.Layout.{axisCodes, cSD, rowWords, wMotion, wPlane, wKnown, wWarned, wStart, wDegree, wHeld, stateWords, mostHeld}
+use Rattle.rows.specs.Codes.{isSpline}
 use Rattle.rows.specs.Row.{has, motionOf, presentOf, number, outRow}
 use Rattle.rows.specs.Truth.{by-bit}
-use Rattle.saved.specs.State.{held, degree, position, geometric, withBit, placed}
-use Rattle.blocks.specs.Blocks.{emits, kept, motionThen, planeThen, news}
-use Rattle.pushed.specs.Pushed.{forgotten, opened, degreeWith, buffered, trackTo, pushState, pushStore}
-use Rattle.closes.specs.Close.{fits}
+use Rattle.saved_state.specs.State.{held, degree, position, geometric, withBit, placed}
+use Rattle.push_check.specs.Blocks.{emits, kept, motionThen, planeThen, news}
+use Rattle.push_state.specs.Pushed.{forgotten, opened, degreeWith, buffered, trackTo, pushState, pushStore}
+use Rattle.call_close.specs.Close.{fits}
 use Rattle.demands.specs.Laws.{cond-both, Every, length-flatten, every-imp}
 use Rattle.demands.specs.RowLengths.{Long, outRow-long}
 use Rattle.demands.specs.Accepted.{Pushed}

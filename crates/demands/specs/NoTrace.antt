@@ -5,9 +5,9 @@ use mathlib.Core.Bool.{false, cond}
 use mathlib.Core.List.{List, [], _∷_, _++_}
 use borrow.Author.Tests.{eqb-false}
 use Rattle.rows.specs.Truth.{by-bit, cond-t, cond-f}
-use Rattle.replies.specs.Replies.{After}
+use Rattle.call_reply.specs.Replies.{After}
 use Rattle.flattener.specs.Push.{pushSpec}
-use Rattle.closes.specs.Close.{closeSpec}
+use Rattle.call_close.specs.Close.{closeSpec}
 use Rattle.demands.specs.Demands.{Call, pushing, seeding, closing, answer, accepts, wrote, taken, Ran, run, acceptedOf, NoTrace}
 use Rattle.demands.specs.Demand1.{demand1}
 

@@ -11,16 +11,16 @@ use lib.Dec.{leb, eqb}
 use borrow.Author.Tests.{eqb-true, eq-eqb}
 use Rattle.floats.specs.Lists.{flatten, spliced}
 use Rattle.floats.specs.Splice.{spliced-none}
-use Rattle.rows.specs.Codes.{rowWords, stateWords, lastCode}
+use Rattle.layout.specs.Layout.{rowWords, stateWords, lastCode}
 use Rattle.rows.specs.Row.{within}
 use Rattle.rows.specs.Truth.{by-bit, cond-t}
-use Rattle.saved.specs.State.{tolOk, codesOk, stateOk, held, savedCheck}
-use Rattle.replies.specs.Replies.{After, plain}
-use Rattle.starts.specs.Start.{fresh, startSpec}
-use Rattle.starts.specs.Seed.{seeded, seedSpec}
-use Rattle.blocks.specs.Blocks.{pushCheck}
+use Rattle.saved_state.specs.State.{tolOk, codesOk, stateOk, held, savedCheck}
+use Rattle.call_reply.specs.Replies.{After, plain}
+use Rattle.call_start.specs.Start.{fresh, startSpec}
+use Rattle.call_start.specs.Seed.{seeded, seedSpec}
+use Rattle.push_check.specs.Blocks.{pushCheck}
 use Rattle.flattener.specs.Push.{pushRows, pushDone, pushSpec}
-use Rattle.closes.specs.Close.{closeRows, closeState, closeSpec}
+use Rattle.call_close.specs.Close.{closeRows, closeState, closeSpec}
 use Rattle.flattener.specs.Keeps.{close-saved}
 use Rattle.demands.specs.Laws.{Every, every-imp, length-flatten}
 use Rattle.demands.specs.RowLengths.{Long, pushRows-long, closeRows-long}

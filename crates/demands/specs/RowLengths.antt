@@ -10,16 +10,17 @@ use lib.Dec.{eqb}
 use lib.Ieee.{Float}
 use Rattle.floats.specs.Lists.{upto, flatten}
 use Rattle.floats.specs.Fill.{length-upto}
-use Rattle.rows.specs.Codes.{rowWords, cells, Kind, same, linear, clockwise, counter, akima, basis, cubic, other, refused}
+use Rattle.layout.specs.Layout.{rowWords, cells}
+use Rattle.rows.specs.Codes.{Kind, same, linear, clockwise, counter, akima, basis, cubic, other, refused}
 use Rattle.rows.specs.Row.{rowOf, outRow, madeRow, cell, withRiders, lineOf, motionOf, planeOf, carryOf, hasPoint}
-use Rattle.arcs.specs.Arc.{Answer, silent, passed, arcAnswer, fromStart, fromCentre, arcRows, arcRow, Centre, centred, warned, Ends, Arc}
-use Rattle.splines.specs.Emission.{Spline, splineGroups, heldGroup, pointGroup}
-use Rattle.saved.specs.State.{held}
-use Rattle.own.specs.Answer.{answerAs, ownAnswer}
-use Rattle.blocks.specs.Blocks.{emits}
-use Rattle.closes.specs.Held.{emission}
+use Rattle.arc_rows.specs.Arc.{Answer, silent, passed, arcAnswer, fromStart, fromCentre, arcRows, arcRow, Centre, centred, warned, Ends, Arc}
+use Rattle.spline_emission.specs.Emission.{Spline, splineGroups, heldGroup, pointGroup}
+use Rattle.saved_state.specs.State.{held}
+use Rattle.push_rows.specs.Answer.{answerAs, ownAnswer}
+use Rattle.push_check.specs.Blocks.{emits}
+use Rattle.call_close.specs.Held.{emission}
 use Rattle.flattener.specs.Push.{pushRows}
-use Rattle.closes.specs.Close.{closeRows}
+use Rattle.call_close.specs.Close.{closeRows}
 use Rattle.demands.specs.Laws.{cond-both, Every, nil, more, every-append, every-upto, every-flatten}
 
 pub record Long (row : List ℕ) : Type 0 where

@@ -13,7 +13,7 @@ use lib.Ieee.{eq}
 use Rattle.floats.specs.Numbers.{num}
 use Rattle.floats.specs.Lists.{upto, member, isSome}
 use Rattle.floats.specs.Fill.{length-upto, at-upto, lt-or-le}
-use Rattle.rows.specs.Codes.{cells, lastCode}
+use Rattle.layout.specs.Layout.{cells, lastCode}
 use Rattle.rows.specs.Row.{has, cell, lineOf, planeOf, markOf, carryOf, presentOf, rowOf, outRow, rides, withRiders, madeRow, within}
 use Rattle.rows.specs.Truth.{by-bit, cond-t, cond-f}
 use Rattle.rows.specs.Masks.{maskSum, mask-lt, has-past}

@@ -8,15 +8,15 @@ use Rattle.floats.specs.Lists as Lists
 use Rattle.floats.specs.Lists.{spliced}
 use Rattle.rows.specs.Codes as Codes
 use Rattle.rows.specs.Row as Row
-use Rattle.arcs.specs.Arc.{passed}
-use Rattle.saved.specs.State as State
-use Rattle.starts.specs.Start as Start
-use Rattle.replies.specs.Replies.{After}
-use Rattle.starts.specs.Start.{fresh}
+use Rattle.arc_rows.specs.Arc.{passed}
+use Rattle.saved_state.specs.State as State
+use Rattle.call_start.specs.Start as Start
+use Rattle.call_reply.specs.Replies.{After}
+use Rattle.call_start.specs.Start.{fresh}
 use Rattle.flattener.specs.Push as Push
-use Rattle.blocks.specs.Blocks as Blocks
-use Rattle.pushed.specs.Pushed as Pushed
-use Rattle.own.specs.Answer as Own
+use Rattle.push_check.specs.Blocks as Blocks
+use Rattle.push_state.specs.Pushed as Pushed
+use Rattle.push_rows.specs.Answer as Own
 use Rattle.flattener.specs.Push.{pushRows, pushSpec}
 use Rattle.demands.specs.Answers.{push-count}
 

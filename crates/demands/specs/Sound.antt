@@ -7,7 +7,8 @@ use native.Mathlib.Omega.{arith}
 use lib.ListN.{length, length-append}
 use lib.Dec.{eqb}
 use borrow.Author.Tests.{eqb-true}
-use Rattle.rows.specs.Codes.{isSpline, mostHeld}
+use Rattle.layout.specs.Layout.{mostHeld}
+use Rattle.rows.specs.Codes.{isSpline}
 use Rattle.rows.specs.Row.{motionOf, within}
 use Rattle.rows.specs.Truth.{by-bit, cond-t}
 use Rattle.demands.specs.Laws.{Every, nil, more}

@@ -18,19 +18,20 @@ use Rattle.floats.specs.Numbers.{num, bits, at, f1, ofNat}
 use Rattle.floats.specs.Lists.{upto, keep, member}
 use Rattle.floats.specs.Fill.{at-upto}
 use Rattle.floats.specs.FloatLaws.{one, one-is, tidy, fits-unique}
-use Rattle.rows.specs.Codes.{axisCodes, gOne}
+use Rattle.layout.specs.Layout.{axisCodes}
+use Rattle.rows.specs.Codes.{gOne}
 use Rattle.rows.specs.Row.{cell, hasPoint, markOf, outRow, madeRow, within}
 use Rattle.rows.specs.Truth.{by-bit, and-left, and-right, cond-t, cond-f}
-use Rattle.metric.specs.Metric.{pointOf}
-use Rattle.metric.specs.Ends.{EndsWith, ends-last}
-use Rattle.fit.specs.Fit.{fitRuns}
-use Rattle.basis.specs.Basis.{basisRuns, basisOf, spansOf, evalBasis}
-use Rattle.basis.specs.Joins.{map-append, keep-append, keep-here}
-use Rattle.basis.specs.BasisLaws.{runs-length}
-use Rattle.basis.specs.LastRun.{last-run}
-use Rattle.basis.specs.EndPoint.{end-point}
-use Rattle.curves.specs.Runs.{curveRuns}
-use Rattle.splines.specs.Emission.{Spline, isBasis, pointRows, channels, startPoint, pointsFrom, metricOf, weightOf, runsOf, placeOf, sampleCell, ownCell, isMarked, pointGroup, heldGroup}
+use Rattle.curve_metric.specs.Metric.{pointOf}
+use Rattle.curve_metric.specs.Ends.{EndsWith, ends-last}
+use Rattle.fit_knots.specs.Fit.{fitRuns}
+use Rattle.bspline_tables.specs.Basis.{basisRuns, basisOf, spansOf, evalBasis}
+use Rattle.bspline_tables.specs.Joins.{map-append, keep-append, keep-here}
+use Rattle.bspline_tables.specs.BasisLaws.{runs-length}
+use Rattle.bspline_tables.specs.LastRun.{last-run}
+use Rattle.bspline_tables.specs.EndPoint.{end-point}
+use Rattle.curve_runs.specs.Runs.{curveRuns}
+use Rattle.spline_emission.specs.Emission.{Spline, isBasis, pointRows, channels, startPoint, pointsFrom, metricOf, weightOf, runsOf, placeOf, sampleCell, ownCell, isMarked, pointGroup, heldGroup}
 use Rattle.demands.specs.Demands.{Bare}
 use Rattle.demands.specs.Laws.{some-same, none-some, Every, every-head, every-tail, every-keep}
 use Rattle.demands.specs.Accepted.{Fine}

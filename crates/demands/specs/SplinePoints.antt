@@ -14,13 +14,13 @@ use Rattle.floats.specs.Numbers.{num, at, f1, 1e-4}
 use Rattle.floats.specs.Lists.{keep, member, opt}
 use Rattle.floats.specs.Fill.{at-upto}
 use Rattle.floats.specs.FloatLaws.{modest}
-use Rattle.rows.specs.Codes.{axisCodes, cells, cPW}
+use Rattle.layout.specs.Layout.{axisCodes, cells, cPW}
 use Rattle.rows.specs.Row.{has, cell, number, presentOf, within}
 use Rattle.rows.specs.Truth.{by-bit, and-right, or-f, cond-t, cond-f}
 use Rattle.rows.specs.Masks.{member-append, member-keep}
 use Rattle.rows.specs.RowLaws.{check-cell-within}
-use Rattle.metric.specs.Metric.{pointOf}
-use Rattle.splines.specs.Emission.{channelsFrom, firstCell, nextPoint, pointsFrom, weightOf}
+use Rattle.curve_metric.specs.Metric.{pointOf}
+use Rattle.spline_emission.specs.Emission.{channelsFrom, firstCell, nextPoint, pointsFrom, weightOf}
 use Rattle.demands.specs.Laws.{Every, every-head, every-tail}
 use Rattle.demands.specs.Accepted.{Fine, fine-check}
 use Rattle.demands.specs.InRange.{in-range}

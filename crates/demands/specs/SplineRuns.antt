@@ -16,12 +16,12 @@ use Rattle.floats.specs.Lists.{member, opt}
 use Rattle.floats.specs.Fill.{length-upto, at-upto}
 use Rattle.rows.specs.Row.{cell, number}
 use Rattle.rows.specs.Truth.{by-bit, cond-t, cond-f}
-use Rattle.metric.specs.Metric.{pointOf, chords}
-use Rattle.metric.specs.Walk.{Sample}
-use Rattle.metric.specs.Ends.{EndsWith, ends-one, ends-map}
-use Rattle.metric.specs.WalkLaws.{samples-end}
-use Rattle.fit.specs.Fit.{Fit, keptTo, evalFit, fitRun, fitRuns}
-use Rattle.splines.specs.Emission.{placeOf, nextPoint, pointsFrom}
+use Rattle.curve_metric.specs.Metric.{pointOf, chords}
+use Rattle.curve_metric.specs.Walk.{Sample}
+use Rattle.curve_metric.specs.Ends.{EndsWith, ends-one, ends-map}
+use Rattle.curve_metric.specs.WalkLaws.{samples-end}
+use Rattle.fit_knots.specs.Fit.{Fit, keptTo, evalFit, fitRun, fitRuns}
+use Rattle.spline_emission.specs.Emission.{placeOf, nextPoint, pointsFrom}
 
 -- ---- a fit
 run-ends : (fit : Fit) (ms : List ℕ) (tol : Float) (pts : List (List Float)) (ts : List Float) (i : ℕ) → EndsWith (fitRun fit ms tol pts ts i) (pointOf pts (i + 1))

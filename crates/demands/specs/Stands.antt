@@ -12,16 +12,17 @@ use lib.Dec.{leb, eqb}
 use borrow.Author.Tests.{eqb-true, eqb-false, eq-eqb, ne-eqb, leb-true, lt-ltb}
 use Rattle.floats.specs.Lists.{upto, member, spliced}
 use Rattle.floats.specs.Fill.{length-upto, at-upto}
-use Rattle.rows.specs.Codes.{axisCodes, cSD, rowWords, wAxes, wKnown, wStart, wMotion, wPlane, wDegree, wHeld, stateWords, mostHeld, isSpline, geometricOf}
+use Rattle.layout.specs.Layout.{axisCodes, cSD, rowWords, wAxes, wKnown, wStart, wMotion, wPlane, wDegree, wHeld, stateWords, mostHeld}
+use Rattle.rows.specs.Codes.{isSpline, geometricOf}
 use Rattle.rows.specs.Row.{all, has, cell, number, motionOf, planeOf, presentOf, outRow}
 use Rattle.rows.specs.Truth.{by-bit, cond-t, cond-f, and-left}
 use Rattle.rows.specs.Masks.{has-none, member-keep}
-use Rattle.saved.specs.State.{tolerance, axisCount, geometric, codeOk, codesOk, placed, motionNow, planeNow, held, degree, pointWord, position, curveStart, heldRow, heldRows}
-use Rattle.starts.specs.Start.{freshWord, fresh}
-use Rattle.starts.specs.Seed.{seeded}
-use Rattle.blocks.specs.Blocks.{orNow, motionThen, planeThen, emits, kept}
-use Rattle.pushed.specs.Pushed.{degreeWith, forgotten, buffered, pushState, pushStore}
-use Rattle.closes.specs.Close.{closeState}
+use Rattle.saved_state.specs.State.{tolerance, axisCount, geometric, codeOk, codesOk, placed, motionNow, planeNow, held, degree, pointWord, position, curveStart, heldRow, heldRows}
+use Rattle.call_start.specs.Start.{freshWord, fresh}
+use Rattle.call_start.specs.Seed.{seeded}
+use Rattle.push_check.specs.Blocks.{orNow, motionThen, planeThen, emits, kept}
+use Rattle.push_state.specs.Pushed.{degreeWith, forgotten, buffered, pushState, pushStore}
+use Rattle.call_close.specs.Close.{closeState}
 use Rattle.demands.specs.Groups.{Standing, atFirst, movedByBlock, movedBySeed, motionWith, goesOn, withBlock, withSeed, withClose, degreeFrom}
 use Rattle.demands.specs.Laws.{cond-both}
 use Rattle.demands.specs.Accepted.{Pushed, few-axes, held-spline}

@@ -14,13 +14,14 @@ use borrow.Author.Tests.{eq-eqb, ne-eqb}
 use Rattle.floats.specs.Lists.{upto, member, spliced}
 use Rattle.floats.specs.Fill.{length-upto, at-upto}
 use Rattle.floats.specs.Splice.{length-spliced}
-use Rattle.rows.specs.Codes.{axisCodes, cSD, wCells, wAxes, wMotion, wPlane, wKnown, wWarned, wStart, wDegree, wHeld, stateWords, isSpline, geometricOf}
+use Rattle.layout.specs.Layout.{axisCodes, cSD, rCells, wAxes, wMotion, wPlane, wKnown, wWarned, wStart, wDegree, wHeld, stateWords}
+use Rattle.rows.specs.Codes.{isSpline, geometricOf}
 use Rattle.rows.specs.Row.{has, presentOf, motionOf, number}
 use Rattle.rows.specs.Truth.{by-bit, cond-t, cond-f}
 use Rattle.rows.specs.Masks.{add-same, add-other}
-use Rattle.saved.specs.State.{axisCount, geometric, motionNow, planeNow, held, degree, pointWord, position, curveStart, withBit, placed}
-use Rattle.blocks.specs.Blocks.{emits, motionThen, planeThen, news}
-use Rattle.pushed.specs.Pushed.{forgotten, opened, degreeWith, buffered, trackTo, pushState}
+use Rattle.saved_state.specs.State.{axisCount, geometric, motionNow, planeNow, held, degree, pointWord, position, curveStart, withBit, placed}
+use Rattle.push_check.specs.Blocks.{emits, motionThen, planeThen, news}
+use Rattle.push_state.specs.Pushed.{forgotten, opened, degreeWith, buffered, trackTo, pushState}
 use Rattle.demands.specs.Laws.{cond-both}
 use Rattle.demands.specs.Lengths.{emptied, worded, laid, told, emptied-length, worded-length, told-length, pushState-steps, track-length, opened-length}
 
@@ -226,7 +227,7 @@ module _ (st r : List ℕ) (n : length st ≡ stateWords) where
   takes k = has (presentOf r) k && member k (geometric st)
 
   cellWord : ℕ → ℕ
-  cellWord k = getD r (wCells + k) 0
+  cellWord k = getD r (rCells + k) 0
 
   track-step : (m : ℕ) → trackTo (suc m) st r ≡ cond (takes m) (placed (trackTo m st r) m (cellWord m)) (trackTo m st r)
   unfolding trackTo takes cellWord
@@ -281,7 +282,7 @@ module _ (st r : List ℕ) (n : length st ≡ stateWords) where
 
   -- "positions take the geometric cells present"
   pub track-takes : (k : ℕ) → k < axisCodes
-      → position (trackTo axisCodes st r) k ≡ cond (has (presentOf r) k && member k (geometric st)) (some (getD r (wCells + k) 0)) (position st k)
+      → position (trackTo axisCodes st r) k ≡ cond (has (presentOf r) k && member k (geometric st)) (some (getD r (rCells + k) 0)) (position st k)
   unfolding tracked takes cellWord
   track-takes k h = track-in axisCodes (omega arith) k h
 
@@ -357,7 +358,7 @@ module _ (st r : List ℕ) (n : length st ≡ stateWords) where
   told-low j h = told-else j (λ e. omega arith) ∙ laid-low j (omega arith) ∙ worded-else j (λ e. omega arith) (λ e. omega arith) ∙ emptied-low j (omega arith)
 
   pub push-place : axisCount st ≤ 15 → (k : ℕ) → k < axisCodes
-      → position (pushState st r) k ≡ cond (has (presentOf r) k && member k (geometric st)) (some (getD r (wCells + k) 0)) (position st k)
+      → position (pushState st r) k ≡ cond (has (presentOf r) k && member k (geometric st)) (some (getD r (rCells + k) 0)) (position st k)
   push-place few k h =
       ap (λ (s : List ℕ). position s k) (pushState-steps st r)
       ∙ track-takes (told st r) r (told-length st r n) k h

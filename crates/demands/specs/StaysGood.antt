@@ -9,18 +9,18 @@ use lib.Dec.{leb, eqb}
 use borrow.Author.Tests.{eqb-true, le-leb}
 use Rattle.floats.specs.Lists.{member}
 use Rattle.floats.specs.Fill.{length-upto}
-use Rattle.rows.specs.Codes.{rowWords, wAxes, wMotion, wPlane, wKnown, wStart, wDegree, wHeld, stateWords}
+use Rattle.layout.specs.Layout.{rowWords, wAxes, wMotion, wPlane, wKnown, wStart, wDegree, wHeld, stateWords}
 use Rattle.rows.specs.Row.{all, within, rowCheck, motionOf}
 use Rattle.rows.specs.Truth.{by-bit, cond-t, cond-f, and-i, all-ext}
-use Rattle.saved.specs.State.{tolOk, codesOk, axesOk, axisCount, motionNow, held, geometric, heldRow, heldRowOk, stateOk, storeOk, savedCheck, placed}
-use Rattle.saved.specs.StateLaws.{Good, good-ok, geometric-small}
+use Rattle.saved_state.specs.State.{tolOk, codesOk, axesOk, axisCount, motionNow, held, geometric, heldRow, heldRowOk, stateOk, storeOk, savedCheck, placed}
+use Rattle.saved_state.specs.StateLaws.{Good, good-ok, geometric-small}
 use Rattle.flattener.specs.Keeps.{no-point, none-held, seeded-ok, close-saved, push-saved}
-use Rattle.replies.specs.Replies.{After, AfterState, plain}
-use Rattle.starts.specs.Start.{fresh, freshWord}
-use Rattle.starts.specs.Seed.{seeded, seedSpec}
-use Rattle.blocks.specs.Blocks.{pushCheck}
+use Rattle.call_reply.specs.Replies.{After, AfterState, plain}
+use Rattle.call_start.specs.Start.{fresh, freshWord}
+use Rattle.call_start.specs.Seed.{seeded, seedSpec}
+use Rattle.push_check.specs.Blocks.{pushCheck}
 use Rattle.flattener.specs.Push.{pushRows, pushDone}
-use Rattle.closes.specs.Close.{closeRows, closeSpec}
+use Rattle.call_close.specs.Close.{closeRows, closeSpec}
 use Rattle.demands.specs.Accepted.{Saved, saved, Pushed, pushed, fine-check}
 use Rattle.demands.specs.Answers.{places, push-done, push-accepted, closeDone, close-done, close-accepted}
 use Rattle.demands.specs.Demands.{Call, pushing, seeding, closing, answer, accepts, run}

@@ -14,18 +14,19 @@ use borrow.Author.Tests.{eqb-true, eqb-false, leb-true}
 use Rattle.floats.specs.Numbers.{num}
 use Rattle.floats.specs.Lists.{flatten, spliced}
 use Rattle.floats.specs.Fill.{lt-or-le}
-use Rattle.rows.specs.Codes.{axisCodes, lastCode, rowWords, isSpline, kindOf}
+use Rattle.layout.specs.Layout.{axisCodes, lastCode, rowWords}
+use Rattle.rows.specs.Codes.{isSpline, kindOf}
 use Rattle.rows.specs.Row.{planeOf, within, outRow}
 use Rattle.rows.specs.Truth.{by-bit, cond-t, cond-f, and-left, and-right}
-use Rattle.splines.specs.Emission.{Spline, splineGroups}
-use Rattle.saved.specs.State.{stateOk, held, position, curveStart, tolerance, motionNow, degree, savedCheck}
-use Rattle.closes.specs.Held.{heldSpline, emission}
-use Rattle.replies.specs.Replies.{After, AfterState, plain}
-use Rattle.starts.specs.Seed.{seeded, seedSpec}
-use Rattle.blocks.specs.Blocks.{orNow, motionThen, emits, pushCheck}
-use Rattle.own.specs.Answer.{answerAs, ownAnswer}
+use Rattle.spline_emission.specs.Emission.{Spline, splineGroups}
+use Rattle.saved_state.specs.State.{stateOk, held, position, curveStart, tolerance, motionNow, degree, savedCheck}
+use Rattle.call_close.specs.Held.{heldSpline, emission}
+use Rattle.call_reply.specs.Replies.{After, AfterState, plain}
+use Rattle.call_start.specs.Seed.{seeded, seedSpec}
+use Rattle.push_check.specs.Blocks.{orNow, motionThen, emits, pushCheck}
+use Rattle.push_rows.specs.Answer.{answerAs, ownAnswer}
 use Rattle.flattener.specs.Push.{pushRows, pushDone, pushSpec}
-use Rattle.closes.specs.Close.{closeRows, closeState, closeSpec}
+use Rattle.call_close.specs.Close.{closeRows, closeState, closeSpec}
 use Rattle.demands.specs.Laws.{Every, every-imp, flatten-append, length-flatten}
 use Rattle.demands.specs.Groups.{Event, seed, block, closed, Standing, motionWith, withBlock, withSeed, withClose, splineWith}
 use Rattle.demands.specs.Demands.{Call, pushing, seeding, closing, answer, accepts, wrote, eventOf, taken, Ran, run}

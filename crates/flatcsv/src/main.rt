@@ -1,23 +1,24 @@
 // Flattens the row text of standard input: axes X Y Z, tolerance 0.1, no seed, a full spline store, room for 256 rows.
 // Input and output go by large pieces, in memory of a fixed size.
-use csvout::BAD_TEXT;
-use csvout::Run;
-use csvout::answered;
-use csvout::emptied;
-use csvout::flush;
-use csvout::headed;
-use csvout::next_line;
-use csvout::refuse;
-use csvout::stopped;
-use lines::line_end;
-use lines::read_more;
-use lines::to_front;
-use replies::Reply;
-use rowlines::End;
+use call_reply::Reply;
+use csv_line::End;
+use csv_out::BAD_TEXT;
+use csv_out::Run;
+use csv_out::answered;
+use csv_out::emptied;
+use csv_out::flush;
+use csv_out::headed;
+use csv_out::next_line;
+use csv_out::refuse;
+use csv_out::stopped;
+use layout::R_LINE;
+use text_lines::line_end;
+use text_lines::read_more;
+use text_lines::to_front;
 ghost use mathlib.Core.Path.{_≡_};
 ghost use Prim.Native.Nat.{ℕ, _+_, _-_, _<_, _≤_};
 ghost use lib.ListN.{length};
-ghost use Rattle.csvout.specs.Bounds.{Waits, Roomy};
+ghost use Rattle.csv_out.specs.Bounds.{Waits, Roomy};
 
 // 0.1
 const TOLERANCE: u64 = 0x3fb9_9999_9999_999a;
@@ -44,12 +45,12 @@ fn line_text(text: &[u8], is_first: bool, row: &mut [u64]) -> Found
     requires { ⌜ length (now row) ≡ 29 ⌝ }
 {
     if is_first {
-        if rowlines::is_header(text) {
+        if csv_line::is_header(text) {
             return Found::Header;
         }
         return Found::Bad;
     }
-    if rowread::read_row(text, row) {
+    if csv_read::read_row(text, row) {
         return Found::Row;
     }
     Found::Bad
@@ -59,7 +60,7 @@ fn line_text(text: &[u8], is_first: bool, row: &mut [u64]) -> Found
 fn one_line(line: &[u8], is_first: bool, row: &mut [u64]) -> Found
     requires { ⌜ length (now row) ≡ 29 ⌝ }
 {
-    let End::Upto(n) = rowlines::text_end(line) else {
+    let End::Upto(n) = csv_line::text_end(line) else {
         return Found::Bad;
     };
     line_text(&line[..n], is_first, row)
@@ -166,7 +167,7 @@ fn pushed(
         out: run.out,
         err: run.err,
         physical: run.physical,
-        source: row[0],
+        source: row[R_LINE],
         go: run.go,
     };
     next_line(answered(read, reply.code, reply.count, reply.warning, rows, out, err))

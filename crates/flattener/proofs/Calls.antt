@@ -10,23 +10,23 @@ use lib.Dec.{eqb, leb}
 use borrow.Author.Tests.{eqb-true, eqb-false, eq-eqb, ne-eqb, le-leb, lt-leb}
 use Rattle.floats.specs.Lists.{flatten, spliced}
 use Rattle.floats.specs.Splice.{spliced-none, spliced-spliced}
-use Rattle.rows.specs.Codes.{rowWords}
+use Rattle.layout.specs.Layout.{rowWords}
 use Rattle.rows.specs.Row.{rowCheck}
 use Rattle.rows.specs.Truth.{by-bit, cond-t, cond-f}
-use Rattle.arcs.specs.declared.Plan.{Plan}
-use Rattle.saved.specs.State.{held, savedCheck}
-use Rattle.replies.specs.Replies.{plain, After, tooFew, doneReply}
-use Rattle.blocks.specs.Blocks.{emits, isFull, news, pushCheck}
-use Rattle.own.specs.Answer.{ownAnswer}
-use Rattle.pushed.specs.Pushed.{pushState, pushStore}
-use Rattle.closes.specs.Held.{emission}
+use Rattle.arc_rows.specs.declared.Plan.{Plan}
+use Rattle.saved_state.specs.State.{held, savedCheck}
+use Rattle.call_reply.specs.Replies.{plain, After, tooFew, doneReply}
+use Rattle.push_check.specs.Blocks.{emits, isFull, news, pushCheck}
+use Rattle.push_rows.specs.Answer.{ownAnswer}
+use Rattle.push_state.specs.Pushed.{pushState, pushStore}
+use Rattle.call_close.specs.Held.{emission}
 use Rattle.flattener.specs.Push.{pushRows, pushDone, pushSpec}
-use Rattle.closes.specs.Close.{untouched}
-use Rattle.saved.specs.Checked.{saved-ok}
-use Rattle.own.specs.Own.{Ready, ready, OwnPlanned, ownRows}
-use Rattle.splines.specs.Emission.{putWithin}
+use Rattle.call_close.specs.Close.{untouched}
+use Rattle.saved_state.specs.Checked.{saved-ok}
+use Rattle.push_rows.specs.Own.{Ready, ready, OwnPlanned, ownRows}
+use Rattle.spline_emission.specs.Emission.{putWithin}
 use Rattle.flattener.specs.Before.{before, before-words}
-use Rattle.closes.specs.Emitted.{Put}
+use Rattle.call_close.specs.Emitted.{Put}
 
 -- what a push that passes its checks has
 pub record Passes (st store r : List ℕ) : Type 0 where

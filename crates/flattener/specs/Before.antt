@@ -5,11 +5,11 @@ use mathlib.Core.Bool.{cond}
 use mathlib.Core.List.{List, []}
 use lib.ListN.{length}
 use Rattle.floats.specs.Lists.{flatten}
-use Rattle.rows.specs.Codes.{rowWords}
+use Rattle.layout.specs.Layout.{rowWords}
 use Rattle.rows.specs.Truth.{by-bit}
-use Rattle.blocks.specs.Blocks.{emits}
-use Rattle.closes.specs.Held.{emission}
-use Rattle.closes.specs.Emitted.{emission-words}
+use Rattle.push_check.specs.Blocks.{emits}
+use Rattle.call_close.specs.Held.{emission}
+use Rattle.call_close.specs.Emitted.{emission-words}
 
 abbrev pub before : List ℕ → List ℕ → List ℕ → List (List ℕ)
 before st store r = cond (emits st r) (emission st store) []

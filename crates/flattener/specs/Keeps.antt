@@ -14,20 +14,21 @@ use Rattle.floats.specs.Lists.{member, spliced}
 use Rattle.floats.specs.Fill.{length-upto, at-upto}
 use Rattle.floats.specs.Splice.{length-spliced}
 use Rattle.whole.specs.Whole.{truncCount}
-use Rattle.rows.specs.Codes.{axisCodes, rowWords, wCells, wMotion, wPlane, wKnown, wWarned, wStart, wDegree, wHeld, stateWords, mostHeld, mostDegree, cSD, isSpline, planeOk}
+use Rattle.layout.specs.Layout.{axisCodes, rowWords, rCells, wMotion, wPlane, wKnown, wWarned, wStart, wDegree, wHeld, stateWords, mostHeld, mostDegree, cSD}
+use Rattle.rows.specs.Codes.{isSpline, planeOk}
 use Rattle.rows.specs.Row.{has, all, within, number, motionOf, planeOf, presentOf, rowCheck, outRow}
 use Rattle.rows.specs.RowLaws.{check-motion, check-plane, check-shape, check-within, out-check, out-motion, length-out}
 use Rattle.rows.specs.Truth.{or-t, or-f, and-i, and-left, and-right, cond-t, cond-f, all-at, all-more, all-intro, by-bit}
 use Rattle.rows.specs.Masks.{has-none}
-use Rattle.saved.specs.State.{axisCount, motionNow, planeNow, degree, held, geometric, tolOk, codesOk, axesOk, pointAtOk, pointOk, heldOk, stateOk, storeOk, heldRow, heldRowOk, savedCheck, pointWord, position, withBit, placed}
-use Rattle.saved.specs.StateLaws.{Good, good, good-ok, good-few, axes-few, point-small, geometric-small, with-other, with-lt}
-use Rattle.starts.specs.Seed.{seeded}
-use Rattle.blocks.specs.Blocks.{orNow, motionThen, planeThen, emits, kept, isFull, news}
-use Rattle.pushed.specs.Pushed.{forgotten, opened, degreeWith, buffered, pushState, pushStore, trackTo}
-use Rattle.closes.specs.Close.{closeState}
-use Rattle.pushed.specs.PushLaws.{SameAxes, same-trans, same-set, same-placed, same-to, same-forgotten, same-opened, same-codes, same-geometric, placed-keeps, to-keeps, forgotten-keeps, held-forgotten, below-spliced, in-spliced, past-spliced, startWords, length-startWords, noWords, none-at}
-use Rattle.blocks.specs.BlockLaws.{full-room}
-use Rattle.saved.specs.Checked.{saved-ok, saved-rows}
+use Rattle.saved_state.specs.State.{axisCount, motionNow, planeNow, degree, held, geometric, tolOk, codesOk, axesOk, pointAtOk, pointOk, heldOk, stateOk, storeOk, heldRow, heldRowOk, savedCheck, pointWord, position, withBit, placed}
+use Rattle.saved_state.specs.StateLaws.{Good, good, good-ok, good-few, axes-few, point-small, geometric-small, with-other, with-lt}
+use Rattle.call_start.specs.Seed.{seeded}
+use Rattle.push_check.specs.Blocks.{orNow, motionThen, planeThen, emits, kept, isFull, news}
+use Rattle.push_state.specs.Pushed.{forgotten, opened, degreeWith, buffered, pushState, pushStore, trackTo}
+use Rattle.call_close.specs.Close.{closeState}
+use Rattle.push_state.specs.PushLaws.{SameAxes, same-trans, same-set, same-placed, same-to, same-forgotten, same-opened, same-codes, same-geometric, placed-keeps, to-keeps, forgotten-keeps, held-forgotten, below-spliced, in-spliced, past-spliced, startWords, length-startWords, noWords, none-at}
+use Rattle.push_check.specs.BlockLaws.{full-room}
+use Rattle.saved_state.specs.Checked.{saved-ok, saved-rows}
 
 -- ---- points
 module _ (st st′ : List ℕ) (s : SameAxes st st′) (few : axisCount st ≤ 15) (long : length st ≡ stateWords) where
@@ -232,7 +233,7 @@ good-to (suc n) st r g p h =
     let gs : geometric (trackTo n st r) ≡ geometric st = same-geometric st (trackTo n st r) (same-to n st r) (axes-few st (g .axes)) (g .long) in
     by-bit (has (presentOf r) n)
     (λ a. by-bit (member n (geometric st))
-    (λ b. rw (a, b) (good-placed (trackTo n st r) n (getD r (wCells + n) 0) (good-to n st r g p (omega arith)) (ap (member n) gs ∙ b) (check-within r p n (omega arith) a)))
+    (λ b. rw (a, b) (good-placed (trackTo n st r) n (getD r (rCells + n) 0) (good-to n st r g p (omega arith)) (ap (member n) gs ∙ b) (check-within r p n (omega arith) a)))
     (λ b. rw (a, b) (good-to n st r g p (omega arith))))
     (λ a. rw a (good-to n st r g p (omega arith)))
 

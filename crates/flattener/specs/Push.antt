@@ -5,12 +5,12 @@ use mathlib.Core.List.{List, _++_}
 use lib.ListN.{length}
 use lib.Dec.{eqb}
 use Rattle.floats.specs.Lists.{flatten, spliced}
-use Rattle.replies.specs.Replies.{plain, tooFew, After}
-use Rattle.closes.specs.Held.{emission}
-use Rattle.closes.specs.Close.{untouched, fits}
-use Rattle.blocks.specs.Blocks.{emits, news, pushCheck}
-use Rattle.own.specs.Answer.{ownAnswer}
-use Rattle.pushed.specs.Pushed.{pushState, pushStore}
+use Rattle.call_reply.specs.Replies.{plain, tooFew, After}
+use Rattle.call_close.specs.Held.{emission}
+use Rattle.call_close.specs.Close.{untouched, fits}
+use Rattle.push_check.specs.Blocks.{emits, news, pushCheck}
+use Rattle.push_rows.specs.Answer.{ownAnswer}
+use Rattle.push_state.specs.Pushed.{pushState, pushStore}
 
 -- ---- the rows: "Room is judged for both together"
 unfoldable pub pushRows : List ℕ → List ℕ → List ℕ → List (List ℕ)

@@ -1,22 +1,22 @@
 // Pushing a block, and closing.
-use blocks::emits;
-use blocks::push_check;
-use closes::close;
-use closes::put_emission;
-use own::plan_own;
-use replies::Reply;
-use replies::plain_reply;
-use replies::too_few;
-use rows::ROW_WORDS;
-use settle::settle;
+use call_close::close;
+use call_close::put_emission;
+use call_reply::Reply;
+use call_reply::plain_reply;
+use call_reply::too_few;
+use layout::ROW_WORDS;
+use push_check::emits;
+use push_check::push_check;
+use push_rows::plan_own;
+use push_settle::settle;
 ghost use mathlib.Core.Path.{_≡_};
 ghost use Prim.Native.Nat.{_≤_};
-ghost use Rattle.splines.specs.Emits.{mostOwn};
-ghost use Rattle.replies.specs.Replies.{PushIs};
-ghost use Rattle.saved.specs.State.{savedCheck};
-ghost use Rattle.blocks.specs.BlockLaws.{Block};
-ghost use Rattle.closes.specs.Emitted.{Put};
-ghost use Rattle.closes.specs.Close.{closeSpec};
+ghost use Rattle.spline_emission.specs.Emits.{mostOwn};
+ghost use Rattle.call_reply.specs.Replies.{PushIs};
+ghost use Rattle.saved_state.specs.State.{savedCheck};
+ghost use Rattle.push_check.specs.BlockLaws.{Block};
+ghost use Rattle.call_close.specs.Emitted.{Put};
+ghost use Rattle.call_close.specs.Close.{closeSpec};
 ghost use Rattle.flattener.specs.Before.{before};
 ghost use Rattle.flattener.specs.Push.{pushSpec};
 

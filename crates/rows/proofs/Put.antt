@@ -9,7 +9,7 @@ use lib.ListN.{length, set, take, drop}
 use lib.Seq.{sets-eq}
 use Rattle.floats.specs.Lists.{upto, spliced}
 use Rattle.floats.specs.Splice.{spliced-spliced}
-use Rattle.rows.specs.Codes.{wCells, cells}
+use Rattle.layout.specs.Layout.{rCells, cells}
 use Rattle.rows.specs.Row.{has, rides, withRiders, presentOf}
 use Rattle.rows.specs.RowLaws.{cellWord, madeHas, madeCell, madeWord}
 use Rattle.rows.specs.Masks.{maskSum, mask-same, mask-has}
@@ -43,17 +43,17 @@ module _ (gs r : List ℕ) where
   later-words f = refl
 
 -- six words stored one after the other
-pub head-set : (l : List ℕ) (i a b c d e f : ℕ) → i + wCells ≤ length l
+pub head-set : (l : List ℕ) (i a b c d e f : ℕ) → i + rCells ≤ length l
     → set (set (set (set (set (set l i a) (i + 1) b) (i + 2) c) (i + 3) d) (i + 4) e) (i + 5) f ≡ spliced l i (a ∷ b ∷ c ∷ d ∷ e ∷ f ∷ [])
 unfolding spliced
-head-set l i a b c d e f h = rw (add-one i, add-two i, add-three i, add-four i, add-five i) (sets-eq (a ∷ b ∷ c ∷ d ∷ e ∷ f ∷ []) l i h ∙ append-assoc (take i l) (a ∷ b ∷ c ∷ d ∷ e ∷ f ∷ []) (drop (i + wCells) l))
+head-set l i a b c d e f h = rw (add-one i, add-two i, add-three i, add-four i, add-five i) (sets-eq (a ∷ b ∷ c ∷ d ∷ e ∷ f ∷ []) l i h ∙ append-assoc (take i l) (a ∷ b ∷ c ∷ d ∷ e ∷ f ∷ []) (drop (i + rCells) l))
 
 -- the words before the cells, then the cells
-pub head-cells : (l m n : List ℕ) (i a b c d e f : ℕ) (g : ℕ → ℕ) (k : ℕ) {row : List ℕ} → i + wCells ≤ length l
-    → m ≡ spliced l i (a ∷ b ∷ c ∷ d ∷ e ∷ f ∷ []) → n ≡ spliced m (i + wCells) (upto g k)
+pub head-cells : (l m n : List ℕ) (i a b c d e f : ℕ) (g : ℕ → ℕ) (k : ℕ) {row : List ℕ} → i + rCells ≤ length l
+    → m ≡ spliced l i (a ∷ b ∷ c ∷ d ∷ e ∷ f ∷ []) → n ≡ spliced m (i + rCells) (upto g k)
     → row ≡ (a ∷ b ∷ c ∷ d ∷ e ∷ f ∷ []) ++ upto g k → n ≡ spliced l i row
 head-cells l m n i a b c d e f g k h p q r =
-    q ∙ ap (λ (s : List ℕ). spliced s (i + wCells) (upto g k)) p
+    q ∙ ap (λ (s : List ℕ). spliced s (i + rCells) (upto g k)) p
     ∙ spliced-spliced l i (a ∷ b ∷ c ∷ d ∷ e ∷ f ∷ []) (upto g k) h
     ∙ ap (spliced l i) (sym r)
 

@@ -5,14 +5,14 @@ use mathlib.Core.Bool.{Bool, true, false, _&&_, _||_, not}
 use mathlib.Core.List.{List}
 use native.Mathlib.Omega.{arith}
 use lib.ListN.{getD}
-use Rattle.rows.specs.Codes.{cells, wCells}
+use Rattle.layout.specs.Layout.{cells, rCells}
 use Rattle.rows.specs.Row.{has, all, presentOf, within, cellOk, numbersOk}
 use Rattle.rows.specs.Truth.{or-t, or-f, by-bit, all-ext, all-fails}
 use Rattle.rows.specs.BitWalk.{has-half, has-0, not-0, has-mod}
 
 -- cell k is in range, if the mask has it
 unfoldable pub maskCellOk : List ℕ → ℕ → ℕ → Bool
-maskCellOk r mask k = not (has mask k) || within (getD r (wCells + k) 0)
+maskCellOk r mask k = not (has mask k) || within (getD r (rCells + k) 0)
 
 unfoldable pub maskOk : List ℕ → ℕ → Bool
 maskOk r mask = all cells (maskCellOk r mask)
@@ -21,7 +21,7 @@ pub absent-ok : (r : List ℕ) (mask k : ℕ) → has mask k ≡ false → maskC
 unfolding maskCellOk
 absent-ok r mask k h = or-t _ (ap not h)
 
-pub there-ok : (r : List ℕ) (mask k : ℕ) → has mask k ≡ true → maskCellOk r mask k ≡ within (getD r (wCells + k) 0)
+pub there-ok : (r : List ℕ) (mask k : ℕ) → has mask k ≡ true → maskCellOk r mask k ≡ within (getD r (rCells + k) 0)
 unfolding maskCellOk
 there-ok r mask k h = or-f _ (ap not h)
 
@@ -63,11 +63,11 @@ module _ (p : ℕ) (e : p % 8 ≡ 7) where
       third p k ∙ ap (λ (q : ℕ). has q k) s ∙ sym (third (p - 7) k)
 
   module _ (r : List ℕ) where
-    first-fails : (k : ℕ) → k < 3 → within (getD r (wCells + k) 0) ≡ false → maskOk r p ≡ false
+    first-fails : (k : ℕ) → k < 3 → within (getD r (rCells + k) 0) ≡ false → maskOk r p ≡ false
     unfolding maskOk
     first-fails k h w = all-fails cells (maskCellOk r p) k (omega arith) (there-ok r p k (has-first k h) ∙ w)
 
-    first-same : (k : ℕ) → k < 3 → within (getD r (wCells + k) 0) ≡ true → maskCellOk r p k ≡ maskCellOk r (p - 7) k
+    first-same : (k : ℕ) → k < 3 → within (getD r (rCells + k) 0) ≡ true → maskCellOk r p k ≡ maskCellOk r (p - 7) k
     first-same k h w = there-ok r p k (has-first k h) ∙ w ∙ sym (absent-ok r (p - 7) k (first-gone k h))
 
     rest-same : within (getD r 6 0) ≡ true → within (getD r 7 0) ≡ true → within (getD r 8 0) ≡ true → maskOk r p ≡ maskOk r (p - 7)

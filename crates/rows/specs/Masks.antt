@@ -15,7 +15,7 @@ use borrow.Author.Tests.{eqb-true, eqb-false, eq-eqb, ltb-true, ltb-false, lt-lt
 use Rattle.floats.specs.Lists.{upto, keep, member, isSome}
 use Rattle.floats.specs.Fill.{length-upto}
 use Rattle.rows.specs.Truth.{by-bit}
-use Rattle.rows.specs.Codes.{axisCodes}
+use Rattle.layout.specs.Layout.{axisCodes}
 use Rattle.rows.specs.Row.{has, maskOf, axesOf}
 
 -- ---- one bit

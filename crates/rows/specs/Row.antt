@@ -8,7 +8,8 @@ use lib.Dec.{leb, ltb, eqb}
 use lib.Ieee.{Float}
 use Rattle.floats.specs.Numbers.{num}
 use Rattle.floats.specs.Lists.{upto, keep, member, anyOf, opt, isSome}
-use Rattle.rows.specs.Codes.{axisCodes, cells, wCells, rowWords, lastCode, cTURN, planeOk}
+use Rattle.layout.specs.Layout.{axisCodes, cells, rCells, rowWords, lastCode, cTURN}
+use Rattle.rows.specs.Codes.{planeOk}
 
 abbrev pub lineOf : List ℕ → ℕ
 lineOf r = getD r 0 0
@@ -38,7 +39,7 @@ all (suc n) f = all n f && f n
 
 -- "Each has a presence bit. An absent cell's number is not read": the word of cell k, and its number
 unfoldable pub cell : List ℕ → ℕ → Option ℕ
-cell r k = cond (has (presentOf r) k) (some (getD r (wCells + k) 0)) none
+cell r k = cond (has (presentOf r) k) (some (getD r (rCells + k) 0)) none
 
 unfoldable pub number : List ℕ → ℕ → Option Float
 number r k = opt num (cell r k)
@@ -97,7 +98,7 @@ unfoldable pub within : ℕ → Bool
 within x = leb (x % 0x8000000000000000) 0x41CDCD6500000000
 
 unfoldable pub cellOk : List ℕ → ℕ → Bool
-cellOk r k = not (has (presentOf r) k) || within (getD r (wCells + k) 0)
+cellOk r k = not (has (presentOf r) k) || within (getD r (rCells + k) 0)
 
 unfoldable pub numbersOk : List ℕ → Bool
 numbersOk r = all cells (cellOk r)
@@ -107,7 +108,7 @@ unfoldable pub above1000 : ℕ → Bool
 above1000 x = ltb x 0x8000000000000000 && ltb 0x408F400000000000 x
 
 unfoldable pub turnOk : List ℕ → Bool
-turnOk r = not (has (presentOf r) cTURN) || not (above1000 (getD r (wCells + cTURN) 0))
+turnOk r = not (has (presentOf r) cTURN) || not (above1000 (getD r (rCells + cTURN) 0))
 
 -- "Order: .. 4, 3, 5": 0, or the number of the refusal
 unfoldable pub rowCheck : List ℕ → ℕ

@@ -12,7 +12,8 @@ use borrow.Author.Tests.{eqb-true, leb-true, ltb-true}
 use Rattle.floats.specs.Lists.{upto, isSome, member}
 use Rattle.floats.specs.Fill.{length-upto, at-upto, upto-below}
 use Rattle.rows.specs.Truth.{by-bit, cond-t, cond-f, and-left, and-right, true-of-not-false, all-ext, all-at}
-use Rattle.rows.specs.Codes.{axisCodes, cells, wCells, rowWords, cTURN, planeOk}
+use Rattle.layout.specs.Layout.{axisCodes, cells, rCells, rowWords, cTURN}
+use Rattle.rows.specs.Codes.{planeOk}
 use Rattle.rows.specs.Row.{has, cell, shown, rides, withRiders, lineOf, motionOf, planeOf, markOf, carryOf, presentOf, rowOf, outRow, madeRow, hasPoint, shapeOk, within, cellOk, numbersOk, above1000, turnOk, rowCheck}
 use Rattle.rows.specs.Masks.{maskSum, mask-upto, mask-same, mask-has, has-mask}
 
@@ -57,7 +58,7 @@ module _ (line motion plane mark carry : ℕ) (f : ℕ → Option ℕ) (n : ℕ)
   unfolding rowOf
   row-words = rw (mask-upto f n, map-upto (λ (c : Option ℕ). Option·getD c 0) f n)
 
-  pub row-length : length (rowOf line motion plane mark carry (upto f n)) ≡ wCells + n
+  pub row-length : length (rowOf line motion plane mark carry (upto f n)) ≡ rCells + n
   unfolding rowOf
   row-length = rw (length-map (upto f n) (λ (c : Option ℕ). Option·getD c 0), length-upto f n) (omega arith)
 
@@ -65,10 +66,10 @@ module _ (line motion plane mark carry : ℕ) (f : ℕ → Option ℕ) (n : ℕ)
   unfolding rowOf
   row-present = mask-upto f n
 
-  row-word : (k : ℕ) → k < n → getD (rowOf line motion plane mark carry (upto f n)) (wCells + k) 0 ≡ Option·getD (f k) 0
+  row-word : (k : ℕ) → k < n → getD (rowOf line motion plane mark carry (upto f n)) (rCells + k) 0 ≡ Option·getD (f k) 0
   unfolding rowOf
   row-word k h =
-      let i : wCells + k ≡ suc (suc (suc (suc (suc (suc k))))) = omega arith in
+      let i : rCells + k ≡ suc (suc (suc (suc (suc (suc k))))) = omega arith in
       rw (i, map-upto (λ (c : Option ℕ). Option·getD c 0) f n) (at-upto (λ (j : ℕ). Option·getD (f j) 0) n k 0 h)
 
   again : (o : Option ℕ) → cond (isSome o) (some (Option·getD o 0)) none ≡ o
@@ -260,10 +261,10 @@ module _ (r : List ℕ) (p : rowCheck r ≡ 0) where
   check-present = shape-present r check-shape
 
   -- a present number is in range
-  pub check-within : (k : ℕ) → k < cells → has (presentOf r) k ≡ true → within (getD r (wCells + k) 0) ≡ true
+  pub check-within : (k : ℕ) → k < cells → has (presentOf r) k ≡ true → within (getD r (rCells + k) 0) ≡ true
   unfolding numbersOk cellOk
   check-within k h b =
-      let q : (not (has (presentOf r) k) || within (getD r (wCells + k) 0)) ≡ true = all-at cells (cellOk r) k check-numbers h in
+      let q : (not (has (presentOf r) k) || within (getD r (rCells + k) 0)) ≡ true = all-at cells (cellOk r) k check-numbers h in
       rw b at q
 
   -- no cell is past the last
@@ -271,10 +272,10 @@ module _ (r : List ℕ) (p : rowCheck r ≡ 0) where
   unfolding cell
   check-cell-within k x h e =
       by-bit (has (presentOf r) k)
-      (λ b. let q : cond (has (presentOf r) k) (some (getD r (wCells + k) 0)) none ≡ some x = e in
-      let z : getD r (wCells + k) 0 ≡ x = (let y : some (getD r (wCells + k) 0) ≡ some x = rw b at q in cc) in
+      (λ b. let q : cond (has (presentOf r) k) (some (getD r (rCells + k) 0)) none ≡ some x = e in
+      let z : getD r (rCells + k) 0 ≡ x = (let y : some (getD r (rCells + k) 0) ≡ some x = rw b at q in cc) in
       rw (← z) (check-within k h b))
-      (λ b. let q : cond (has (presentOf r) k) (some (getD r (wCells + k) 0)) none ≡ some x = e in
+      (λ b. let q : cond (has (presentOf r) k) (some (getD r (rCells + k) 0)) none ≡ some x = e in
       let y : none ≡ some x = rw b at q in cc)
 
 abbrev asked : (ℕ → Bool) → Option ℕ → Bool
@@ -282,7 +283,7 @@ asked f none = true
 asked f (some x) = f x
 
 -- what is asked of a cell only where it is there, is asked of the same number
-cell-asked : (r : List ℕ) (k : ℕ) (f : ℕ → Bool) → (not (has (presentOf r) k) || f (getD r (wCells + k) 0)) ≡ asked f (cell r k)
+cell-asked : (r : List ℕ) (k : ℕ) (f : ℕ → Bool) → (not (has (presentOf r) k) || f (getD r (rCells + k) 0)) ≡ asked f (cell r k)
 unfolding cell
 cell-asked r k f = by-bit (has (presentOf r) k) (λ b. rw b) (λ b. rw b)
 
@@ -290,7 +291,7 @@ cell-asked r k f = by-bit (has (presentOf r) k) (λ b. rw b) (λ b. rw b)
 pub out-check : (r : List ℕ) → shapeOk r ≡ true → rowCheck (outRow r) ≡ rowCheck r
 unfolding rowCheck numbersOk turnOk cellOk shapeOk
 out-check r p =
-    let same : (k : ℕ) (f : ℕ → Bool) → k < cells → (not (has (presentOf (outRow r)) k) || f (getD (outRow r) (wCells + k) 0)) ≡ (not (has (presentOf r) k) || f (getD r (wCells + k) 0)) =
+    let same : (k : ℕ) (f : ℕ → Bool) → k < cells → (not (has (presentOf (outRow r)) k) || f (getD (outRow r) (rCells + k) 0)) ≡ (not (has (presentOf r) k) || f (getD r (rCells + k) 0)) =
     λ k f h. cell-asked (outRow r) k f ∙ ap (asked f) (out-cell r k h) ∙ sym (cell-asked r k f) in
     ap₂ (λ (a : Bool) (n : ℕ). cond a n 4) (shape ∙ sym p)
     (ap₂ (λ (a : Bool) (n : ℕ). cond a n 3)

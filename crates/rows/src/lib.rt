@@ -1,35 +1,31 @@
 // Rows as words: what an incoming row is refused for, what a motion cell says, and rows that go out.
+use layout::AXIS_CODES;
+use layout::CELLS;
+use layout::CELL_MASKS;
+use layout::C_TURN;
+use layout::LAST_CODE;
+use layout::ROW_WORDS;
+use layout::R_CARRY;
+use layout::R_CELLS;
+use layout::R_LINE;
+use layout::R_MARK;
+use layout::R_MOTION;
+use layout::R_PLANE;
+use layout::R_PRESENT;
 ghost use mathlib.Core.Path.{_≡_};
 ghost use mathlib.Core.Bool.{true, cond, _&&_};
 ghost use mathlib.Core.List.{[], _∷_};
 ghost use Prim.Native.Nat.{_+_, _<_, _≤_, _^_};
 ghost use lib.ListN.{length};
 ghost use Rattle.floats.specs.Lists.{upto, spliced};
-ghost use Rattle.rows.specs.Codes.{axisCodes, cells, wCells, rowWords, planeOk, kindOf};
+ghost use Rattle.layout.specs.Layout.{axisCodes, cells, rCells, rowWords};
+ghost use Rattle.rows.specs.Codes.{planeOk, kindOf};
 ghost use Rattle.rows.specs.Row.{has, within, above1000, shapeOk, numbersOk, turnOk, rowCheck, cell, shown, axesOf, outRow, rides, madeRow};
 ghost use Rattle.rows.specs.FirstCells.{maskOk};
 ghost use Rattle.rows.specs.KindCase.{kindCase};
 ghost use Rattle.rows.specs.RowLaws.{cellWord, shownWord, madeHas, madeWord, MadeOf};
 ghost use Rattle.rows.specs.Masks.{maskSum};
 ghost use Rattle.rows.specs.BitWalk.{lowest, others, zeros};
-
-pub const AXIS_CODES: usize = 10;
-
-pub const LAST_CODE: usize = 14;
-
-pub const C_CR: usize = 18;
-
-pub const C_TURN: usize = 19;
-
-pub const C_PW: usize = 20;
-
-pub const C_SD: usize = 21;
-
-pub const CELLS: usize = 23;
-
-pub const W_CELLS: usize = 6;
-
-pub const ROW_WORDS: usize = 29;
 
 // The mask of the cells X, Y and Z.
 const XYZ: u64 = 7;
@@ -65,19 +61,19 @@ pub fn shape_ok(row: &[u64]) -> bool
     if row.len() != ROW_WORDS {
         return false;
     }
-    if row[0] >= 0x1_0000_0000 {
+    if row[R_LINE] >= 0x1_0000_0000 {
         return false;
     }
-    if row[1] > 31 {
+    if row[R_MOTION] > 31 {
         return false;
     }
-    if !plane_ok(row[2]) {
+    if !plane_ok(row[R_PLANE]) {
         return false;
     }
-    if row[3] != 0 {
+    if row[R_MARK] != 0 {
         return false;
     }
-    row[5] < 0x80_0000
+    row[R_PRESENT] < CELL_MASKS
 }
 
 // The lowest bit that p has, 64 where it has none.
@@ -102,7 +98,7 @@ fn cells_ok(row: &[u64], mask: u64) -> bool
 {
     let mut rest = mask;
     while rest != 0 {
-        if !within_range(row[W_CELLS + lowest_bit(rest)]) {
+        if !within_range(row[R_CELLS + lowest_bit(rest)]) {
             return false;
         }
         rest = other_bits(rest);
@@ -128,11 +124,11 @@ pub fn numbers_ok(row: &[u64]) -> bool
     requires { ⌜ length (now row) ≡ rowWords ⌝ }
     ensures { λ r. ⌜ r ≡ numbersOk (now (row .entry)) ⌝ }
 {
-    let present = row[5] % 0x80_0000;
+    let present = row[R_PRESENT] % CELL_MASKS;
     if present % 8 != XYZ {
         return cells_ok(row, present);
     }
-    if !three_within(row[W_CELLS], row[W_CELLS + 1], row[W_CELLS + 2]) {
+    if !three_within(row[R_CELLS], row[R_CELLS + 1], row[R_CELLS + 2]) {
         return false;
     }
     cells_ok(row, present - XYZ)
@@ -142,8 +138,8 @@ pub fn turn_ok(row: &[u64]) -> bool
     requires { ⌜ length (now row) ≡ rowWords ⌝ }
     ensures { λ r. ⌜ r ≡ turnOk (now (row .entry)) ⌝ }
 {
-    if has_bit(row[5], C_TURN as u64) {
-        !is_above_1000(row[W_CELLS + C_TURN])
+    if has_bit(row[R_PRESENT], C_TURN as u64) {
+        !is_above_1000(row[R_CELLS + C_TURN])
     } else {
         true
     }
@@ -199,8 +195,8 @@ pub fn cell_word(row: &[u64], k: usize) -> u64
     requires { ⌜ (length (now row) ≡ rowWords) × (k < cells) ⌝ }
     ensures { λ r. ⌜ r ≡ cellWord (now (row .entry)) k ⌝ }
 {
-    if has_bit(row[5], k as u64) {
-        return row[W_CELLS + k];
+    if has_bit(row[R_PRESENT], k as u64) {
+        return row[R_CELLS + k];
     }
     0
 }
@@ -216,7 +212,7 @@ fn put_head(
     carry: u64,
     present: u64,
 )
-    requires { ⌜ at + wCells ≤ length (now rows) ⌝ }
+    requires { ⌜ at + rCells ≤ length (now rows) ⌝ }
     ensures { λ _. ⌜ now (rows .exit) ≡ spliced (now (rows .entry)) at (line ∷ motion ∷ plane ∷ mark ∷ carry ∷ present ∷ []) ⌝ }
 {
     rows[at] = line;
@@ -244,10 +240,10 @@ fn put_cells(rows: &mut [u64], at: usize, row: &[u64])
     ensures { λ _. ⌜ now (rows .exit) ≡ spliced (now (rows .entry)) at (upto (cellWord (now (row .entry))) cells) ⌝ }
 {
     clear_cells(rows, at);
-    let mut rest = row[5] % 0x80_0000;
+    let mut rest = row[R_PRESENT] % CELL_MASKS;
     while rest != 0 {
         let k = lowest_bit(rest);
-        rows[at + k] = row[W_CELLS + k];
+        rows[at + k] = row[R_CELLS + k];
         rest = other_bits(rest);
     }
 }
@@ -260,14 +256,14 @@ pub fn put_row(rows: &mut [u64], at: usize, row: &[u64])
     put_head(
         rows,
         at,
-        row[0],
-        row[1],
-        row[2],
+        row[R_LINE],
+        row[R_MOTION],
+        row[R_PLANE],
         0,
-        row[4],
-        row[5] % 0x80_0000,
+        row[R_CARRY],
+        row[R_PRESENT] % CELL_MASKS,
     );
-    put_cells(rows, at + W_CELLS, row);
+    put_cells(rows, at + R_CELLS, row);
 }
 
 // Whether cell k rides on the first row of a group: not a geometric axis of the mask gs, and none of cells 15 to 22.
@@ -287,7 +283,7 @@ fn first_has(row: &[u64], gs: u64, mask: u64, k: usize) -> bool
     ensures { λ r. ⌜ r ≡ madeHas (axesOf gs) (now (row .entry)) true mask k ⌝ }
 {
     if is_rider(gs, k) {
-        return has_bit(row[5], k as u64);
+        return has_bit(row[R_PRESENT], k as u64);
     }
     has_bit(mask, k as u64)
 }
@@ -325,7 +321,7 @@ fn made_mask(row: &[u64], gs: u64, first: bool, mask: u64) -> u64
     if first {
         return first_mask(row, gs, mask);
     }
-    mask % 0x80_0000
+    mask % CELL_MASKS
 }
 
 // The word of a point's axis k, zero where the mask has it not.
@@ -424,12 +420,12 @@ pub fn put_made(
     put_head(
         rows,
         at,
-        row[0],
+        row[R_LINE],
         if_first(first, motion),
-        if_first(first, row[2]),
+        if_first(first, row[R_PLANE]),
         mark,
-        if_first(first, row[4]),
+        if_first(first, row[R_CARRY]),
         present,
     );
-    put_made_cells(rows, at + W_CELLS, row, gs, first, mask, words);
+    put_made_cells(rows, at + R_CELLS, row, gs, first, mask, words);
 }

@@ -1,7 +1,7 @@
 -- `flatcsv::main` ends: a turn is used up each time round. Assumes nothing.
 use Prim.Native.Nat.{_≤_}
 use borrow.Author.Needs.{needs}
-use Rattle.csvout.specs.Bounds.{Waits}
+use Rattle.csv_out.specs.Bounds.{Waits}
 use Rattle.flatcsv.proofs.main.Statement.{statement}
 use Rattle.flatcsv.proofs.main.Tie as tie
 

@@ -1,7 +1,7 @@
 -- `flatcsv::one_line` meets its contract. Assumes nothing.
 use mathlib.Core.Path.{sym, _∙_}
 use lib.Seq.{length-take-le}
-use Rattle.csvout.specs.Lengths.{end-in}
+use Rattle.csv_out.specs.Lengths.{end-in}
 use borrow.Author.Needs.{needs}
 use Rattle.flatcsv.proofs.one_line.Statement.{statement}
 use Rattle.flatcsv.proofs.one_line.Tie as tie

@@ -6,7 +6,7 @@ use Rattle.replay.proofs.main.Statement.{statement}
 use Rattle.replay.proofs.main.Tie as tie
 use Rattle.replay.proofs.main.Reads as reads
 use Rattle.replay.proofs.main.Lts as lts
-use Rattle.calltext.proofs.memory.rest.Reads as rest-reads
+use Rattle.replay_text.proofs.memory.rest.Reads as rest-reads
 use Rattle.replay.proofs.begun.Reads as begun-reads
 use Rattle.replay.proofs.flush_all.Reads as flush-all-reads
 use Rattle.replay.proofs.step.Reads as step-reads

@@ -5,7 +5,7 @@ use mathlib.Core.Logic.{inl, inr}
 use native.Mathlib.Omega.{arith}
 use Rattle.root.specs.Root.{Nearest}
 use Rattle.root.proofs.Squares.{square-of-sum}
-use Rattle.rootguess.specs.Products.{mul-lt-pow}
+use Rattle.root_guess.specs.Products.{mul-lt-pow}
 use borrow.Author.Needs.{needs}
 use Rattle.root.proofs.settles.Statement.{statement}
 use Rattle.root.proofs.settles.Tie as tie

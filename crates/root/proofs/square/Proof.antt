@@ -1,5 +1,5 @@
 use native.Mathlib.Omega.{arith}
-use Rattle.rootguess.specs.Products.{mul-lt-pow}
+use Rattle.root_guess.specs.Products.{mul-lt-pow}
 use borrow.Author.Needs.{needs}
 use Rattle.root.proofs.square.Statement.{statement}
 use Rattle.root.proofs.square.Tie as tie

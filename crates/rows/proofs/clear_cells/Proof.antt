@@ -3,7 +3,7 @@ use mathlib.Core.Path.{_≡_, refl}
 use native.Mathlib.Omega.{arith}
 use Prim.Native.Nat.{_-_, _≤_}
 use Rattle.floats.specs.Splice.{Splicing, splicing-none, splicing-more}
-use Rattle.rows.specs.Codes.{cells}
+use Rattle.layout.specs.Layout.{cells}
 use Rattle.rows.specs.BitWalk.{zeros}
 use borrow.Author.Needs.{needs}
 use Rattle.rows.proofs.clear_cells.Statement.{statement}

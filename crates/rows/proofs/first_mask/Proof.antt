@@ -3,7 +3,7 @@ use mathlib.Core.Path.{_≡_, refl, sym, ap₂, _∙_, subst}
 use mathlib.Core.Bool.{Bool, true, cond}
 use native.Mathlib.Omega.{arith}
 use Prim.Native.Nat.{ℕ, _+_, _-_, _≤_, _<_, _^_}
-use Rattle.rows.specs.Codes.{cells}
+use Rattle.layout.specs.Layout.{cells}
 use Rattle.rows.specs.Row.{axesOf}
 use Rattle.rows.specs.RowLaws.{madeHas}
 use Rattle.rows.specs.Masks.{maskSum, mask-more, mask-lt}

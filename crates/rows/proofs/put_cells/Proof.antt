@@ -6,7 +6,7 @@ use mathlib.Core.Option.{Option, Option·getD}
 use native.Mathlib.Omega.{arith}
 use Prim.Native.Nat.{ℕ, _+_}
 use lib.ListN.{getD}
-use Rattle.rows.specs.Codes.{cells, wCells}
+use Rattle.layout.specs.Layout.{cells, rCells}
 use Rattle.rows.specs.Row.{has, presentOf, cell}
 use Rattle.rows.specs.RowLaws.{cellWord}
 use Rattle.rows.specs.Truth.{cond-t, cond-f}
@@ -19,7 +19,7 @@ absent-word : (r : List ℕ) (k : ℕ) → has (presentOf r) k ≡ false → cel
 unfolding cell
 absent-word r k h = ap (λ (o : Option ℕ). Option·getD o 0) (cond-f _ _ h)
 
-there-word : (r : List ℕ) (k : ℕ) → has (presentOf r) k ≡ true → getD r (wCells + k) 0 ≡ cellWord r k
+there-word : (r : List ℕ) (k : ℕ) → has (presentOf r) k ≡ true → getD r (rCells + k) 0 ≡ cellWord r k
 unfolding cell
 there-word r k h = sym (ap (λ (o : Option ℕ). Option·getD o 0) (cond-t _ _ h))
 

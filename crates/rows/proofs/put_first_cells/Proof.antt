@@ -4,7 +4,7 @@ use mathlib.Core.Bool.{true}
 use native.Mathlib.Omega.{arith}
 use Prim.Native.Nat.{_-_, _≤_}
 use Rattle.floats.specs.Splice.{Splicing, splicing-none, splicing-more}
-use Rattle.rows.specs.Codes.{cells}
+use Rattle.layout.specs.Layout.{cells}
 use Rattle.rows.specs.Row.{shown, axesOf}
 use Rattle.rows.specs.RowLaws.{madeWord}
 use borrow.Author.Needs.{needs}

@@ -1,6 +1,6 @@
 -- `rows::put_made` meets its contract. Assumes nothing.
 use native.Mathlib.Omega.{arith}
-use Rattle.rows.specs.Codes.{cells}
+use Rattle.layout.specs.Layout.{cells}
 use Rattle.rows.specs.RowLaws.{made-words}
 use Rattle.rows.proofs.Put.{head-cells, head-same}
 use borrow.Author.Needs.{needs}

@@ -7,7 +7,7 @@ use native.Mathlib.Omega.{arith}
 use native.Mathlib.Nat.{mod-eq-of-lt}
 use Prim.Native.Nat.{ℕ, _^_, _<_}
 use lib.ListN.{getD}
-use Rattle.rows.specs.Codes.{axisCodes, cells}
+use Rattle.layout.specs.Layout.{axisCodes, cells}
 use Rattle.rows.specs.Row.{has, shown}
 use Rattle.rows.specs.RowLaws.{shownWord}
 use Rattle.rows.specs.Truth.{cond-t, cond-f}

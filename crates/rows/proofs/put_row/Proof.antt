@@ -1,6 +1,6 @@
 -- `rows::put_row` meets its contract. Assumes nothing.
 use native.Mathlib.Omega.{arith}
-use Rattle.rows.specs.Codes.{cells}
+use Rattle.layout.specs.Layout.{cells}
 use Rattle.rows.specs.RowLaws.{out-words}
 use Rattle.rows.proofs.Put.{head-cells}
 use borrow.Author.Needs.{needs}

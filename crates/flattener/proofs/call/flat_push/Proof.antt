@@ -1,13 +1,13 @@
 -- `flattener::call::flat_push` meets its contract. Assumes nothing.
 use mathlib.Core.Path.{refl, sym, ap, _∙_}
 use native.Mathlib.Omega.{arith}
-use Rattle.replies.specs.Replies.{plain, answers}
-use Rattle.saved.specs.StateLaws.{good, good-few}
-use Rattle.saved.specs.Checked.{saved-ok}
-use Rattle.own.specs.Few.{few-own}
-use Rattle.settle.specs.Settle.{settled}
-use Rattle.closes.specs.Close.{untouched}
-use Rattle.closes.specs.Emitted.{room-left, room-short, put-refused, put-written}
+use Rattle.call_reply.specs.Replies.{plain, answers}
+use Rattle.saved_state.specs.StateLaws.{good, good-few}
+use Rattle.saved_state.specs.Checked.{saved-ok}
+use Rattle.push_rows.specs.Few.{few-own}
+use Rattle.push_settle.specs.Settle.{settled}
+use Rattle.call_close.specs.Close.{untouched}
+use Rattle.call_close.specs.Emitted.{room-left, room-short, put-refused, put-written}
 use Rattle.flattener.proofs.Calls.{passes, passes-ready, turned-is, few-is, done-is, both-written, row-room}
 use borrow.Author.Needs.{needs}
 use Rattle.flattener.proofs.call.flat_push.Statement.{statement}

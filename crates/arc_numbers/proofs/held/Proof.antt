@@ -1,0 +1,15 @@
+-- `arc_numbers::held` meets its contract. Assumes nothing.
+use Rattle.arc_numbers.proofs.held.Statement.{statement}
+use Rattle.arc_numbers.proofs.held.Tie as tie
+
+returns : tie.Need-returns
+returns c = rw ((c .if1 .taken))
+
+returns-2 : tie.Need-returns-2
+returns-2 c = rw ((c .before .if1 .left), (c .if2 .taken))
+
+returns-3 : tie.Need-returns-3
+returns-3 c = rw ((c .before .if1 .left), (c .if2 .left))
+
+pub held-spec : {M : Type 1} → statement M
+held-spec = tie.close (tie.spec returns returns-2 returns-3)

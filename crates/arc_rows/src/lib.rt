@@ -1,0 +1,227 @@
+// Arc blocks: what a block comes to at the positions before it, and its rows.
+use layout::R_PRESENT;
+ghost use mathlib.Core.Path.{_≡_};
+ghost use mathlib.Core.Option.{Option·getD};
+ghost use Prim.Native.Nat.{ℕ, _+_, _^_, _<_, _≤_};
+ghost use lib.ListN.{length};
+ghost use Rattle.floats.specs.Numbers.{num};
+ghost use Rattle.floats.specs.Lists.{flatten, spliced};
+ghost use Rattle.layout.specs.Layout.{axisCodes, cells, rowWords};
+ghost use Rattle.rows.specs.Row.{cell, number, shown, axesOf, hasPoint, presentOf};
+ghost use Rattle.rows.specs.Masks.{maskSum};
+ghost use Rattle.arc_numbers.specs.Types.{numberIs, endsIs};
+ghost use Rattle.arc_rows.specs.Arc.{arcAnswer};
+ghost use Rattle.arc_rows.specs.Plan.{BlockOf, silentAt, holds, endsAt, passPlan, alongPlan, planRows, Planned, WriteOf};
+
+const FIRST_OFFSET: usize = 15;
+
+// How a block's rows come about: it passes unchanged, or it goes along an arc.
+pub enum Way {
+    Pass,
+    Along(arc_numbers::Ends, arc_numbers::Arc),
+}
+
+// What a block comes to: its rows' number, the warning, with warning 6 the wanted count, the held axes.
+pub struct Plan {
+    pub count: usize,
+    pub warning: u64,
+    pub wanted: u64,
+    pub held: u64,
+    pub way: Way,
+}
+
+fn cell_number(row: &[u64], k: usize) -> arc_numbers::Cell
+    requires { ⌜ (length (now row) ≡ rowWords) × (k < cells) ⌝ }
+    ensures { λ r. ⌜ numberIs r ≡ number (now (row .entry)) k ⌝ }
+{
+    if rows::has_bit(row[R_PRESENT], k as u64) {
+        return arc_numbers::Cell::Number(floats::of_bits(row[layout::R_CELLS + k]));
+    }
+    arc_numbers::Cell::Absent
+}
+
+// The programmed end on axis k, or the start where none is programmed.
+fn end_on(row: &[u64], k: usize, start: u64) -> f64
+    requires { ⌜ (length (now row) ≡ rowWords) × (k < cells) ⌝ }
+    ensures { λ r. ⌜ r ≡ num (Option·getD (cell (now (row .entry)) k) start) ⌝ }
+{
+    if rows::has_bit(row[R_PRESENT], k as u64) {
+        return floats::of_bits(row[layout::R_CELLS + k]);
+    }
+    floats::of_bits(start)
+}
+
+fn ends(row: &[u64], at: &[u64], u: usize, v: usize) -> arc_numbers::Ends
+    requires { ⌜ (length (now row) ≡ rowWords) × ((axisCodes ≤ length (now at)) × ((u < axisCodes) × (v < axisCodes))) ⌝ }
+    ensures { λ r. ⌜ endsIs r ≡ endsAt (now (row .entry)) (now (at .entry)) u v ⌝ }
+{
+    let su = at[u];
+    let sv = at[v];
+    arc_numbers::Ends {
+        su: floats::of_bits(su),
+        sv: floats::of_bits(sv),
+        eu: end_on(row, u, su),
+        ev: end_on(row, v, sv),
+    }
+}
+
+fn has_point(row: &[u64], gs: u64) -> bool
+    requires { ⌜ (length (now row) ≡ rowWords) × (gs < 2 ^ axisCodes) ⌝ }
+    ensures { λ r. ⌜ r ≡ hasPoint (axesOf gs) (now (row .entry)) ⌝ }
+{
+    let present = row[R_PRESENT];
+    let mut k: usize = 0;
+    while k < layout::AXIS_CODES {
+        if arc_sample::programs(gs, present, k) {
+            return true;
+        }
+        k += 1;
+    }
+    false
+}
+
+fn is_silent(row: &[u64], gs: u64, u: usize, v: usize) -> bool
+    requires { ⌜ (length (now row) ≡ rowWords) × ((gs < 2 ^ axisCodes) × ((u < 3) × (v < 3))) ⌝ }
+    ensures { λ r. ⌜ r ≡ silentAt (axesOf gs) u v (now (row .entry)) ⌝ }
+{
+    if has_point(row, gs) {
+        return false;
+    }
+    if rows::has_bit(row[R_PRESENT], (FIRST_OFFSET + u) as u64) {
+        return false;
+    }
+    if rows::has_bit(row[R_PRESENT], (FIRST_OFFSET + v) as u64) {
+        return false;
+    }
+    !rows::has_bit(row[R_PRESENT], layout::C_CR as u64)
+}
+
+// Whether axis k ramps with no start to ramp from.
+fn holds_end(gs: u64, present: u64, known: u64, u: usize, v: usize, k: usize) -> bool
+    requires { ⌜ k < axisCodes ⌝ }
+    ensures { λ r. ⌜ r ≡ holds gs present known u v k ⌝ }
+{
+    if !arc_sample::programs(gs, present, k) {
+        return false;
+    }
+    if rows::has_bit(known, k as u64) {
+        return false;
+    }
+    if k == u {
+        return false;
+    }
+    k != v
+}
+
+fn held_axes(row: &[u64], gs: u64, known: u64, u: usize, v: usize) -> u64
+    requires { ⌜ length (now row) ≡ rowWords ⌝ }
+    ensures { λ r. ⌜ r ≡ maskSum (holds gs (presentOf (now (row .entry))) known u v) axisCodes ⌝ }
+{
+    let present = row[R_PRESENT];
+    let mut m: u64 = 0;
+    let mut k: usize = 0;
+    while k < layout::AXIS_CODES {
+        m = rows::mask_with(m, k, holds_end(gs, present, known, u, v, k));
+        k += 1;
+    }
+    m
+}
+
+fn passing(warning: u64) -> Plan
+    ensures { λ p. ⌜ p ≡ passPlan warning ⌝ }
+{
+    Plan {
+        count: 1,
+        warning,
+        wanted: 0,
+        held: 0,
+        way: Way::Pass,
+    }
+}
+
+fn along(e: arc_numbers::Ends, c: arc_numbers::Arc, held: u64) -> Plan
+    ensures { λ p. ⌜ p ≡ alongPlan e c held ⌝ }
+{
+    let wanted = arc_numbers::wanted(c);
+    let count = arc_numbers::count(wanted) as usize;
+    if arc_numbers::MOST_ROWS < wanted {
+        Plan {
+            count,
+            warning: 6,
+            wanted,
+            held,
+            way: Way::Along(e, c),
+        }
+    } else {
+        Plan {
+            count,
+            warning: 0,
+            wanted: 0,
+            held,
+            way: Way::Along(e, c),
+        }
+    }
+}
+
+// What an arc block comes to. gs is the mask of the geometric axes, known that of the positions at hand.
+pub fn plan_arc(
+    row: &[u64],
+    gs: u64,
+    plane: u64,
+    cw: bool,
+    known: u64,
+    at: &[u64],
+    tol: f64,
+) -> Plan
+    requires { ⌜ BlockOf (now row) gs (now at) ⌝ }
+    ensures { λ p. ⌜ Planned (axesOf gs) plane (shown known (now (at .entry))) (now (row .entry)) (arcAnswer tol (axesOf gs) plane cw (shown known (now (at .entry))) (now (row .entry))) p ⌝ }
+{
+    let u = arc_sample::plane_u(plane);
+    let v = arc_sample::plane_v(plane);
+    if is_silent(row, gs, u, v) {
+        return passing(0);
+    }
+    if !rows::has_bit(known, u as u64) {
+        return passing(1);
+    }
+    if !rows::has_bit(known, v as u64) {
+        return passing(1);
+    }
+    let e = ends(row, at, u, v);
+    let i = cell_number(row, FIRST_OFFSET + u);
+    let j = cell_number(row, FIRST_OFFSET + v);
+    let cr = cell_number(row, layout::C_CR);
+    match arc_numbers::find_centre(cw, e, i, j, cr) {
+        arc_numbers::Centre::At(cu, cv) => {
+            let turn = cell_number(row, layout::C_TURN);
+            let c = arc_numbers::arc_of(tol, cw, e, cu, cv, turn);
+            along(e, c, held_axes(row, gs, known, u, v))
+        }
+        arc_numbers::Centre::Coincident => passing(2),
+        arc_numbers::Centre::Short => passing(3),
+        arc_numbers::Centre::Missing => passing(4),
+        arc_numbers::Centre::Small => passing(5),
+    }
+}
+
+// Writes the rows of a planned block from word `from` on.
+pub fn write_arc(
+    rows: &mut [u64],
+    from: usize,
+    row: &[u64],
+    gs: u64,
+    plane: u64,
+    known: u64,
+    at: &[u64],
+    plan: Plan,
+)
+    requires { ⌜ BlockOf (now row) gs (now at) × WriteOf (axesOf gs) plane (shown known (now at)) (now row) (now rows) from plan ⌝ }
+    ensures { λ _. ⌜ now (rows .exit) ≡ spliced (now (rows .entry)) from (flatten (planRows (axesOf gs) plane (shown known (now (at .entry))) (now (row .entry)) plan)) ⌝ }
+{
+    let n = plan.count;
+    let way = plan.way;
+    match way {
+        Way::Pass => rows::put_row(rows, from, row),
+        Way::Along(e, c) => arc_sample::draw(rows, from, row, gs, plane, known, at, e, c, n),
+    }
+}

@@ -1,0 +1,75 @@
+-- `arc_sample::draw` meets its contract. Assumes nothing.
+use native.Mathlib.Omega.{arith}
+use Prim.Native.Nat.{ℕ, _<_, _^_}
+use mathlib.Core.Path.{refl, sym, subst, ap, _∙_}
+use lib.ListN.{length}
+use Rattle.floats.specs.Fill.{length-upto}
+use Rattle.layout.specs.Layout.{axisCodes}
+use Rattle.rows.specs.Masks.{mask-lt}
+use Rattle.arc_sample.specs.Draw.{drawn-rows}
+use borrow.Author.Needs.{needs}
+use Rattle.arc_sample.proofs.draw.Statement.{statement}
+use Rattle.arc_sample.proofs.draw.Tie as tie
+
+plane-u-requires : tie.Need-plane-u-requires
+plane-u-requires c κs = search needs
+
+plane-v-requires : tie.Need-plane-v-requires
+plane-v-requires c κs = search needs
+
+drawn-axes-requires : tie.Need-drawn-axes-requires
+drawn-axes-requires c κs = search needs
+
+slice-aggregate-put-starts : tie.Need-slice-aggregate-put-starts
+slice-aggregate-put-starts c = search needs
+
+put-starts-requires : tie.Need-put-starts-requires
+put-starts-requires c κs = search needs
+
+slice-aggregate-put-spans : tie.Need-slice-aggregate-put-spans
+slice-aggregate-put-spans c = search needs
+
+slice-aggregate-put-spans-2 : tie.Need-slice-aggregate-put-spans-2
+slice-aggregate-put-spans-2 c = search needs
+
+put-spans-requires : tie.Need-put-spans-requires
+put-spans-requires c κs = search needs
+
+slice-aggregate-put-mid-rows : tie.Need-slice-aggregate-put-mid-rows
+slice-aggregate-put-mid-rows c = search needs
+
+slice-aggregate-put-mid-rows-2 : tie.Need-slice-aggregate-put-mid-rows-2
+slice-aggregate-put-mid-rows-2 c = search needs
+
+put-mid-rows-requires : tie.Need-put-mid-rows-requires
+put-mid-rows-requires c κs = (record { room = (c .before .before .before .before .before .before .before .before .before .before .before .before .before .before .before .before .pre) .room; some = (c .before .before .before .before .before .before .before .before .before .before .before .before .before .before .before .before .pre) .some; long = (c .before .before .before .before .before .before .before .before .before .before .before .before .before .before .before .before .pre) .long; axes = (c .before .before .before .before .before .before .before .before .before .before .before .before .before .before .before .before .pre) .axes; shows = subst (λ (m : ℕ). m < 2 ^ axisCodes) (sym (c .before .before .before .before .before .before .before .before .before .before .drawn-axes .ensures)) (mask-lt _ axisCodes); onU = omega (arith, (c .before .before .before .before .before .before .before .before .before .before .before .before .plane-u .ensures) .1); onV = omega (arith, (c .before .before .before .before .before .before .before .before .before .before .before .plane-v .ensures) .1) }, (ap length (c .before .before .before .before .before .before .before .before .put-starts .ensures) ∙ length-upto _ axisCodes, ap length (c .before .before .before .before .put-spans .ensures) ∙ length-upto _ axisCodes))
+
+put-last-row-requires : tie.Need-put-last-row-requires
+put-last-row-requires c κs = record { room = omega (arith, (c .before .before .before .put-mid-rows .ensures) .same, (c .before .before .before .put-mid-rows .ensures) .ends, (c .before .before .before .before .before .before .before .before .before .before .before .before .before .before .before .before .before .before .before .before .pre) .room, (c .before .before .before .before .before .before .before .before .before .before .before .before .before .before .before .before .before .before .before .before .pre) .some); long = (c .before .before .before .before .before .before .before .before .before .before .before .before .before .before .before .before .before .before .before .before .pre) .long; axes = (c .before .before .before .before .before .before .before .before .before .before .before .before .before .before .before .before .before .before .before .before .pre) .axes; shows = subst (λ (m : ℕ). m < 2 ^ axisCodes) (sym (c .before .before .before .before .before .before .before .before .before .before .before .before .before .before .drawn-axes .ensures)) (mask-lt _ axisCodes); onU = omega (arith, (c .before .before .before .before .before .before .before .before .before .before .before .before .before .before .before .before .plane-u .ensures) .1); onV = omega (arith, (c .before .before .before .before .before .before .before .before .before .before .before .before .before .before .before .plane-v .ensures) .1) }
+
+same-length : tie.Need-same-length
+same-length c = search needs
+
+returns : tie.Need-returns
+returns c = let hu : (c .before .before .before .before .before .before .before .before .before .before .before .before .before .before .before .before .before .before .before .plane-u .result) < axisCodes = omega (arith, (c .before .before .before .before .before .before .before .before .before .before .before .before .before .before .before .before .before .before .before .plane-u .ensures) .1) in
+    let hv : (c .before .before .before .before .before .before .before .before .before .before .before .before .before .before .before .before .before .before .plane-v .result) < axisCodes = omega (arith, (c .before .before .before .before .before .before .before .before .before .before .before .before .before .before .before .before .before .before .plane-v .ensures) .1) in
+    drawn-rows _ ((c .before .before .before .before .before .before .before .before .before .before .before .before .before .before .before .before .before .before .before .before .before .before .before .pre) .axes) _ _ _ hu hv _ ((c .before .before .before .before .before .before .before .before .before .before .before .before .before .before .before .before .before .before .before .plane-u .ensures) .0) ((c .before .before .before .before .before .before .before .before .before .before .before .before .before .before .before .before .before .before .plane-v .ensures) .0) _ _ _ (c .before .before .before .before .before .before .before .before .before .before .before .before .before .before .before .put-starts .ensures) (c .before .before .before .before .before .before .before .before .before .before .before .put-spans .ensures) _ ((c .before .before .before .before .before .before .before .before .before .before .before .before .before .before .before .before .before .before .before .before .before .before .before .pre) .some) (c .before .before .before .before .before .before .before .before .before .before .before .before .before .before .before .before .before .drawn-axes .ensures) refl ((c .before .before .before .before .before .before .before .before .before .before .before .before .before .before .before .before .before .before .before .before .before .before .before .pre) .room) (c .before .before .before .before .before .before .put-mid-rows .ensures) (c .before .before .put-last-row .ensures)
+
+pub draw-spec : {M : Type 1} → statement M
+draw-spec =
+    tie.close
+    (tie.spec
+    plane-u-requires
+    plane-v-requires
+    drawn-axes-requires
+    slice-aggregate-put-starts
+    put-starts-requires
+    slice-aggregate-put-spans
+    slice-aggregate-put-spans-2
+    put-spans-requires
+    slice-aggregate-put-mid-rows
+    slice-aggregate-put-mid-rows-2
+    put-mid-rows-requires
+    put-last-row-requires
+    same-length
+    returns)

@@ -1,0 +1,39 @@
+-- Document 01, "Arc": the rows of an arc, by the sentences of that section. Assumes nothing.
+use Prim.Native.Nat.{ℕ}
+use mathlib.Core.Bool.{true, false, cond}
+use mathlib.Core.List.{List}
+use mathlib.Core.Option.{Option, none, some, Option·getD}
+use lib.Dec.{eqb}
+use lib.Ieee.{Float}
+use Rattle.floats.specs.Numbers.{_⊕_, _⊖_, _⊗_, _⊘_, num, bits, ofNat}
+use Rattle.floats.specs.Lists.{member, opt}
+use Rattle.trig.specs.Trig.{sinSteps, cosSteps}
+use Rattle.arc_numbers.specs.Arc.{Ends, Arc, angleAt, radiusAt}
+use Rattle.rows.specs.Codes.{gOne, planeU, planeV}
+use Rattle.rows.specs.Row.{cell, madeRow}
+
+-- "Other programmed axes ramp; with unknown start they hold the end"
+unfoldable pub ramp : Option ℕ → ℕ → Float → Float
+ramp start end f = let s = num (Option·getD start end) in s ⊕ (num end ⊖ s) ⊗ f
+
+-- the cells of the last row: "The last takes the programmed end, or the held start of an unprogrammed plane axis"
+unfoldable pub lastCell : List ℕ → ℕ → Ends → List ℕ → ℕ → Option ℕ
+lastCell gs plane e r k =
+    cond (eqb k (planeU plane)) (some (bits (e .eu)))
+    (cond (eqb k (planeV plane)) (some (bits (e .ev)))
+    (cond (member k gs) (cell r k) none))
+
+-- the cells of the others, at the fraction f
+unfoldable pub midCell : List ℕ → ℕ → (ℕ → Option ℕ) → List ℕ → Arc → Float → ℕ → Option ℕ
+midCell gs plane pos r c f k =
+    let u : Option ℕ = some (bits (c .cu ⊕ radiusAt c f ⊗ cosSteps (angleAt c f))) in
+    let v : Option ℕ = some (bits (c .cv ⊕ radiusAt c f ⊗ sinSteps (angleAt c f))) in
+    let w : Option ℕ = opt (λ (end : ℕ). bits (ramp (pos k) end f)) (cell r k) in
+    cond (eqb k (planeU plane)) u (cond (eqb k (planeV plane)) v (cond (member k gs) w none))
+
+-- ".. unmarked. Others are marked"; "First row: motion G1"
+unfoldable pub arcRow : List ℕ → ℕ → (ℕ → Option ℕ) → List ℕ → Ends → Arc → ℕ → ℕ → List ℕ
+arcRow gs plane pos r e c n k =
+    let last = madeRow gs r (eqb k 1) gOne false (lastCell gs plane e r) in
+    let mid = madeRow gs r (eqb k 1) gOne true (midCell gs plane pos r c (ofNat k ⊘ ofNat n)) in
+    cond (eqb k n) last mid

@@ -1,0 +1,277 @@
+// The rows of an arc: samples along it, and its programmed end.
+use layout::R_PRESENT;
+ghost use mathlib.Core.Path.{_≡_};
+ghost use mathlib.Core.Bool.{_&&_};
+ghost use Prim.Native.Nat.{ℕ, _+_, _-_, _<_, _≤_};
+ghost use lib.ListN.{length};
+ghost use Rattle.floats.specs.Lists.{upto, flatten, spliced};
+ghost use Rattle.layout.specs.Layout.{axisCodes, rowWords};
+ghost use Rattle.rows.specs.Codes.{planeU, planeV};
+ghost use Rattle.rows.specs.Row.{has, shown, axesOf, presentOf};
+ghost use Rattle.rows.specs.Masks.{maskSum};
+ghost use Rattle.arc_numbers.specs.Types.{endsIs, arcIs};
+ghost use Rattle.arc_sample.specs.Samples.{arcRow};
+ghost use Rattle.arc_sample.specs.Rowing.{Rowing};
+ghost use Rattle.arc_sample.specs.Draw.{drawn, startOf, spanOf, rampOf, sampleWord, endWord, lastWord, midRow, midRows, lastRow, SampleOf, RowOf, RowsOf, DrawOf};
+
+const G1: u64 = 2;
+
+pub fn plane_u(plane: u64) -> usize
+    ensures { λ r. ⌜ (r ≡ planeU plane) × (r < 3) ⌝ }
+{
+    if plane == 18 {
+        2
+    } else if plane == 19 {
+        1
+    } else {
+        0
+    }
+}
+
+pub fn plane_v(plane: u64) -> usize
+    ensures { λ r. ⌜ (r ≡ planeV plane) × (r < 3) ⌝ }
+{
+    if plane == 18 {
+        0
+    } else if plane == 19 {
+        2
+    } else {
+        1
+    }
+}
+
+pub fn programs(gs: u64, present: u64, k: usize) -> bool
+    requires { ⌜ k < axisCodes ⌝ }
+    ensures { λ r. ⌜ r ≡ (has gs k && has present k) ⌝ }
+{
+    if rows::has_bit(gs, k as u64) {
+        rows::has_bit(present, k as u64)
+    } else {
+        false
+    }
+}
+
+// Whether the rows of an arc have axis k.
+fn draws(gs: u64, present: u64, u: usize, v: usize, k: usize) -> bool
+    requires { ⌜ k < axisCodes ⌝ }
+    ensures { λ r. ⌜ r ≡ drawn gs present u v k ⌝ }
+{
+    if k == u {
+        return true;
+    }
+    if k == v {
+        return true;
+    }
+    programs(gs, present, k)
+}
+
+fn drawn_axes(row: &[u64], gs: u64, u: usize, v: usize) -> u64
+    requires { ⌜ length (now row) ≡ rowWords ⌝ }
+    ensures { λ r. ⌜ r ≡ maskSum (drawn gs (presentOf (now (row .entry))) u v) axisCodes ⌝ }
+{
+    let present = row[R_PRESENT];
+    let mut m: u64 = 0;
+    let mut k: usize = 0;
+    while k < layout::AXIS_CODES {
+        m = rows::mask_with(m, k, draws(gs, present, u, v, k));
+        k += 1;
+    }
+    m
+}
+
+// Where axis k starts its ramp: at its position, or at its end where that is not known.
+fn start_on(row: &[u64], known: u64, at: &[u64], k: usize) -> f64
+    requires { ⌜ (length (now row) ≡ rowWords) × ((axisCodes ≤ length (now at)) × (k < axisCodes)) ⌝ }
+    ensures { λ r. ⌜ r ≡ startOf (now (row .entry)) (shown known (now (at .entry))) k ⌝ }
+{
+    if rows::has_bit(known, k as u64) {
+        return floats::of_bits(at[k]);
+    }
+    floats::of_bits(row[layout::R_CELLS + k])
+}
+
+fn put_starts(starts: &mut [f64], row: &[u64], known: u64, at: &[u64])
+    requires { ⌜ (length (now starts) ≡ axisCodes) × ((length (now row) ≡ rowWords) × (axisCodes ≤ length (now at))) ⌝ }
+    ensures { λ _. ⌜ now (starts .exit) ≡ upto (startOf (now (row .entry)) (shown known (now (at .entry)))) axisCodes ⌝ }
+{
+    let mut k: usize = 0;
+    while k < layout::AXIS_CODES {
+        starts[k] = start_on(row, known, at, k);
+        k += 1;
+    }
+}
+
+fn put_spans(spans: &mut [f64], row: &[u64], starts: &[f64])
+    requires { ⌜ (length (now spans) ≡ axisCodes) × ((length (now row) ≡ rowWords) × (length (now starts) ≡ axisCodes)) ⌝ }
+    ensures { λ _. ⌜ now (spans .exit) ≡ upto (spanOf (now (row .entry)) (now (starts .entry))) axisCodes ⌝ }
+{
+    let mut k: usize = 0;
+    while k < layout::AXIS_CODES {
+        spans[k] = floats::of_bits(row[layout::R_CELLS + k]) - starts[k];
+        k += 1;
+    }
+}
+
+// Every axis at the fraction f of its ramp.
+fn put_ramps(words: &mut [u64], starts: &[f64], spans: &[f64], f: f64)
+    requires { ⌜ (length (now words) ≡ axisCodes) × ((length (now starts) ≡ axisCodes) × (length (now spans) ≡ axisCodes)) ⌝ }
+    ensures { λ _. ⌜ now (words .exit) ≡ upto (rampOf (now (starts .entry)) (now (spans .entry)) f) axisCodes ⌝ }
+{
+    let mut k: usize = 0;
+    while k < layout::AXIS_CODES {
+        words[k] = floats::bits(starts[k] + spans[k] * f);
+        k += 1;
+    }
+}
+
+// The words of the sample at the fraction f.
+fn put_sample(
+    words: &mut [u64],
+    c: arc_numbers::Arc,
+    u: usize,
+    v: usize,
+    starts: &[f64],
+    spans: &[f64],
+    f: f64,
+)
+    requires { ⌜ SampleOf (now words) u v (now starts) (now spans) ⌝ }
+    ensures { λ _. ⌜ now (words .exit) ≡ upto (sampleWord (arcIs c) u v (now (starts .entry)) (now (spans .entry)) f) axisCodes ⌝ }
+{
+    put_ramps(words, starts, spans, f);
+    let p = arc_numbers::sample(c, f);
+    words[v] = floats::bits(p.v);
+    words[u] = floats::bits(p.u);
+}
+
+fn put_ends(words: &mut [u64], row: &[u64])
+    requires { ⌜ (length (now words) ≡ axisCodes) × (length (now row) ≡ rowWords) ⌝ }
+    ensures { λ _. ⌜ now (words .exit) ≡ upto (endWord (now (row .entry))) axisCodes ⌝ }
+{
+    let mut k: usize = 0;
+    while k < layout::AXIS_CODES {
+        words[k] = row[layout::R_CELLS + k];
+        k += 1;
+    }
+}
+
+// The words of the last row.
+fn put_last(words: &mut [u64], row: &[u64], e: arc_numbers::Ends, u: usize, v: usize)
+    requires { ⌜ (length (now words) ≡ axisCodes) × ((length (now row) ≡ rowWords) × ((u < axisCodes) × (v < axisCodes))) ⌝ }
+    ensures { λ _. ⌜ now (words .exit) ≡ upto (lastWord (endsIs e) u v (now (row .entry))) axisCodes ⌝ }
+{
+    put_ends(words, row);
+    words[v] = floats::bits(e.ev);
+    words[u] = floats::bits(e.eu);
+}
+
+// Row k of n, not the last.
+fn put_mid_row(
+    rows: &mut [u64],
+    place: usize,
+    row: &[u64],
+    gs: u64,
+    mask: u64,
+    c: arc_numbers::Arc,
+    u: usize,
+    v: usize,
+    starts: &[f64],
+    spans: &[f64],
+    k: usize,
+    n: f64,
+)
+    requires { ⌜ RowOf (now rows) place (now row) gs mask u v × ((length (now starts) ≡ axisCodes) × (length (now spans) ≡ axisCodes)) ⌝ }
+    ensures { λ _. ⌜ now (rows .exit) ≡ spliced (now (rows .entry)) place (midRow (axesOf gs) (now (row .entry)) mask (sampleWord (arcIs c) u v (now (starts .entry)) (now (spans .entry))) n k) ⌝ }
+{
+    let f = std::num::nearest_u64_to_f64(k as u64) / n;
+    let mut words = [0u64; layout::AXIS_CODES];
+    put_sample(&mut words, c, u, v, starts, spans, f);
+    rows::put_made(rows, place, row, gs, k == 1, G1, true, mask, &words);
+}
+
+// The rows before the last of n, and where they end.
+fn put_mid_rows(
+    rows: &mut [u64],
+    from: usize,
+    row: &[u64],
+    gs: u64,
+    mask: u64,
+    c: arc_numbers::Arc,
+    u: usize,
+    v: usize,
+    starts: &[f64],
+    spans: &[f64],
+    n: usize,
+) -> usize
+    requires { ⌜ RowsOf (now rows) from (now row) gs mask u v n × ((length (now starts) ≡ axisCodes) × (length (now spans) ≡ axisCodes)) ⌝ }
+    ensures { λ r. ⌜ Rowing (midRows (axesOf gs) (now (row .entry)) mask (sampleWord (arcIs c) u v (now (starts .entry)) (now (spans .entry))) n) from (n - 1) (now (rows .entry)) (now (rows .exit)) r ⌝ }
+{
+    let last = n - 1;
+    let whole = std::num::nearest_u64_to_f64(n as u64);
+    let mut place = from;
+    let mut j: usize = 0;
+    while j < last {
+        put_mid_row(
+            rows,
+            place,
+            row,
+            gs,
+            mask,
+            c,
+            u,
+            v,
+            starts,
+            spans,
+            j + 1,
+            whole,
+        );
+        place += layout::ROW_WORDS;
+        j += 1;
+    }
+    place
+}
+
+fn put_last_row(
+    rows: &mut [u64],
+    place: usize,
+    row: &[u64],
+    gs: u64,
+    mask: u64,
+    first: bool,
+    e: arc_numbers::Ends,
+    u: usize,
+    v: usize,
+)
+    requires { ⌜ RowOf (now rows) place (now row) gs mask u v ⌝ }
+    ensures { λ _. ⌜ now (rows .exit) ≡ spliced (now (rows .entry)) place (lastRow (axesOf gs) (now (row .entry)) mask (lastWord (endsIs e) u v (now (row .entry))) first) ⌝ }
+{
+    let mut words = [0u64; layout::AXIS_CODES];
+    put_last(&mut words, row, e, u, v);
+    rows::put_made(rows, place, row, gs, first, G1, false, mask, &words);
+}
+
+// The n rows of the arc c from e's start to its end.
+pub fn draw(
+    rows: &mut [u64],
+    from: usize,
+    row: &[u64],
+    gs: u64,
+    plane: u64,
+    known: u64,
+    at: &[u64],
+    e: arc_numbers::Ends,
+    c: arc_numbers::Arc,
+    n: usize,
+)
+    requires { ⌜ DrawOf (now rows) from (now row) gs (now at) n ⌝ }
+    ensures { λ _. ⌜ now (rows .exit) ≡ spliced (now (rows .entry)) from (flatten (upto (λ (k : ℕ). arcRow (axesOf gs) plane (shown known (now (at .entry))) (now (row .entry)) (endsIs e) (arcIs c) n (k + 1)) n)) ⌝ }
+{
+    let u = plane_u(plane);
+    let v = plane_v(plane);
+    let mask = drawn_axes(row, gs, u, v);
+    let mut starts = [0.0; layout::AXIS_CODES];
+    put_starts(&mut starts, row, known, at);
+    let mut spans = [0.0; layout::AXIS_CODES];
+    put_spans(&mut spans, row, &starts);
+    let place = put_mid_rows(rows, from, row, gs, mask, c, u, v, &starts, &spans, n);
+    put_last_row(rows, place, row, gs, mask, n == 1, e, u, v);
+}

@@ -1,0 +1,70 @@
+use mathlib.Core.Path.{_≡_, refl, sym, ap, _∙_}
+use native.Mathlib.Omega.{arith}
+use Rattle.bspline_tables.proofs.Steps.{degree-in, product-in, knots-are, knot-top}
+use borrow.Author.Needs.{needs}
+use Rattle.bspline_tables.proofs.tables.prepare_basis.Statement.{statement}
+use Rattle.bspline_tables.proofs.tables.prepare_basis.Tie as tie
+use Rattle.bspline_tables.proofs.tables.prepare_basis.Reads as reads
+use Rattle.bspline_tables.proofs.tables.prepare_basis.Lts as lts
+use Rattle.bspline_tables.proofs.tables.degree_of.Reads as degree-of-reads
+use Rattle.bspline_tables.proofs.tables.fill_controls.Reads as fill-controls-reads
+use Rattle.bspline_tables.proofs.tables.fill_knots.Reads as fill-knots-reads
+
+degree-of-requires : tie.Need-degree-of-requires
+degree-of-requires c κs = search needs
+
+sub-fill-knots : tie.Need-sub-fill-knots
+sub-fill-knots c = omega (arith, degree-in _ _ ((c .before .before .before .before .before .pre) .0 .0) (c .degree-of .ensures))
+
+add-fill-knots : tie.Need-add-fill-knots
+add-fill-knots c = omega (arith, degree-in _ _ ((c .before .before .before .before .before .pre) .0 .0) (c .degree-of .ensures))
+
+add-fill-knots-2 : tie.Need-add-fill-knots-2
+add-fill-knots-2 c = omega (arith, degree-in _ _ ((c .before .before .before .before .before .pre) .0 .0) (c .degree-of .ensures))
+
+fill-knots-requires : tie.Need-fill-knots-requires
+fill-knots-requires c κs = (omega arith, omega (arith, degree-in _ _ ((c .before .before .before .before .before .before .pre) .0 .0) (c .before .degree-of .ensures)))
+
+fill-controls-requires : tie.Need-fill-controls-requires
+fill-controls-requires c κs = (((c .before .before .before .before .before .before .before .before .before .before .pre) .0 .1 .1, (c .before .before .before .before .before .before .before .before .before .before .pre) .0 .1 .0), ((c .before .before .before .before .before .before .before .before .before .before .pre) .1 .0 .0, ((c .before .before .before .before .before .before .before .before .before .before .pre) .1 .0 .1, product-in _ _ _ ((c .before .before .before .before .before .before .before .before .before .before .pre) .0 .1 .1) ((c .before .before .before .before .before .before .before .before .before .before .pre) .1 .1 .1))))
+
+same-length : tie.Need-same-length
+same-length c = search needs
+
+same-length-2 : tie.Need-same-length-2
+same-length-2 c = search needs
+
+returns : tie.Need-returns
+returns c = let i = degree-in _ _ ((c .before .before .before .before .before .before .before .before .before .before .before .before .before .pre) .0 .0) (c .before .before .before .before .before .before .before .before .degree-of .ensures) in
+    let k = (c .before .before .before .before .before .before .fill-knots .kept .1 .1 .1 .0) in
+    let w = (c .before .before .fill-controls .kept .1 .1 .1 .1 .0) in
+    record {
+      tables = record {
+        some = i .0;
+        under = i .1;
+        few = (c .before .before .before .before .before .before .before .before .before .before .before .before .before .pre) .0 .1 .0;
+        narrow = (c .before .before .before .before .before .before .before .before .before .before .before .before .before .pre) .0 .1 .1;
+        knots = omega (arith, i, k, (c .before .before .before .before .before .before .before .before .before .before .before .before .before .pre) .1 .1 .0, (c .before .before .before .before .before .before .before .before .before .before .before .before .before .pre) .0 .1 .0);
+        controls = product-in _ _ _ ((c .before .before .before .before .before .before .before .before .before .before .before .before .before .pre) .0 .1 .1) (omega (arith, w, (c .before .before .before .before .before .before .before .before .before .before .before .before .before .pre) .1 .1 .1));
+        top = knot-top _ _ _ (c .before .before .before .before .before .before .fill-knots .ensures);
+      };
+      power = (c .before .before .before .before .before .before .before .before .degree-of .ensures);
+      knot = knots-are _ _ _ (c .before .before .before .before .before .before .fill-knots .ensures);
+      control = (c .before .before .fill-controls .ensures);
+      points = (c .before .before .before .before .before .before .before .before .before .before .before .before .before .pre) .1 .0 .0;
+      weights = (c .before .before .before .before .before .before .before .before .before .before .before .before .before .pre) .1 .0 .1;
+    }
+
+pub prepare-basis-spec : {M : Type 1} → statement M
+prepare-basis-spec =
+    tie.close
+    (tie.spec
+    degree-of-requires
+    sub-fill-knots
+    add-fill-knots
+    add-fill-knots-2
+    fill-knots-requires
+    fill-controls-requires
+    same-length
+    same-length-2
+    returns)

@@ -1,0 +1,22 @@
+-- Document 01, "Seed: 9 (state fields), 2, 3": what a seed answers and leaves. Assumes nothing.
+use Prim.Native.Nat.{ℕ}
+use mathlib.Core.Bool.{Bool, cond}
+use mathlib.Core.List.{List}
+use lib.Dec.{leb}
+use Rattle.layout.specs.Layout.{lastCode}
+use Rattle.floats.specs.Lists.{member}
+use Rattle.rows.specs.Row.{within}
+use Rattle.saved_state.specs.State.{stateOk, geometric, placed}
+use Rattle.call_reply.specs.Replies.{plain, AfterState}
+
+-- "Seeding codes 10-14 or an axis not listed replies 0 and changes nothing"
+unfoldable pub seeded : List ℕ → ℕ → ℕ → List ℕ
+seeded st code x = cond (member code (geometric st)) (placed st code x) st
+
+unfoldable pub seedSpec : List ℕ → ℕ → ℕ → AfterState
+seedSpec st code x =
+    cond (stateOk st)
+    (cond (leb code lastCode)
+    (cond (within x) (record { reply = plain 0; state = seeded st code x }) (record { reply = plain 3; state = st }))
+    (record { reply = plain 2; state = st }))
+    (record { reply = plain 9; state = st })

@@ -1,0 +1,20 @@
+use mathlib.Core.Path.{sym, ap, _∙_, subst}
+use lib.Dec.{T}
+use lib.Ieee.{binary64, ofBits}
+use lib.Ieee.Bits.{ofBits-toBits}
+use Rattle.csv_decimal.specs.Decimal.{millionths}
+use borrow.Author.Needs.{needs}
+use Rattle.csv_decimal.proofs.in_millionths.Statement.{statement}
+use Rattle.csv_decimal.proofs.in_millionths.Tie as tie
+
+bits-requires : tie.Need-bits-requires
+bits-requires c κs = search needs
+
+size-of-bits-requires : tie.Need-size-of-bits-requires
+size-of-bits-requires c κs = search needs
+
+returns : tie.Need-returns
+returns c = (c .size-of-bits .ensures) ∙ ap millionths (ap (ofBits binary64) (c .before .bits .ensures) ∙ ofBits-toBits binary64 _ (subst T (sym (c .before .before .good .0 .1)) tt))
+
+pub in-millionths-spec : {M : Type 1} → statement M
+in-millionths-spec = tie.close (tie.spec bits-requires size-of-bits-requires returns)

@@ -1,0 +1,21 @@
+use mathlib.Core.Path.{_∙_}
+use borrow.Author.Needs.{needs}
+use Rattle.curve_metric.proofs.Sums.{near-is}
+use Rattle.curve_metric.proofs.is_near.Statement.{statement}
+use Rattle.curve_metric.proofs.is_near.Tie as tie
+use Rattle.curve_metric.proofs.is_near.Reads as reads
+use Rattle.curve_metric.proofs.is_near.Lts as lts
+use Rattle.curve_metric.proofs.deviation2.Reads as deviation2-reads
+use Rattle.root.proofs.at_most.root_at_most.Reads as root-at-most-reads
+
+deviation2-requires : tie.Need-deviation2-requires
+deviation2-requires c κs = search needs
+
+root-at-most-requires : tie.Need-root-at-most-requires
+root-at-most-requires c κs = search needs
+
+returns : tie.Need-returns
+returns c = c .root-at-most .ensures ∙ near-is _ _ _ _ _ (c .before .deviation2 .ensures)
+
+pub is-near-spec : {M : Type 1} → statement M
+is-near-spec = tie.close (tie.spec deviation2-requires root-at-most-requires returns)

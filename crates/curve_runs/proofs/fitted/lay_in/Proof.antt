@@ -1,0 +1,133 @@
+use mathlib.Core.Path.{sym}
+use Prim.Native.Nat.{_*_}
+use native.Mathlib.Omega.{arith}
+use lib.Seq.{length-take-le}
+use Rattle.curve_runs.proofs.Laying.{cells-in, fit-room, back-length, copy-room, laid}
+use borrow.Author.Needs.{needs}
+use Rattle.curve_runs.proofs.fitted.lay_in.Statement.{statement}
+use Rattle.curve_runs.proofs.fitted.lay_in.Tie as tie
+
+add-times : tie.Need-add-times
+add-times c = search needs
+
+mul-w : tie.Need-mul-w
+mul-w c = search needs
+
+add-end : tie.Need-add-end
+add-end c = search needs
+
+chord-parameters-requires : tie.Need-chord-parameters-requires
+chord-parameters-requires c κs = search needs
+
+slice-reshare-prefix-copy-to : tie.Need-slice-reshare-prefix-copy-to
+slice-reshare-prefix-copy-to c = search needs
+
+slice-aggregate-copy-to : tie.Need-slice-aggregate-copy-to
+slice-aggregate-copy-to c = sym (length-take-le (c .before .before .before .before .before .before .before .before .before .before .before .args .n) (c .before .before .before .chord-parameters .last .1 .1 .1 .1 .0) (omega (arith, (c .before .before .before .chord-parameters .kept .1 .1 .1 .1 .0), (c .before .before .before .before .before .before .before .before .before .before .before .pre) .1 .1 .1 .0)))
+
+copy-to-requires : tie.Need-copy-to-requires
+copy-to-requires c κs = omega (arith, length-take-le (c .before .before .before .before .before .before .before .before .before .before .before .before .args .n) (c .before .before .before .before .chord-parameters .last .1 .1 .1 .1 .0) (omega (arith, (c .before .before .before .before .chord-parameters .kept .1 .1 .1 .1 .0), (c .before .before .before .before .before .before .before .before .before .before .before .before .pre) .1 .1 .1 .0)), (c .before .before .before .before .before .before .before .before .before .before .before .before .pre) .1 .1 .0 .0)
+
+slice-reshare-prefix-prepare-fit : tie.Need-slice-reshare-prefix-prepare-fit
+slice-reshare-prefix-prepare-fit c = search needs
+
+slice-aggregate-prepare-fit : tie.Need-slice-aggregate-prepare-fit
+slice-aggregate-prepare-fit c = sym (length-take-le (c .before .before .before .before .before .before .before .before .before .before .before .before .before .before .before .before .args .n) (c .before .before .before .before .before .before .before .before .chord-parameters .last .1 .1 .1 .1 .0) (omega (arith, (c .before .before .before .before .before .before .before .before .chord-parameters .kept .1 .1 .1 .1 .0), (c .before .before .before .before .before .before .before .before .before .before .before .before .before .before .before .before .pre) .1 .1 .1 .0)))
+
+mul-prepare-fit : tie.Need-mul-prepare-fit
+mul-prepare-fit c = search needs
+
+sub-prepare-fit : tie.Need-sub-prepare-fit
+sub-prepare-fit c = search needs
+
+part-prepare-fit-start : tie.Need-part-prepare-fit-start
+part-prepare-fit-start c = search needs
+
+part-prepare-fit-end : tie.Need-part-prepare-fit-end
+part-prepare-fit-end c = search needs
+
+slice-relend-prefix-prepare-fit : tie.Need-slice-relend-prefix-prepare-fit
+slice-relend-prefix-prepare-fit c = omega (arith, cells-in (c .before .before .before .before .before .before .before .before .before .before .before .before .before .before .before .before .before .args .n) (c .before .before .before .before .before .before .before .before .before .before .before .before .before .before .before .before .before .args .ch) ((c .before .before .before .before .before .before .before .before .before .before .before .before .before .before .before .before .before .pre) .0 .1 .1), (c .before .before .before .before .before .before .before .before .before .before .before .before .before .before .before .before .before .pre) .1 .1 .0 .1)
+
+slice-aggregate-prepare-fit-2 : tie.Need-slice-aggregate-prepare-fit-2
+slice-aggregate-prepare-fit-2 c = sym (length-take-le _ (c .before .before .before .before .before .before .before .before .before .before .before .before .before .before .before .before .before .before .args .cs .now) (omega (arith, cells-in (c .before .before .before .before .before .before .before .before .before .before .before .before .before .before .before .before .before .before .args .n) (c .before .before .before .before .before .before .before .before .before .before .before .before .before .before .before .before .before .before .args .ch) ((c .before .before .before .before .before .before .before .before .before .before .before .before .before .before .before .before .before .before .pre) .0 .1 .1), (c .before .before .before .before .before .before .before .before .before .before .before .before .before .before .before .before .before .before .pre) .1 .1 .0 .1)))
+
+slice-relend-prefix-prepare-fit-2 : tie.Need-slice-relend-prefix-prepare-fit-2
+slice-relend-prefix-prepare-fit-2 c = search needs
+
+slice-aggregate-prepare-fit-3 : tie.Need-slice-aggregate-prepare-fit-3
+slice-aggregate-prepare-fit-3 c = sym (length-take-le _ (c .before .before .before .before .before .before .before .before .before .before .before .before .before .before .before .before .before .before .before .args .slopes .now) ((c .before .before .before .before .before .before .before .before .before .before .before .before .before .before .before .before .before .before .before .pre) .1 .1 .1 .1))
+
+prepare-fit-requires : tie.Need-prepare-fit-requires
+prepare-fit-requires c κs = fit-room _ _ (c .before .before .before .before .before .before .copy-to .last .1 .0) (c .before .before .before .before .before .before .before .before .before .before .before .before .before .before .before .before .before .before .before .args .cs .now) (c .before .before .before .before .before .before .before .before .before .before .before .before .before .before .before .before .before .before .before .args .slopes .now) ((c .before .before .before .before .before .before .before .before .before .before .before .before .before .before .before .before .before .before .before .pre) .0 .0) ((c .before .before .before .before .before .before .before .before .before .before .before .before .before .before .before .before .before .before .before .pre) .0 .1 .0) ((c .before .before .before .before .before .before .before .before .before .before .before .before .before .before .before .before .before .before .before .pre) .0 .1 .1) ((c .before .before .before .before .before .before .before .before .before .before .before .before .before .before .before .before .before .before .before .pre) .1 .0 .1) (length-take-le (c .before .before .before .before .before .before .before .before .before .before .before .before .before .before .before .before .before .before .before .args .n) (c .before .before .before .before .before .before .before .before .before .before .before .chord-parameters .last .1 .1 .1 .1 .0) (omega (arith, (c .before .before .before .before .before .before .before .before .before .before .before .chord-parameters .kept .1 .1 .1 .1 .0), (c .before .before .before .before .before .before .before .before .before .before .before .before .before .before .before .before .before .before .before .pre) .1 .1 .1 .0))) (omega (arith, (c .before .before .before .before .before .before .copy-to .kept .1 .0), (c .before .before .before .before .before .before .before .before .before .before .before .before .before .before .before .before .before .before .before .pre) .1 .1 .0 .0)) ((c .before .before .before .before .before .before .before .before .before .before .before .before .before .before .before .before .before .before .before .pre) .1 .1 .0 .1) ((c .before .before .before .before .before .before .before .before .before .before .before .before .before .before .before .before .before .before .before .pre) .1 .1 .1 .1)
+
+slice-reshare-prefix-copy-to-2 : tie.Need-slice-reshare-prefix-copy-to-2
+slice-reshare-prefix-copy-to-2 c = omega (arith, back-length (c .before .before .before .before .before .before .before .before .before .before .before .before .before .before .before .before .before .before .before .before .before .before .before .before .before .before .args .slopes .now) (c .before .before .before .before .before .before .prepare-fit .last .1 .1 .1 .1 .1 .1 .1 .0) ((c .before .before .before .before .before .before .before .before .before .before .before .before .before .before .before .before .before .before .before .before .before .before .before .before .before .before .args .n) * (c .before .before .before .before .before .before .before .before .before .before .before .before .before .before .before .before .before .before .before .before .before .before .before .before .before .before .args .ch)) (c .before .before .before .before .before .before .prepare-fit .kept .1 .1 .1 .1 .1 .1 .1 .0) ((c .before .before .before .before .before .before .before .before .before .before .before .before .before .before .before .before .before .before .before .before .before .before .before .before .before .before .pre) .1 .1 .1 .1), (c .before .before .before .before .before .before .before .before .before .before .before .before .before .before .before .before .before .before .before .before .before .before .before .before .before .before .pre) .1 .1 .1 .1)
+
+slice-aggregate-copy-to-2 : tie.Need-slice-aggregate-copy-to-2
+slice-aggregate-copy-to-2 c = sym (length-take-le _ _ (omega (arith, back-length (c .before .before .before .before .before .before .before .before .before .before .before .before .before .before .before .before .before .before .before .before .before .before .before .before .before .before .before .args .slopes .now) (c .before .before .before .before .before .before .before .prepare-fit .last .1 .1 .1 .1 .1 .1 .1 .0) ((c .before .before .before .before .before .before .before .before .before .before .before .before .before .before .before .before .before .before .before .before .before .before .before .before .before .before .before .args .n) * (c .before .before .before .before .before .before .before .before .before .before .before .before .before .before .before .before .before .before .before .before .before .before .before .before .before .before .before .args .ch)) (c .before .before .before .before .before .before .before .prepare-fit .kept .1 .1 .1 .1 .1 .1 .1 .0) ((c .before .before .before .before .before .before .before .before .before .before .before .before .before .before .before .before .before .before .before .before .before .before .before .before .before .before .before .pre) .1 .1 .1 .1), (c .before .before .before .before .before .before .before .before .before .before .before .before .before .before .before .before .before .before .before .before .before .before .before .before .before .before .before .pre) .1 .1 .1 .1)))
+
+mul-copy-to : tie.Need-mul-copy-to
+mul-copy-to c = omega (arith, cells-in (c .before .before .before .before .before .before .before .before .before .before .before .before .before .before .before .before .before .before .before .before .before .before .before .before .before .before .before .args .n) (c .before .before .before .before .before .before .before .before .before .before .before .before .before .before .before .before .before .before .before .before .before .before .before .before .before .before .before .args .ch) ((c .before .before .before .before .before .before .before .before .before .before .before .before .before .before .before .before .before .before .before .before .before .before .before .before .before .before .before .pre) .0 .1 .1), (c .before .before .before .before .before .before .before .before .before .before .before .before .before .before .before .before .before .before .before .before .before .before .before .before .before .before .before .pre) .0 .1 .0)
+
+sub-copy-to : tie.Need-sub-copy-to
+sub-copy-to c = search needs
+
+part-copy-to-start : tie.Need-part-copy-to-start
+part-copy-to-start c = search needs
+
+part-copy-to-end : tie.Need-part-copy-to-end
+part-copy-to-end c = omega (arith, back-length (c .before .before .before .before .before .before .before .before .before .before .before .before .before .before .before .before .before .before .before .before .before .before .before .before .before .before .before .args .cs .now) (c .before .before .before .before .before .before .before .prepare-fit .last .1 .1 .1 .1 .1 .1 .0) ((c .before .before .before .before .before .before .before .before .before .before .before .before .before .before .before .before .before .before .before .before .before .before .before .before .before .before .before .args .n) * (c .before .before .before .before .before .before .before .before .before .before .before .before .before .before .before .before .before .before .before .before .before .before .before .before .before .before .before .args .ch)) (c .before .before .before .before .before .before .before .prepare-fit .kept .1 .1 .1 .1 .1 .1 .0) (omega (arith, cells-in (c .before .before .before .before .before .before .before .before .before .before .before .before .before .before .before .before .before .before .before .before .before .before .before .before .before .before .before .args .n) (c .before .before .before .before .before .before .before .before .before .before .before .before .before .before .before .before .before .before .before .before .before .before .before .before .before .before .before .args .ch) ((c .before .before .before .before .before .before .before .before .before .before .before .before .before .before .before .before .before .before .before .before .before .before .before .before .before .before .before .pre) .0 .1 .1), (c .before .before .before .before .before .before .before .before .before .before .before .before .before .before .before .before .before .before .before .before .before .before .before .before .before .before .before .pre) .1 .1 .0 .1)), cells-in (c .before .before .before .before .before .before .before .before .before .before .before .before .before .before .before .before .before .before .before .before .before .before .before .before .before .before .before .args .n) (c .before .before .before .before .before .before .before .before .before .before .before .before .before .before .before .before .before .before .before .before .before .before .before .before .before .before .before .args .ch) ((c .before .before .before .before .before .before .before .before .before .before .before .before .before .before .before .before .before .before .before .before .before .before .before .before .before .before .before .pre) .0 .1 .1), (c .before .before .before .before .before .before .before .before .before .before .before .before .before .before .before .before .before .before .before .before .before .before .before .before .before .before .before .pre) .1 .1 .0 .1)
+
+copy-to-requires-2 : tie.Need-copy-to-requires-2
+copy-to-requires-2 c κs = copy-room ((c .before .before .before .before .before .before .before .before .before .before .before .before .before .before .before .before .before .before .before .before .before .before .before .before .before .before .before .before .args .n) * (c .before .before .before .before .before .before .before .before .before .before .before .before .before .before .before .before .before .before .before .before .before .before .before .before .before .before .before .before .args .ch)) (c .before .before .before .before .before .before .before .before .before .before .before .before .before .before .before .before .before .before .before .before .before .before .before .before .before .before .before .before .args .cs .now) (c .before .before .before .before .before .before .before .before .before .before .before .before .before .before .before .before .before .before .before .before .before .before .before .before .before .before .before .before .args .slopes .now) (c .before .before .before .before .before .before .before .before .prepare-fit .last .1 .1 .1 .1 .1 .1 .0) (c .before .before .before .before .before .before .before .before .prepare-fit .last .1 .1 .1 .1 .1 .1 .1 .0) (omega (arith, cells-in (c .before .before .before .before .before .before .before .before .before .before .before .before .before .before .before .before .before .before .before .before .before .before .before .before .before .before .before .before .args .n) (c .before .before .before .before .before .before .before .before .before .before .before .before .before .before .before .before .before .before .before .before .before .before .before .before .before .before .before .before .args .ch) ((c .before .before .before .before .before .before .before .before .before .before .before .before .before .before .before .before .before .before .before .before .before .before .before .before .before .before .before .before .pre) .0 .1 .1), (c .before .before .before .before .before .before .before .before .before .before .before .before .before .before .before .before .before .before .before .before .before .before .before .before .before .before .before .before .pre) .1 .1 .0 .1)) ((c .before .before .before .before .before .before .before .before .before .before .before .before .before .before .before .before .before .before .before .before .before .before .before .before .before .before .before .before .pre) .1 .1 .1 .1) (c .before .before .before .before .before .before .before .before .prepare-fit .kept .1 .1 .1 .1 .1 .1 .0) (c .before .before .before .before .before .before .before .before .prepare-fit .kept .1 .1 .1 .1 .1 .1 .1 .0)
+
+same-length : tie.Need-same-length
+same-length c = search needs
+
+same-length-2 : tie.Need-same-length-2
+same-length-2 c = search needs
+
+same-length-3 : tie.Need-same-length-3
+same-length-3 c = search needs
+
+same-length-4 : tie.Need-same-length-4
+same-length-4 c = search needs
+
+returns : tie.Need-returns
+returns c = laid (c .before .before .before .before .before .before .before .before .before .before .before .before .before .before .before .before .before .before .before .before .before .before .before .before .before .before .before .before .before .before .before .args .cubic) (c .before .before .before .before .before .before .before .before .before .before .before .before .before .before .before .before .before .before .before .before .before .before .before .before .before .before .before .before .before .before .before .args .n) (c .before .before .before .before .before .before .before .before .before .before .before .before .before .before .before .before .before .before .before .before .before .before .before .before .before .before .before .before .before .before .before .args .ch) (c .before .before .before .before .before .before .before .before .before .before .before .before .before .before .before .before .before .before .before .before .before .before .before .before .before .before .before .before .before .before .before .args .ms .now) (c .before .before .before .before .before .before .before .before .before .before .before .before .before .before .before .before .before .before .before .before .before .before .before .before .before .before .before .before .before .before .before .args .pts .now) (c .before .before .before .before .before .before .before .before .before .before .before .before .before .before .before .before .before .before .before .before .before .before .before .before .before .before .before .before .before .before .before .args .ks .now) (c .before .before .before .before .before .before .before .before .before .before .before .before .before .before .before .before .before .before .before .before .before .before .before .before .before .before .before .before .before .before .before .args .cs .now) (c .before .before .before .before .before .before .before .before .before .before .before .before .before .before .before .before .before .before .before .before .before .before .before .before .before .before .before .before .before .before .before .args .slopes .now) _ {ts = (c .before .before .before .before .before .before .before .before .before .before .before .before .before .before .before .before .before .before .before .before .before .before .before .chord-parameters .last .1 .1 .1 .1 .0)} {fts = (c .before .before .before .before .before .before .before .before .before .before .before .prepare-fit .last .1 .1 .1 .1 .1 .0)} {fps = (c .before .before .before .before .before .before .before .before .before .before .before .prepare-fit .last .1 .1 .1 .1 .1 .1 .0)} {bends = (c .before .before .before .before .before .before .before .before .before .before .before .prepare-fit .last .1 .1 .1 .1 .1 .1 .1 .0)} ((c .before .before .before .before .before .before .before .before .before .before .before .before .before .before .before .before .before .before .before .before .before .before .before .before .before .before .before .before .before .before .before .pre) .1 .1 .0 .0) (omega (arith, cells-in (c .before .before .before .before .before .before .before .before .before .before .before .before .before .before .before .before .before .before .before .before .before .before .before .before .before .before .before .before .before .before .before .args .n) (c .before .before .before .before .before .before .before .before .before .before .before .before .before .before .before .before .before .before .before .before .before .before .before .before .before .before .before .before .before .before .before .args .ch) ((c .before .before .before .before .before .before .before .before .before .before .before .before .before .before .before .before .before .before .before .before .before .before .before .before .before .before .before .before .before .before .before .pre) .0 .1 .1), (c .before .before .before .before .before .before .before .before .before .before .before .before .before .before .before .before .before .before .before .before .before .before .before .before .before .before .before .before .before .before .before .pre) .1 .1 .0 .1)) ((c .before .before .before .before .before .before .before .before .before .before .before .before .before .before .before .before .before .before .before .before .before .before .before .before .before .before .before .before .before .before .before .pre) .1 .1 .1 .1) (omega (arith, (c .before .before .before .before .before .before .before .before .before .before .before .before .before .before .before .before .before .before .before .before .before .before .before .chord-parameters .kept .1 .1 .1 .1 .0), (c .before .before .before .before .before .before .before .before .before .before .before .before .before .before .before .before .before .before .before .before .before .before .before .before .before .before .before .before .before .before .before .pre) .1 .1 .1 .0)) (c .before .before .before .before .before .before .before .before .before .before .before .before .before .before .before .before .before .before .before .before .before .before .before .chord-parameters .ensures) (c .before .before .before .before .before .before .before .before .before .before .before .before .before .before .before .before .before .before .copy-to .ensures) (c .before .before .before .before .before .before .before .before .before .before .before .prepare-fit .kept .1 .1 .1 .1 .1 .0) (c .before .before .before .before .before .before .before .before .before .before .before .prepare-fit .kept .1 .1 .1 .1 .1 .1 .0) (c .before .before .before .before .before .before .before .before .before .before .before .prepare-fit .kept .1 .1 .1 .1 .1 .1 .1 .0) (c .before .before .copy-to2 .ensures) (c .before .before .before .before .before .before .before .before .before .before .before .prepare-fit .ensures)
+
+pub lay-in-spec : {M : Type 1} → statement M
+lay-in-spec =
+    tie.close
+    (tie.spec
+    add-times
+    mul-w
+    add-end
+    chord-parameters-requires
+    slice-reshare-prefix-copy-to
+    slice-aggregate-copy-to
+    copy-to-requires
+    slice-reshare-prefix-prepare-fit
+    slice-aggregate-prepare-fit
+    mul-prepare-fit
+    sub-prepare-fit
+    part-prepare-fit-start
+    part-prepare-fit-end
+    slice-relend-prefix-prepare-fit
+    slice-aggregate-prepare-fit-2
+    slice-relend-prefix-prepare-fit-2
+    slice-aggregate-prepare-fit-3
+    prepare-fit-requires
+    slice-reshare-prefix-copy-to-2
+    slice-aggregate-copy-to-2
+    mul-copy-to
+    sub-copy-to
+    part-copy-to-start
+    part-copy-to-end
+    copy-to-requires-2
+    same-length
+    same-length-2
+    same-length-3
+    same-length-4
+    returns)

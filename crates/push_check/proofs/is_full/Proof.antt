@@ -1,0 +1,41 @@
+-- `push_check::is_full` meets its contract. Assumes nothing.
+use mathlib.Core.Path.{sym, ap, ap₂, _∙_}
+use lib.Dec.{leb}
+use borrow.Author.Tests.{not-true, not-false}
+use Rattle.rows.specs.Truth.{and-t, and-f}
+use Rattle.rows.specs.Codes.{isSpline}
+use Rattle.push_check.specs.Blocks.{isFull}
+use borrow.Author.Needs.{needs}
+use Rattle.push_check.proofs.is_full.Statement.{statement}
+use Rattle.push_check.proofs.is_full.Tie as tie
+
+motion-then-requires : tie.Need-motion-then-requires
+motion-then-requires c κs = search needs
+
+is-spline-requires : tie.Need-is-spline-requires
+is-spline-requires c κs = search needs
+
+returns : tie.Need-returns
+unfolding isFull
+returns c = sym (and-f _ (ap isSpline (sym (c .before .before .motion-then .ensures)) ∙ sym (c .before .is-spline .ensures) ∙ not-true (c .before .is-spline .result) (c .if1 .taken)))
+
+block-room-requires : tie.Need-block-room-requires
+block-room-requires c κs = search needs
+
+kept-requires : tie.Need-kept-requires
+kept-requires c κs = search needs
+
+returns-2 : tie.Need-returns-2
+unfolding isFull
+returns-2 c = ap₂ leb (c .before .block-room .ensures) (c .kept .ensures) ∙ sym (and-t _ (ap isSpline (sym (c .before .before .before .before .motion-then .ensures)) ∙ sym (c .before .before .before .is-spline .ensures) ∙ not-false (c .before .before .before .is-spline .result) (c .before .before .if1 .left)))
+
+pub is-full-spec : {M : Type 1} → statement M
+is-full-spec =
+    tie.close
+    (tie.spec
+    motion-then-requires
+    is-spline-requires
+    returns
+    block-room-requires
+    kept-requires
+    returns-2)

@@ -1,0 +1,111 @@
+-- What the steps of a push lean on: each store to the state, put together to the definition's step. Assumes nothing.
+use Prim.Native.Nat.{ℕ, _+_, _<_, _≤_, min, max}
+use mathlib.Core.Path.{_≡_, _∙_, ap, ap₂}
+use mathlib.Core.Bool.{Bool, true, false, cond}
+use mathlib.Core.List.{List, [], _∷_}
+use mathlib.Core.Option.{Option, none, some, Option·getD}
+use native.Mathlib.Omega.{arith}
+use lib.ListN.{length, getD, set}
+use lib.Seq.{getD-set-other}
+use lib.Dec.{eqb}
+use Rattle.floats.specs.Numbers.{num}
+use Rattle.floats.specs.Lists.{upto, spliced}
+use Rattle.floats.specs.Fill.{upto-below}
+use Rattle.floats.specs.Splice.{Splicing, set-spliced, spliced-spliced}
+use Rattle.whole.specs.Whole.{truncCount}
+use Rattle.layout.specs.Layout.{axisCodes, rCells, wMotion, wPlane, wKnown, wWarned, wStart, wDegree, wHeld, stateWords, mostHeld, mostDegree, cSD}
+use Rattle.rows.specs.Codes.{isSpline}
+use Rattle.rows.specs.Row.{has, cell, number, presentOf, motionOf}
+use Rattle.rows.specs.Truth.{by-bit}
+use Rattle.saved_state.specs.State.{held, degree, pointWord, position, withBit}
+use Rattle.push_check.specs.Blocks.{emits, motionThen, planeThen, news}
+use Rattle.push_state.specs.Pushed.{forgotten, opened, degreeWith, buffered, trackTo, pushState}
+use Rattle.push_check.specs.BlockLaws.{Block}
+use Rattle.push_state.specs.PushLaws.{block-same, SameAxes, same-refl, same-trans, same-set, same-cond, same-forgotten, same-opened, same-buffered, held-forgotten, below-spliced}
+
+-- ---- opening: a position is read below the words that are written
+pub position-under : (f : ℕ → ℕ) (n : ℕ) (st st′ : List ℕ) (k : ℕ) → Splicing f (wStart + 1) n st st′ → length st ≡ stateWords → k < axisCodes → position st′ k ≡ position st k
+unfolding pointWord
+position-under f n st st′ k s h l =
+    ap₂ (λ (p x : ℕ). cond (has p k) (some x) none)
+    (ap (λ (l : List ℕ). getD l wKnown 0) (s .is) ∙ below-spliced st (wStart + 1) (upto f n) wKnown (omega arith) (omega arith))
+    (ap (λ (l : List ℕ). getD l (wKnown + 1 + k) 0) (s .is) ∙ below-spliced st (wStart + 1) (upto f n) (wKnown + 1 + k) (omega arith) (omega arith))
+
+position-mask : (st : List ℕ) (m k : ℕ) → k < axisCodes → position (set st wStart m) k ≡ position st k
+unfolding pointWord
+position-mask st m k l =
+    ap₂ (λ (p x : ℕ). cond (has p k) (some x) none)
+    (getD-set-other st wStart wKnown m 0 (λ e. omega arith))
+    (getD-set-other st wStart (wKnown + 1 + k) m 0 (λ e. omega arith))
+
+pub open-done : (st t : List ℕ) → length st ≡ stateWords
+    → t ≡ spliced (set st wStart (getD st wKnown 0)) (wStart + 1) (upto (λ (k : ℕ). Option·getD (position (set st wStart (getD st wKnown 0)) k) 0) axisCodes)
+    → set t wDegree 3 ≡ opened st
+unfolding opened
+open-done st t h e =
+    ap (λ (l : List ℕ). set l wDegree 3)
+    (e
+    ∙ ap (spliced (set st wStart (getD st wKnown 0)) (wStart + 1)) (upto-below _ _ axisCodes (λ k l. ap (λ (o : Option ℕ). Option·getD o 0) (position-mask st (getD st wKnown 0) k l)))
+    ∙ ap (λ (l : List ℕ). spliced l (wStart + 1) (upto (λ (k : ℕ). Option·getD (position st k) 0) axisCodes)) (set-spliced st wStart (getD st wKnown 0) (omega arith))
+    ∙ spliced-spliced st wStart (getD st wKnown 0 ∷ []) (upto (λ (k : ℕ). Option·getD (position st k) 0) axisCodes) (omega arith))
+
+pub open-length : (st t : List ℕ) → length st ≡ stateWords
+    → t ≡ spliced (set st wStart (getD st wKnown 0)) (wStart + 1) (upto (λ (k : ℕ). Option·getD (position (set st wStart (getD st wKnown 0)) k) 0) axisCodes)
+    → length (set t wDegree 3) ≡ length st
+open-length st t h e = ap length (open-done st t h e) ∙ same-opened st h .long
+
+-- ---- the degree
+module _ (d : ℕ) (r : List ℕ) where
+  pub degree-there : has (presentOf r) cSD ≡ true → degreeWith d (number r cSD) ≡ max 1 (min mostDegree (truncCount (num (getD r (rCells + cSD) 0))))
+  unfolding number cell degreeWith
+  degree-there b = rw b
+
+  pub degree-absent : has (presentOf r) cSD ≡ false → degreeWith d (number r cSD) ≡ d
+  unfolding number cell degreeWith
+  degree-absent b = rw b
+
+pub buffer-done : (st r s : List ℕ) (d : ℕ) → s ≡ cond (eqb (held st) 0) (opened st) st → d ≡ degreeWith (degree s) (number r cSD)
+    → set (set s wDegree d) wHeld (held st + 1) ≡ buffered st r
+unfolding buffered
+buffer-done st r s d e f = rw (f, e)
+
+-- ---- the whole state, step by step
+pub record Step1 (st r s1 : List ℕ) (motion plane : ℕ) (emitted : Bool) : Type 0 where
+  pub block : Block st r
+  pub motion-is : motion ≡ motionThen st r
+  pub plane-is : plane ≡ planeThen st r
+  pub emitted-is : emitted ≡ emits st r
+  pub is : s1 ≡ cond emitted (forgotten st) st
+
+module _ (st r s1 s2 : List ℕ) (motion plane : ℕ) (emitted : Bool) (p : Step1 st r s1 motion plane emitted)
+    (h2 : s2 ≡ set (set s1 wMotion motion) wPlane plane) where
+  same-2 : SameAxes st s2
+  same-2 =
+      rw (h2, p .is)
+      (same-trans (same-cond emitted (same-forgotten st (p .block .long)) (same-refl st))
+      (same-trans (same-set (cond emitted (forgotten st) st) wMotion motion (omega arith)) (same-set (set (cond emitted (forgotten st) st) wMotion motion) wPlane plane (omega arith))))
+
+  pub block-2 : Block s2 r
+  block-2 = block-same (p .block) same-2
+
+  pub held-2 : held st ≤ mostHeld → held s2 ≤ mostHeld
+  held-2 l =
+      rw (h2, getD-set-other (set s1 wMotion motion) wPlane wHeld plane 0 (λ e. omega arith), getD-set-other s1 wMotion wHeld motion 0 (λ e. omega arith), p .is)
+      (by-bit emitted (λ t. rw (t, held-forgotten st (p .block .long)) (omega arith)) (λ t. rw t l))
+
+  module _ (s3 : List ℕ) (spline new : Bool) (h3 : s3 ≡ cond spline (buffered s2 r) s2) where
+    same-3 : SameAxes st s3
+    same-3 = rw h3 (same-cond spline (same-trans same-2 (same-buffered s2 r (block-2 .long))) same-2)
+
+    pub long-3 : length s3 ≡ stateWords
+    long-3 = same-3 .long ∙ p .block .long
+
+    module _ (s4 : List ℕ) (h4 : s4 ≡ cond new (set s3 wWarned (withBit (getD s3 wWarned 0) (motionOf r))) s3) where
+      pub block-4 : Block s4 r
+      block-4 =
+          block-same (p .block)
+          (rw h4 (same-cond new (same-trans same-3 (same-set s3 wWarned (withBit (getD s3 wWarned 0) (motionOf r)) (omega arith))) same-3))
+
+      pub state-done : (s5 : List ℕ) → spline ≡ isSpline motion → new ≡ news st r → s5 ≡ trackTo axisCodes s4 r → s5 ≡ pushState st r
+      unfolding pushState
+      state-done s5 hs hn h5 = rw (h5, h4, h3, h2, p .is, hs, p .motion-is, p .plane-is, hn, p .emitted-is)

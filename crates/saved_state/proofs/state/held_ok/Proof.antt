@@ -1,0 +1,44 @@
+-- `saved_state::state::held_ok` meets its contract. Assumes nothing.
+use mathlib.Core.Path.{sym, _∙_}
+use borrow.Author.Tests.{le-leb, lt-leb, eq-eqb, ne-eqb}
+use Rattle.rows.specs.Truth.{and-t, and-f, or-t, or-f}
+use Rattle.saved_state.specs.State.{heldOk}
+use borrow.Author.Needs.{needs}
+use Rattle.saved_state.proofs.state.held_ok.Statement.{statement}
+use Rattle.saved_state.proofs.state.held_ok.Tie as tie
+
+shared-slice-read-if1 : tie.Need-shared-slice-read-if1
+shared-slice-read-if1 c = search needs
+
+returns : tie.Need-returns
+unfolding heldOk
+returns c = sym (and-f _ (lt-leb _ _ (c .if1 .taken)))
+
+shared-slice-read-if2 : tie.Need-shared-slice-read-if2
+shared-slice-read-if2 c = search needs
+
+returns-2 : tie.Need-returns-2
+unfolding heldOk
+returns-2 c = sym (and-t _ (le-leb _ _ (c .before .before .if1 .left)) ∙ or-t _ (eq-eqb _ _ (c .if2 .taken)))
+
+shared-slice-read-is-spline : tie.Need-shared-slice-read-is-spline
+shared-slice-read-is-spline c = search needs
+
+is-spline-requires : tie.Need-is-spline-requires
+is-spline-requires c κs = search needs
+
+returns-3 : tie.Need-returns-3
+unfolding heldOk
+returns-3 c = (c .is-spline .ensures) ∙ sym (and-t _ (le-leb _ _ (c .before .before .before .before .if1 .left)) ∙ or-f _ (ne-eqb _ _ (c .before .before .if2 .left)))
+
+pub held-ok-spec : {M : Type 1} → statement M
+held-ok-spec =
+    tie.close
+    (tie.spec
+    shared-slice-read-if1
+    returns
+    shared-slice-read-if2
+    returns-2
+    shared-slice-read-is-spline
+    is-spline-requires
+    returns-3)

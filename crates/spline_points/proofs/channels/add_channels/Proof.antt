@@ -1,0 +1,64 @@
+use mathlib.Core.Path.{_≡_, refl, sym, ap, _∙_}
+use mathlib.Core.List.{List, [], _∷_}
+use Prim.Native.Nat.{ℕ, _≤_, _-_, _+_}
+use native.Mathlib.Omega.{arith}
+use lib.ListN.{length, getD, take}
+use Rattle.floats.specs.Lists.{keep}
+use Rattle.spline_points.specs.Channels.{isNew, channel-room, channel-step}
+use Rattle.spline_points.specs.Append.{Appended, appended-none, appended-all}
+use borrow.Author.Needs.{needs}
+use Rattle.spline_points.proofs.channels.add_channels.Statement.{statement}
+use Rattle.spline_points.proofs.channels.add_channels.Tie as tie
+use Rattle.spline_points.proofs.channels.add_channels.Reads as reads
+use Rattle.spline_points.proofs.channels.add_channels.Lts as lts
+use Rattle.spline_points.proofs.channels.add_channel.Reads as add-channel-reads
+
+abbrev Inv-loop : tie.InvT-loop
+Inv-loop axes present chans₀ n m₀ i₀ chans m i = (i ≤ length axes) × Appended (keep (isNew present (take n chans₀)) (take i axes)) n chans₀ chans m
+
+abbrev μ-loop : tie.MeasureT-loop
+μ-loop axes present chans₀ n m₀ i₀ chans m i = length axes - i
+
+loop-holds : tie.Need-loop-holds Inv-loop μ-loop
+unfolding keep
+loop-holds c = (omega arith, appended-none)
+
+mul-add-channel : tie.Need-mul-add-channel Inv-loop μ-loop
+mul-add-channel c = search needs
+
+shared-slice-read-add-channel : tie.Need-shared-slice-read-add-channel Inv-loop μ-loop
+shared-slice-read-add-channel c = search needs
+
+add-channel-requires : tie.Need-add-channel-requires Inv-loop μ-loop
+add-channel-requires c κs = channel-room _ _ _ _ (c .before .before .before .before .before .before .pre) (c .before .before .loop-test .taken) ((c .before .before .before .loop .inv) .1)
+
+add-i : tie.Need-add-i Inv-loop μ-loop
+add-i c = search needs
+
+loop-less : tie.Need-loop-less Inv-loop μ-loop
+loop-less c = search needs
+
+loop-again : tie.Need-loop-again Inv-loop μ-loop
+loop-again c = (omega arith, channel-step _ _ _ _ (c .before .before .before .before .before .before .before .before .before .pre) (c .before .before .before .before .before .loop-test .taken) ((c .before .before .before .before .before .before .loop .inv) .1) (c .before .before .add-channel .ensures))
+
+same-length : tie.Need-same-length Inv-loop μ-loop
+same-length c = (c .before .loop .inv) .1 .same
+
+returns : tie.Need-returns Inv-loop μ-loop
+returns c = appended-all _ _ _ (c .loop-test .left) ((c .before .loop .inv) .1)
+
+pub add-channels-spec : {M : Type 1} → statement M
+add-channels-spec =
+    tie.close
+    (tie.spec
+    Inv-loop
+    μ-loop
+    loop-holds
+    mul-add-channel
+    shared-slice-read-add-channel
+    add-channel-requires
+    add-i
+    loop-less
+    loop-again
+    same-length
+    returns)

@@ -1,0 +1,21 @@
+use mathlib.Core.Path.{_≡_, sym, _∙_}
+use lib.Dec.{leb}
+use borrow.Author.Tests.{le-leb, lt-leb}
+use borrow.Author.Needs.{needs}
+use Rattle.spline_points.proofs.channels.programs.Statement.{statement}
+use Rattle.spline_points.proofs.channels.programs.Tie as tie
+use Rattle.spline_points.proofs.channels.programs.Reads as reads
+use Rattle.spline_points.proofs.channels.programs.Lts as lts
+use Rattle.rows.proofs.has_bit.Reads as has-bit-reads
+
+returns : tie.Need-returns
+returns c = rw (lt-leb _ 9 (c .if1 .taken))
+
+has-bit-requires : tie.Need-has-bit-requires
+has-bit-requires c κs = search needs
+
+returns-2 : tie.Need-returns-2
+returns-2 c = (c .has-bit .ensures) ∙ rw (le-leb _ 9 (c .before .if1 .left))
+
+pub programs-spec : {M : Type 1} → statement M
+programs-spec = tie.close (tie.spec returns has-bit-requires returns-2)

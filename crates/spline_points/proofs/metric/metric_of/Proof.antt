@@ -1,0 +1,35 @@
+use mathlib.Core.Path.{_≡_, refl, sym, ap, _∙_}
+use Prim.Native.Nat.{ℕ}
+use native.Mathlib.Omega.{arith}
+use Rattle.spline_points.specs.Channels.{metric-all, metric-xyz}
+use Rattle.spline_points.specs.Append.{Appended, appended-fresh, appended-as}
+use borrow.Author.Needs.{needs}
+use Rattle.spline_points.proofs.metric.metric_of.Statement.{statement}
+use Rattle.spline_points.proofs.metric.metric_of.Tie as tie
+use Rattle.spline_points.proofs.metric.metric_of.Reads as reads
+use Rattle.spline_points.proofs.metric.metric_of.Lts as lts
+use Rattle.spline_points.proofs.metric.all_places.Reads as all-places-reads
+use Rattle.spline_points.proofs.metric.xyz_places.Reads as xyz-places-reads
+
+xyz-places-requires : tie.Need-xyz-places-requires
+xyz-places-requires c κs = search needs
+
+all-places-requires : tie.Need-all-places-requires
+all-places-requires c κs = search needs
+
+same-length : tie.Need-same-length
+same-length c = search needs
+
+returns : tie.Need-returns
+returns c = appended-as (metric-all _ (omega (arith, (c .before .before .before .before .before .before .before .xyz-places .ensures) .count, (c .before .before .before .before .if1 .taken)))) (appended-fresh ((c .before .before .before .before .before .before .before .xyz-places .ensures) .same) (c .before .before .all-places .ensures))
+
+same-length-2 : tie.Need-same-length-2
+same-length-2 c = search needs
+
+returns-2 : tie.Need-returns-2
+returns-2 c = appended-as (metric-xyz _ (λ e. (c .if1 .left) (omega (arith, (c .before .before .before .xyz-places .ensures) .count)))) (c .before .before .before .xyz-places .ensures)
+
+pub metric-of-spec : {M : Type 1} → statement M
+metric-of-spec =
+    tie.close
+    (tie.spec xyz-places-requires all-places-requires same-length returns same-length-2 returns-2)

@@ -1,0 +1,74 @@
+use mathlib.Core.Path.{_≡_, refl, sym, ap, _∙_}
+use mathlib.Core.List.{map}
+use Prim.Native.Nat.{ℕ, _≤_, _+_, _-_}
+use native.Mathlib.Omega.{arith}
+use lib.ListN.{length, take}
+use lib.Seq.{take-all}
+use Rattle.floats.specs.Lists.{upto}
+use Rattle.rows.specs.Row.{shown}
+use Rattle.spline_points.specs.Points.{startValue, blockAt}
+use Rattle.spline_points.specs.Append.{Appended, appended-none, appended-to, appended-as}
+use Rattle.spline_points.specs.Curve.{start-step}
+use borrow.Author.Needs.{needs}
+use Rattle.spline_points.proofs.points.start_point.Statement.{statement}
+use Rattle.spline_points.proofs.points.start_point.Tie as tie
+use Rattle.spline_points.proofs.points.start_point.Reads as reads
+use Rattle.spline_points.proofs.points.start_point.Lts as lts
+use Rattle.spline_points.proofs.points.start_value.Reads as start-value-reads
+
+abbrev Inv-loop : tie.InvT-loop
+Inv-loop start words store held chans pts₀ c₀ pts c = (c ≤ length chans) × Appended (map (startValue (shown start words) (upto (blockAt store) held)) (take c chans)) 0 pts₀ pts c
+
+abbrev μ-loop : tie.MeasureT-loop
+μ-loop start words store held chans pts₀ c₀ pts c = length chans - c
+
+loop-holds : tie.Need-loop-holds Inv-loop μ-loop
+loop-holds c = (omega arith, appended-none)
+
+mul-start-value : tie.Need-mul-start-value Inv-loop μ-loop
+mul-start-value c = search needs
+
+shared-slice-read-start-value : tie.Need-shared-slice-read-start-value Inv-loop μ-loop
+shared-slice-read-start-value c = search needs
+
+start-value-requires : tie.Need-start-value-requires Inv-loop μ-loop
+start-value-requires c κs = (search needs, (search needs, (c .before .before .before .before .before .before .before .pre) .0 .1 .1 .axis _ (c .before .loop-test .taken)))
+
+mul-pts : tie.Need-mul-pts Inv-loop μ-loop
+mul-pts c = search needs
+
+slice-write-pts : tie.Need-slice-write-pts Inv-loop μ-loop
+slice-write-pts c = omega (arith, (c .before .before .before .loop .inv) .1 .same)
+
+add-c : tie.Need-add-c Inv-loop μ-loop
+add-c c = search needs
+
+loop-less : tie.Need-loop-less Inv-loop μ-loop
+loop-less c = search needs
+
+loop-again : tie.Need-loop-again Inv-loop μ-loop
+loop-again c = (omega arith, start-step _ _ _ (c .before .before .loop-test .taken) (omega arith) (c .start-value .ensures) ((c .before .before .before .loop .inv) .1))
+
+same-length : tie.Need-same-length Inv-loop μ-loop
+same-length c = (c .before .loop .inv) .1 .same
+
+returns : tie.Need-returns Inv-loop μ-loop
+returns c = appended-to (appended-as (ap (map _) (take-all _ _ (c .loop-test .left))) ((c .before .loop .inv) .1)) (omega arith)
+
+pub start-point-spec : {M : Type 1} → statement M
+start-point-spec =
+    tie.close
+    (tie.spec
+    Inv-loop
+    μ-loop
+    loop-holds
+    mul-start-value
+    shared-slice-read-start-value
+    start-value-requires
+    mul-pts
+    slice-write-pts
+    add-c
+    loop-less
+    loop-again
+    same-length
+    returns)

@@ -1,0 +1,14 @@
+use Rattle.spline_places.specs.Puts.{motion-first, motion-later}
+use Rattle.spline_rows.proofs.motion_of.Statement.{statement}
+use Rattle.spline_rows.proofs.motion_of.Tie as tie
+use Rattle.spline_rows.proofs.motion_of.Reads as reads
+use Rattle.spline_rows.proofs.motion_of.Lts as lts
+
+returns : tie.Need-returns
+returns c = motion-first _ (c .if1 .taken)
+
+returns-2 : tie.Need-returns-2
+returns-2 c = motion-later _ (c .if1 .left)
+
+pub motion-of-spec : {M : Type 1} → statement M
+motion-of-spec = tie.close (tie.spec returns returns-2)

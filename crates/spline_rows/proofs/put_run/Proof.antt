@@ -1,0 +1,53 @@
+use mathlib.Core.Path.{_≡_, refl, sym, ap, _∙_}
+use Prim.Native.Nat.{ℕ, _+_, _*_, _≤_, _-_}
+use native.Mathlib.Omega.{arith}
+use lib.ListN.{length}
+use Rattle.spline_places.specs.Raw.{rawRow, rawAt}
+use Rattle.spline_places.specs.Puts.{Backward, backward-none, run-again, run-end, puts-same}
+use borrow.Author.Needs.{needs}
+use Rattle.spline_rows.proofs.put_run.Statement.{statement}
+use Rattle.spline_rows.proofs.put_run.Tie as tie
+use Rattle.spline_rows.proofs.put_run.Reads as reads
+use Rattle.spline_rows.proofs.put_run.Lts as lts
+use Rattle.spline_rows.proofs.put_sample.Reads as put-sample-reads
+
+abbrev Inv-loop : tie.InvT-loop
+Inv-loop o places place c row rows₀ t₀ rows t = (t ≤ c) × Backward (rawRow o places (place .points) c row (λ (u : ℕ). rawAt (o .ch) rows₀ (place .samples + u))) c t ((place .rows + t) * 29) rows₀ rows
+
+abbrev μ-loop : tie.MeasureT-loop
+μ-loop o places place c row rows₀ t₀ rows t = t
+
+loop-holds : tie.Need-loop-holds Inv-loop μ-loop
+loop-holds c = (omega arith, backward-none _ _ _ _ _ refl)
+
+sub-t : tie.Need-sub-t Inv-loop μ-loop
+sub-t c = search needs
+
+put-sample-requires : tie.Need-put-sample-requires Inv-loop μ-loop
+put-sample-requires c κs = (puts-same _ _ _ _ _ _ _ ((c .before .before .loop .inv) .1 .same) (c .before .before .before .before .before .before .pre), omega arith)
+
+loop-less : tie.Need-loop-less Inv-loop μ-loop
+loop-less c = search needs
+
+loop-again : tie.Need-loop-again Inv-loop μ-loop
+loop-again c = (omega arith, run-again _ _ _ _ _ _ (c .before .before .before .before .before .before .before .before .before .pre) _ _ _ (c .before .before .before .before .loop-test .taken) ((c .before .before .before .before .before .loop .inv) .0) ((c .before .before .before .before .before .loop .inv) .1) ((c .before .before .put-sample .kept .1 .1 .1 .1 .1 .1 .0)) (c .before .before .put-sample .ensures))
+
+same-length : tie.Need-same-length Inv-loop μ-loop
+same-length c = (c .before .loop .inv) .1 .same
+
+returns : tie.Need-returns Inv-loop μ-loop
+returns c = run-end _ _ _ _ _ _ (c .before .before .before .before .before .pre) _ _ (omega arith) ((c .before .loop .inv) .1)
+
+pub put-run-spec : {M : Type 1} → statement M
+put-run-spec =
+    tie.close
+    (tie.spec
+    Inv-loop
+    μ-loop
+    loop-holds
+    sub-t
+    put-sample-requires
+    loop-less
+    loop-again
+    same-length
+    returns)

@@ -1,0 +1,58 @@
+use mathlib.Core.Path.{_≡_, refl, sym, _∙_}
+use Prim.Native.Nat.{ℕ, _+_, _≤_, _-_}
+use native.Mathlib.Omega.{arith}
+use lib.ListN.{length, replicate}
+use Rattle.floats.specs.Lists.{filled}
+use Rattle.floats.specs.Fill.{Filling, filling-none, filling-more}
+use Rattle.spline_places.specs.Raw.{rawWord}
+use borrow.Author.Needs.{needs}
+use Rattle.spline_rows.proofs.sample_words.Statement.{statement}
+use Rattle.spline_rows.proofs.sample_words.Tie as tie
+use Rattle.spline_rows.proofs.sample_words.Reads as reads
+use Rattle.spline_rows.proofs.sample_words.Lts as lts
+use Rattle.spline_rows.proofs.sample_word.Reads as sample-word-reads
+
+abbrev Inv-loop : tie.InvT-loop
+Inv-loop rows from mask places words₀ k₀ words k = (k ≤ 10) × Filling (rawWord mask places rows from) k (replicate 10 0) words
+
+abbrev μ-loop : tie.MeasureT-loop
+μ-loop rows from mask places words₀ k₀ words k = 10 - k
+
+loop-holds : tie.Need-loop-holds Inv-loop μ-loop
+loop-holds c = (omega arith, filling-none)
+
+sample-word-requires : tie.Need-sample-word-requires Inv-loop μ-loop
+sample-word-requires c κs = search needs
+
+mul-words : tie.Need-mul-words Inv-loop μ-loop
+mul-words c = search needs
+
+array-write-words : tie.Need-array-write-words Inv-loop μ-loop
+array-write-words c = search needs
+
+add-k : tie.Need-add-k Inv-loop μ-loop
+add-k c = search needs
+
+loop-less : tie.Need-loop-less Inv-loop μ-loop
+loop-less c = search needs
+
+loop-again : tie.Need-loop-again Inv-loop μ-loop
+loop-again c = (omega arith, filling-more ((c .before .before .loop .inv) .1) (omega arith) (c .sample-word .ensures))
+
+returns : tie.Need-returns Inv-loop μ-loop
+returns c = let e : (c .before .loop .k) ≡ 10 = omega arith in rw e at ((c .before .loop .inv) .1 .is)
+
+pub sample-words-spec : {M : Type 1} → statement M
+sample-words-spec =
+    tie.close
+    (tie.spec
+    Inv-loop
+    μ-loop
+    loop-holds
+    sample-word-requires
+    mul-words
+    array-write-words
+    add-k
+    loop-less
+    loop-again
+    returns)
