@@ -7,7 +7,7 @@ use lib.Dec.{ltb}
 use borrow.Author.Tests.{ltb-true, lt-ltb}
 use Rattle.layout.specs.Layout.{axisCodes}
 use Rattle.rows.specs.Row.{has, presentOf, hasPoint, axesOf}
-use Rattle.rows.specs.Truth.{and-left, and-right, and-i}
+use Rattle.floats.specs.Truth.{and-left, and-right, and-i}
 use Rattle.rows.specs.Masks.{member-axes}
 use Rattle.arc_rows.specs.ArcLaws.{any-there, any-none}
 

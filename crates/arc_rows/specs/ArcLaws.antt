@@ -13,9 +13,10 @@ use Rattle.floats.specs.Numbers.{ofNat, _⊘_}
 use Rattle.floats.specs.Lists.{member, anyOf, flatten}
 use Rattle.floats.specs.Fill.{length-upto, upto-same}
 use Rattle.layout.specs.Layout.{axisCodes, cells, rowWords}
-use Rattle.rows.specs.Codes.{gOne, planeU, planeV}
+use Rattle.motion.specs.Motion.{gOne}
+use Rattle.rows.specs.Codes.{planeU, planeV}
 use Rattle.rows.specs.Row.{has, cell, presentOf, hasPoint, lineOf, motionOf, planeOf, markOf, carryOf, rowOf, outRow, madeRow, rides, withRiders}
-use Rattle.rows.specs.Truth.{by-bit}
+use Rattle.floats.specs.Truth.{by-bit}
 use Rattle.rows.specs.RowLaws.{made-same, made-cell, madeCell, length-out}
 use Rattle.arc_sample.specs.Rowing.{length-rows, flatten-one}
 use Rattle.arc_sample.specs.Draw.{arc-long}

@@ -10,7 +10,7 @@ use lib.Seq.{drop-length, ext-getD, getD-set-same, getD-set-other}
 use borrow.Author.Tests.{eqb-true, eqb-false}
 use Rattle.floats.specs.Lists.{upto, filled}
 use Rattle.floats.specs.Fill.{length-upto, at-upto, Filling}
-use Rattle.rows.specs.Truth.{by-bit}
+use Rattle.floats.specs.Truth.{by-bit}
 
 whole-filled : {A : Type 0} (f : ℕ → A) (n : ℕ) (l : List A) → length l ≡ n → filled f n l ≡ upto f n
 whole-filled f n l e = ap (λ (k : ℕ). upto f n ++ drop k l) (sym e) ∙ ap (λ (r : List _). upto f n ++ r) (drop-length l) ∙ append-nil (upto f n)

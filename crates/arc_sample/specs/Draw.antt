@@ -15,9 +15,10 @@ use Rattle.floats.specs.Lists.{upto, member, opt, flatten, spliced}
 use Rattle.floats.specs.Fill.{at-upto, lt-or-le}
 use Rattle.trig.specs.Trig.{sinSteps, cosSteps}
 use Rattle.layout.specs.Layout.{axisCodes, rCells, rowWords}
-use Rattle.rows.specs.Codes.{gOne, planeU, planeV}
+use Rattle.motion.specs.Motion.{gOne}
+use Rattle.rows.specs.Codes.{planeU, planeV}
 use Rattle.rows.specs.Row.{has, cell, shown, presentOf, axesOf, madeRow}
-use Rattle.rows.specs.Truth.{by-bit}
+use Rattle.floats.specs.Truth.{by-bit}
 use Rattle.rows.specs.Masks.{maskSum, mask-lt, has-mask, has-past, member-small}
 use Rattle.rows.specs.RowLaws.{made-same, length-made}
 use Rattle.arc_numbers.specs.Arc.{Ends, Arc, angleAt, radiusAt}

@@ -9,7 +9,8 @@ use Rattle.floats.specs.Numbers.{_⊕_, _⊖_, _⊗_, _⊘_, num, bits, ofNat}
 use Rattle.floats.specs.Lists.{member, opt}
 use Rattle.trig.specs.Trig.{sinSteps, cosSteps}
 use Rattle.arc_numbers.specs.Arc.{Ends, Arc, angleAt, radiusAt}
-use Rattle.rows.specs.Codes.{gOne, planeU, planeV}
+use Rattle.motion.specs.Motion.{gOne}
+use Rattle.rows.specs.Codes.{planeU, planeV}
 use Rattle.rows.specs.Row.{cell, madeRow}
 
 -- "Other programmed axes ramp; with unknown start they hold the end"

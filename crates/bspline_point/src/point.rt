@@ -1,13 +1,13 @@
 // The point of a B-spline at a parameter.
+use crate::boor::climb_up;
+use crate::boor::load_rows;
+use crate::boor::project_first;
+use crate::boor::row_width;
 use bspline_low::four::fourth_in;
 use bspline_low::four::project_four;
 use bspline_low::low::project_three;
 use bspline_low::low::project_tops;
 use bspline_low::low::shares_in;
-use crate::boor::climb_up;
-use crate::boor::load_rows;
-use crate::boor::project_first;
-use crate::boor::row_width;
 ghost use mathlib.Core.Path.{_≡_};
 ghost use Prim.Native.Nat.{_≤_, _<_, _+_, _*_, _-_};
 ghost use lib.ListN.{length, replicate};

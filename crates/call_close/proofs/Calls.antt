@@ -8,7 +8,7 @@ use borrow.Author.Tests.{eq-eqb, ne-eqb, le-leb, lt-leb}
 use Rattle.floats.specs.Lists.{flatten, spliced}
 use Rattle.floats.specs.Splice.{spliced-none}
 use Rattle.layout.specs.Layout.{rowWords, wStart, stateWords}
-use Rattle.rows.specs.Truth.{cond-t, cond-f}
+use Rattle.floats.specs.Truth.{cond-t, cond-f}
 use Rattle.saved_state.specs.State.{axisCount, held, motionNow, degree, tolerance, savedCheck}
 use Rattle.call_reply.specs.Replies.{plain, After, tooFew, doneReply}
 use Rattle.call_close.specs.Held.{emission}

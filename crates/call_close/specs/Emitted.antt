@@ -9,12 +9,12 @@ use lib.ListN.{length, getD, take, drop, length-append, length-take, length-drop
 use lib.Dec.{leb, eqb}
 use lib.Ieee.{Float}
 use borrow.Author.Tests.{eq-eqb, le-leb, lt-leb, not-true}
-use Rattle.floats.specs.Lists.{upto, flatten, keep, spliced}
+use Rattle.floats.specs.Lists.{upto, flatten, keep, spliced, all}
 use Rattle.floats.specs.Fill.{length-upto}
 use Rattle.layout.specs.Layout.{axisCodes, rowWords, wAxes, wStart, stateWords, mostHeld, lastCode}
-use Rattle.rows.specs.Row.{all, shown, hasPoint}
+use Rattle.rows.specs.Row.{shown, hasPoint}
 use Rattle.rows.specs.RowLaws.{length-out, length-made}
-use Rattle.rows.specs.Truth.{by-bit, cond-t, cond-f, all-at, and-right}
+use Rattle.floats.specs.Truth.{by-bit, cond-t, cond-f, all-at, and-right}
 use Rattle.spline_points.specs.Points.{Spline, channels, pointRows, startPoint, pointsFrom, metricOf, splineOf}
 use Rattle.spline_points.specs.Channels.{Once}
 use Rattle.spline_points.specs.Flat.{Sized, sized-append, sized-cons, flatten-append, length-flatten}

@@ -7,7 +7,7 @@ use lib.Dec.{ltb, eqb}
 use Rattle.call_reply.specs.Replies.{plain, AfterState}
 use Rattle.floats.specs.Lists.{upto}
 use Rattle.layout.specs.Layout.{wAxes, wMotion, wPlane, wDegree, stateWords}
-use Rattle.rows.specs.Codes.{gOne}
+use Rattle.motion.specs.Motion.{gOne}
 use Rattle.saved_state.specs.State.{tolOk, codesOk}
 
 -- "Fresh state: linear, plane 17, no position known": word i

@@ -1,6 +1,6 @@
 -- The size in millionths of a number, from its value and from the fields of its pattern. Assumes nothing.
 use mathlib.Core.Path.{_≡_, refl, sym, ap, _∙_, subst}
-use Prim.Native.Nat.{ℕ, zero, suc, _+_, _-_, _*_, _/_, _%_, _^_, _≤_, _<_, min}
+use Prim.Native.Nat.{ℕ, zero, suc, _+_, _-_, _*_, _/_, _%_, _^_, _≤_, _<_, min, compare}
 use native.Mathlib.Nat.{le-trans, le-of-eq, le-of-lt, lt-of-le-of-lt, mul-assoc, mul-right-comm, mul-one, zero-mul, mul-le-mul, mul-le-mul-right, le-div-iff-mul-le, add-comm}
 use native.Mathlib.Omega.{arith}
 use mathlib.Core.Bool.{Bool, true, false, not, cond}
@@ -11,7 +11,6 @@ use lib.Ieee.Fits.{down-pos}
 use lib.Ieee.Bits.{cond-no}
 use lib.Ieee.Exact.{HasValue, odd-sign}
 use lib.Ieee.Nearest.{closest, closest-same, nearest-ge}
-use Prim.Native.Nat.{compare}
 use Rattle.csv_decimal.specs.Decimal.{millionths}
 use Rattle.csv_decimal.specs.Near.{closest-above}
 

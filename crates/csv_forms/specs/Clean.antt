@@ -7,13 +7,12 @@ use native.Mathlib.Omega.{arith}
 use lib.Dec.{T, ltb, eqb}
 use lib.Ieee.Fits.{and-l, and-r, and-i}
 use borrow.Author.Tests.{ltb-false, ne-eqb}
-use Rattle.floats.specs.Lists.{upto}
+use Rattle.floats.specs.Lists.{upto, all}
 use Rattle.csv_fields.specs.Read.{isDigit}
 use Rattle.csv_fields.specs.Grammar.{allDigits}
 use Rattle.csv_words.specs.Words.{wordAt}
 use Rattle.csv_line.specs.LineText.{comma, parted, onFirst, tailed, joined}
 use Rattle.csv_line.specs.All.{all-at}
-use Rattle.rows.specs.Row.{all}
 
 -- RFC 4180: TEXTDATA has no quote, comma, CR or LF
 abbrev pub cleanByte : ℕ → Bool

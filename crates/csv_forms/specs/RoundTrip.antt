@@ -13,11 +13,11 @@ use lib.Ieee.Fits.{and-i, cond-fits, div-fits, neg-fits}
 use lib.Ieee.Bits.{ofBits-toBits}
 use borrow.Author.Tests.{ne-eqb, lt-ltb, ltb-true}
 use Rattle.floats.specs.Numbers.{num, bits}
-use Rattle.floats.specs.Lists.{upto, isSome}
+use Rattle.floats.specs.Lists.{upto, isSome, all}
 use Rattle.floats.specs.Fill.{length-upto}
 use Rattle.layout.specs.Layout.{rCells, cells}
 use Rattle.rows.specs.Codes.{planeOk}
-use Rattle.rows.specs.Row.{all, has, maskOf, rowOf, presentOf, lineOf, motionOf, planeOf, markOf}
+use Rattle.rows.specs.Row.{has, maskOf, rowOf, presentOf, lineOf, motionOf, planeOf, markOf}
 use Rattle.csv_decimal.specs.Decimal.{millionths, quotient, width}
 use Rattle.csv_fields.specs.declared.Number.{Number}
 use Rattle.csv_fields.specs.declared.Number.the-variants as Number

@@ -5,7 +5,7 @@ use mathlib.Core.Bool.{true}
 use native.Mathlib.Omega.{arith}
 use lib.Dec.{eqb}
 use borrow.Author.Tests.{eqb-true}
-use Rattle.rows.specs.Row.{all}
+use Rattle.floats.specs.Lists.{all}
 use Rattle.csv_line.specs.LineText.{codeAt}
 use Rattle.csv_line.specs.All.{all-at}
 

@@ -4,7 +4,7 @@ use mathlib.Core.Path.{_≡_, refl, sym, ap, _∙_}
 use mathlib.Core.Bool.{Bool, true, false, _&&_, false≢true}
 use native.Mathlib.Omega.{arith}
 use native.Mathlib.Decide.{ℕ-discrete}
-use Rattle.rows.specs.Row.{all}
+use Rattle.floats.specs.Lists.{all}
 
 pub both-left : (a b : Bool) → (a && b) ≡ true → a ≡ true
 both-left true b e = refl

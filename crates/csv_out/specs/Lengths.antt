@@ -7,8 +7,7 @@ use native.Mathlib.Omega.{arith}
 use native.Mathlib.Nat.{mul-suc}
 use lib.Dec.{eqb, ltb}
 use lib.ListN.{length, getD, length-append}
-use Rattle.floats.specs.Lists.{upto, flatten}
-use Rattle.rows.specs.Row.{all}
+use Rattle.floats.specs.Lists.{upto, flatten, all}
 use Rattle.csv_fields.specs.declared.Placed.{Placed}
 use Rattle.csv_fields.specs.declared.Placed.the-variants as Placed
 use Rattle.csv_fields.specs.Out.{Wrote}

@@ -14,7 +14,7 @@ use lib.Ieee.{Float}
 use borrow.Author.Tests.{eq-eqb, ne-eqb}
 use Rattle.floats.specs.Numbers.{bits}
 use Rattle.layout.specs.Layout.{rCells}
-use Rattle.rows.specs.Row.{all}
+use Rattle.floats.specs.Lists.{all}
 use Rattle.csv_fields.specs.declared.Number.{Number}
 use Rattle.csv_fields.specs.declared.Number.the-variants as Number
 use Rattle.csv_fields.specs.Read.{number}

@@ -6,9 +6,9 @@ use mathlib.Core.Option.{Option, none, some}
 use lib.Dec.{eqb}
 use lib.ListN.{length, getD}
 use Rattle.floats.specs.Numbers.{bits}
-use Rattle.floats.specs.Lists.{upto}
+use Rattle.floats.specs.Lists.{upto, all}
 use Rattle.layout.specs.Layout.{cells}
-use Rattle.rows.specs.Row.{all, rowOf}
+use Rattle.rows.specs.Row.{rowOf}
 use Rattle.csv_fields.specs.declared.Number.{Number}
 use Rattle.csv_fields.specs.declared.Number.the-variants as Number
 use Rattle.csv_fields.specs.declared.Line.{Line}

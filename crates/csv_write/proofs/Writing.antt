@@ -12,10 +12,10 @@ use lib.Seq.{sets, length-sets, take-set-le}
 use lib.Ieee.{Float}
 use borrow.Author.Tests.{lt-ltb, le-ltb, eq-eqb, ne-eqb}
 use Rattle.floats.specs.Numbers.{num}
-use Rattle.floats.specs.Lists.{upto, flatten}
+use Rattle.floats.specs.Lists.{upto, flatten, all}
 use Rattle.layout.specs.Layout.{rCells}
 use Rattle.rows.specs.Codes.{planeOk}
-use Rattle.rows.specs.Row.{all, has, lineOf, motionOf, planeOf, markOf, presentOf}
+use Rattle.rows.specs.Row.{has, lineOf, motionOf, planeOf, markOf, presentOf}
 use Rattle.csv_fields.specs.declared.Placed.{Placed}
 use Rattle.csv_fields.specs.declared.Placed.the-variants as Placed
 use Rattle.csv_fields.specs.Out.{Wrote, wrote-then, wrote-length}

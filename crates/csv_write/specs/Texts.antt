@@ -10,10 +10,10 @@ use lib.ListN.{length, getD, length-append}
 use lib.Ieee.{Float, binary64, lt, ofBits}
 use borrow.Author.Tests.{ltb-true}
 use Rattle.floats.specs.Numbers.{num}
-use Rattle.floats.specs.Lists.{upto, flatten}
+use Rattle.floats.specs.Lists.{upto, flatten, all}
 use Rattle.layout.specs.Layout.{rCells}
 use Rattle.rows.specs.Codes.{planeOk}
-use Rattle.rows.specs.Row.{all, has, lineOf, motionOf, planeOf, markOf, presentOf}
+use Rattle.rows.specs.Row.{has, lineOf, motionOf, planeOf, markOf, presentOf}
 use Rattle.csv_decimal.specs.Decimal.{millionths}
 use Rattle.csv_fields.specs.Write.{figures, wholeText, millionthsText, numberText, shown}
 use Rattle.csv_fields.specs.Figures.{figures-length}

@@ -7,10 +7,10 @@ use lib.Dec.{ltb, eqb}
 use lib.ListN.{length, take, drop, getD}
 use lib.Seq.{sets}
 use Rattle.floats.specs.Numbers.{num}
-use Rattle.floats.specs.Lists.{upto, flatten}
+use Rattle.floats.specs.Lists.{upto, flatten, all}
 use Rattle.layout.specs.Layout.{rCells, rowWords}
 use Rattle.rows.specs.Codes.{planeOk}
-use Rattle.rows.specs.Row.{all, has, lineOf, motionOf, planeOf, markOf, presentOf}
+use Rattle.rows.specs.Row.{has, lineOf, motionOf, planeOf, markOf, presentOf}
 use Rattle.csv_fields.specs.Write.{wholeText, numberText, shown}
 use Rattle.csv_fields.specs.declared.Placed.{Placed}
 use Rattle.csv_fields.specs.declared.Placed.the-variants as Placed

@@ -3,12 +3,10 @@ use mathlib.Core.Path.{_≡_}
 use mathlib.Core.List.{List}
 use Prim.Native.Nat.{ℕ, _+_}
 use native.Mathlib.Numerals.{add-one}
-use lib.ListN.{getD}
-use lib.Ieee.{Float}
+use lib.ListN.{getD, length}
+use lib.Ieee.{Float, binary64, le}
 use Rattle.root.specs.Root.{sqrt}
 use Rattle.floats.specs.Numbers.{_⊕_, _⊖_, _⊗_, at}
-use lib.ListN.{length}
-use lib.Ieee.{binary64, le}
 use Rattle.curve_metric.specs.Metric.{lenTo, dotTo, distTo, along, deviationOf}
 use Rattle.curve_metric.specs.Gaps.{gapOf, towardOf, missedOf, footOf, distTwo, distThree}
 use Rattle.curve_metric.specs.declared.Gap.{Gap}

@@ -9,10 +9,11 @@ use lib.ListN.{length, getD}
 use lib.Dec.{leb, ltb, eqb}
 use borrow.Author.Tests.{eqb-true, eqb-false, ne-eqb, leb-true, leb-false, ltb-true}
 use Rattle.layout.specs.Layout.{axisCodes, rowWords, wKnown, wStart, stateWords, mostHeld, mostDegree}
-use Rattle.rows.specs.Codes.{isSpline}
-use Rattle.rows.specs.Row.{all, shapeOk, numbersOk, turnOk, rowCheck}
+use Rattle.motion.specs.Motion.{isSpline}
+use Rattle.floats.specs.Lists.{all}
+use Rattle.rows.specs.Row.{shapeOk, numbersOk, turnOk, rowCheck}
 use Rattle.rows.specs.Masks.{has-past}
-use Rattle.rows.specs.Truth.{by-bit, cond-t, cond-f, and-left, and-right}
+use Rattle.floats.specs.Truth.{by-bit, cond-t, cond-f, and-left, and-right}
 use Rattle.saved_state.specs.State.{tolOk, axisCount, axesOk, motionNow, planeNow, degree, pointAtOk, pointOk, pointWord, position, curveStart, heldOk, stateOk, storeOk, savedCheck, held, heldRowOk}
 use Rattle.push_check.specs.Blocks.{kept, motionThen, isFull, pushCheck}
 

@@ -6,11 +6,11 @@ use native.Mathlib.Omega.{arith}
 use lib.ListN.{length}
 use lib.Dec.{leb, eqb}
 use borrow.Author.Tests.{eqb-true, eqb-false, eq-eqb, ne-eqb, leb-true, leb-false, le-leb, lt-leb}
-use Rattle.rows.specs.Truth.{by-bit, cond-t, cond-f}
+use Rattle.floats.specs.Truth.{by-bit, cond-t, cond-f}
 use Rattle.call_reply.specs.declared.Reply.{Reply}
-use Rattle.floats.specs.Lists.{flatten, spliced}
+use Rattle.floats.specs.Lists.{flatten, spliced, all}
 use Rattle.layout.specs.Layout.{rowWords}
-use Rattle.rows.specs.Row.{all, shapeOk, numbersOk, turnOk, rowCheck}
+use Rattle.rows.specs.Row.{shapeOk, numbersOk, turnOk, rowCheck}
 use Rattle.saved_state.specs.State.{stateOk, storeOk, held, heldRowOk, savedCheck}
 use Rattle.call_reply.specs.Replies.{plain, After, AfterState, StateIs, tooFew, PushIs}
 use Rattle.push_check.specs.Blocks.{isFull, pushCheck}

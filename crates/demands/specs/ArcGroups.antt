@@ -11,9 +11,12 @@ use lib.Ieee.{Float, eq}
 use Rattle.floats.specs.Numbers.{num, bits, ofNat, _⊘_}
 use Rattle.floats.specs.Lists.{upto, member}
 use Rattle.layout.specs.Layout.{axisCodes}
-use Rattle.rows.specs.Codes.{gOne, planeU, planeV, Kind, same, linear, clockwise, counter, akima, basis, cubic, other, refused, kindOf, isSpline}
+use Rattle.motion.specs.Motion.{gOne, kindOf, isSpline}
+use Rattle.motion.specs.declared.Kind.{Kind}
+use Rattle.motion.specs.declared.Kind.the-variants.{Same, Linear, Clockwise, Counter, Akima, Basis, Cubic, Other, Refused}
+use Rattle.rows.specs.Codes.{planeU, planeV}
 use Rattle.rows.specs.Row.{cell, lineOf, markOf, madeRow}
-use Rattle.rows.specs.Truth.{by-bit, cond-t, cond-f}
+use Rattle.floats.specs.Truth.{by-bit, cond-t, cond-f}
 use Rattle.arc_rows.specs.Arc.{Answer, passed, silent, Centre, centred, warned, Ends, Arc, wantedOf, countOf, lastCell, midCell, arcRow, arcRows, fromCentre, fromStart, arcAnswer}
 use Rattle.push_rows.specs.Answer.{answerAs}
 use Rattle.demands.specs.Demands.{Bare, Carries}
@@ -136,28 +139,28 @@ module _ (gs r : List ℕ) (fine : Fine r) (small : (k : ℕ) → member k gs �
 
 -- no kind of a spline
 abbrev drawn : Kind → Bool
-drawn same = false
-drawn linear = false
-drawn clockwise = false
-drawn counter = false
-drawn akima = true
-drawn basis = true
-drawn cubic = true
-drawn other = false
-drawn refused = false
+drawn Same = false
+drawn Linear = false
+drawn Clockwise = false
+drawn Counter = false
+drawn Akima = true
+drawn Basis = true
+drawn Cubic = true
+drawn Other = false
+drawn Refused = false
 
 kind-shaped : (gs r : List ℕ) → Fine r → ((k : ℕ) → member k gs ≡ true → k < axisCodes) → (plane : ℕ) (pos : ℕ → Option ℕ) → ((k : ℕ) → member k gs ≡ false → pos k ≡ none)
     → (tol : Float) (m : Kind) → drawn m ≡ false → {asks : Type 0} → Shaped gs r asks (answerAs m tol gs plane pos r .rows)
 unfolding answerAs
-kind-shaped gs r fine small plane pos off tol same f = pass-shaped gs r fine small plane pos 0
-kind-shaped gs r fine small plane pos off tol linear f = pass-shaped gs r fine small plane pos 0
-kind-shaped gs r fine small plane pos off tol clockwise f = arc-answer-shaped gs r fine small plane pos off tol true
-kind-shaped gs r fine small plane pos off tol counter f = arc-answer-shaped gs r fine small plane pos off tol false
-kind-shaped gs r fine small plane pos off tol akima f = absurd (false≢true (sym f))
-kind-shaped gs r fine small plane pos off tol basis f = absurd (false≢true (sym f))
-kind-shaped gs r fine small plane pos off tol cubic f = absurd (false≢true (sym f))
-kind-shaped gs r fine small plane pos off tol other f = pass-shaped gs r fine small plane pos 0
-kind-shaped gs r fine small plane pos off tol refused f = pass-shaped gs r fine small plane pos 0
+kind-shaped gs r fine small plane pos off tol Same f = pass-shaped gs r fine small plane pos 0
+kind-shaped gs r fine small plane pos off tol Linear f = pass-shaped gs r fine small plane pos 0
+kind-shaped gs r fine small plane pos off tol Clockwise f = arc-answer-shaped gs r fine small plane pos off tol true
+kind-shaped gs r fine small plane pos off tol Counter f = arc-answer-shaped gs r fine small plane pos off tol false
+kind-shaped gs r fine small plane pos off tol Akima f = absurd (false≢true (sym f))
+kind-shaped gs r fine small plane pos off tol Basis f = absurd (false≢true (sym f))
+kind-shaped gs r fine small plane pos off tol Cubic f = absurd (false≢true (sym f))
+kind-shaped gs r fine small plane pos off tol Other f = pass-shaped gs r fine small plane pos 0
+kind-shaped gs r fine small plane pos off tol Refused f = pass-shaped gs r fine small plane pos 0
 
 drawn-spline : (m : ℕ) → isSpline m ≡ false → drawn (kindOf m) ≡ false
 unfolding isSpline kindOf

@@ -8,7 +8,7 @@ use lib.ListN.{length}
 use lib.Dec.{eqb}
 use Rattle.layout.specs.Layout.{stateWords}
 use Rattle.rows.specs.Codes.{geometricOf}
-use Rattle.rows.specs.Truth.{by-bit}
+use Rattle.floats.specs.Truth.{by-bit}
 use Rattle.saved_state.specs.State.{tolOk, codesOk}
 use Rattle.call_start.specs.Start.{fresh, startSpec}
 use Rattle.call_close.specs.Close.{closeSpec}

@@ -13,9 +13,9 @@ use Rattle.floats.specs.Numbers.{num, f1, 1e-4}
 use Rattle.floats.specs.Lists.{keep, member, anyOf, opt}
 use Rattle.floats.specs.Fill.{at-upto}
 use Rattle.layout.specs.Layout.{axisCodes, cPW, mostHeld}
-use Rattle.rows.specs.Codes.{isSpline}
+use Rattle.motion.specs.Motion.{isSpline}
 use Rattle.rows.specs.Row.{has, cell, number, presentOf, hasPoint, outRow, within}
-use Rattle.rows.specs.Truth.{by-bit, and-left, cond-t, cond-f}
+use Rattle.floats.specs.Truth.{by-bit, and-left, cond-t, cond-f}
 use Rattle.rows.specs.RowLaws.{out-line, out-plane, out-carry, out-cell, out-point, out-check, check-cell-within, shape-present}
 use Rattle.spline_emission.specs.Emission.{Spline, splineGroups, heldGroup, runsOf, weightOf}
 use Rattle.demands.specs.Laws.{some-same, none-some, cond-both, Every, nil, more, every-append}

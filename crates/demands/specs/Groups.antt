@@ -8,7 +8,8 @@ use lib.Dec.{eqb}
 use Rattle.floats.specs.Numbers.{num}
 use Rattle.floats.specs.Lists.{member, anyOf}
 use Rattle.layout.specs.Layout.{cSD}
-use Rattle.rows.specs.Codes.{gOne, isSpline, kindOf, geometricOf}
+use Rattle.motion.specs.Motion.{gOne, isSpline, kindOf}
+use Rattle.rows.specs.Codes.{geometricOf}
 use Rattle.rows.specs.Row.{cell, number, motionOf, planeOf, presentOf, has, hasPoint, outRow}
 use Rattle.spline_emission.specs.Emission.{Spline, splineGroups}
 use Rattle.push_check.specs.Blocks.{orNow}

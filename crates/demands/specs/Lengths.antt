@@ -12,9 +12,9 @@ use Rattle.floats.specs.Lists.{upto, flatten, member, spliced}
 use Rattle.floats.specs.Fill.{length-upto}
 use Rattle.floats.specs.Splice.{length-spliced}
 use Rattle.layout.specs.Layout.{axisCodes, cSD, rowWords, wMotion, wPlane, wKnown, wWarned, wStart, wDegree, wHeld, stateWords, mostHeld}
-use Rattle.rows.specs.Codes.{isSpline}
+use Rattle.motion.specs.Motion.{isSpline}
 use Rattle.rows.specs.Row.{has, motionOf, presentOf, number, outRow}
-use Rattle.rows.specs.Truth.{by-bit}
+use Rattle.floats.specs.Truth.{by-bit}
 use Rattle.saved_state.specs.State.{held, degree, position, geometric, withBit, placed}
 use Rattle.push_check.specs.Blocks.{emits, kept, motionThen, planeThen, news}
 use Rattle.push_state.specs.Pushed.{forgotten, opened, degreeWith, buffered, trackTo, pushState, pushStore}

@@ -4,7 +4,7 @@ use mathlib.Core.Path.{_≡_, refl, sym, _∙_, ap}
 use mathlib.Core.Bool.{false, cond}
 use mathlib.Core.List.{List, [], _∷_, _++_}
 use borrow.Author.Tests.{eqb-false}
-use Rattle.rows.specs.Truth.{by-bit, cond-t, cond-f}
+use Rattle.floats.specs.Truth.{by-bit, cond-t, cond-f}
 use Rattle.call_reply.specs.Replies.{After}
 use Rattle.flattener.specs.Push.{pushSpec}
 use Rattle.call_close.specs.Close.{closeSpec}

@@ -11,9 +11,9 @@ use lib.Dec.{eqb}
 use borrow.Author.Tests.{eqb-true, eqb-false, ne-eqb}
 use Rattle.floats.specs.Numbers.{num}
 use Rattle.floats.specs.Fill.{length-upto}
-use Rattle.rows.specs.Codes.{isSpline, kindOf}
+use Rattle.motion.specs.Motion.{isSpline, kindOf}
 use Rattle.rows.specs.Row.{motionOf, outRow}
-use Rattle.rows.specs.Truth.{by-bit, cond-t, cond-f}
+use Rattle.floats.specs.Truth.{by-bit, cond-t, cond-f}
 use Rattle.spline_emission.specs.Emission.{Spline, splineGroups}
 use Rattle.push_check.specs.Blocks.{orNow}
 use Rattle.push_rows.specs.Answer.{answerAs}

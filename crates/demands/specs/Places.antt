@@ -13,7 +13,7 @@ use Rattle.floats.specs.Lists.{flatten, spliced}
 use Rattle.floats.specs.Splice.{spliced-none}
 use Rattle.layout.specs.Layout.{rowWords, stateWords, lastCode}
 use Rattle.rows.specs.Row.{within}
-use Rattle.rows.specs.Truth.{by-bit, cond-t}
+use Rattle.floats.specs.Truth.{by-bit, cond-t}
 use Rattle.saved_state.specs.State.{tolOk, codesOk, stateOk, held, savedCheck}
 use Rattle.call_reply.specs.Replies.{After, plain}
 use Rattle.call_start.specs.Start.{fresh, startSpec}

@@ -11,7 +11,8 @@ use lib.Ieee.{Float}
 use Rattle.floats.specs.Lists.{upto, flatten}
 use Rattle.floats.specs.Fill.{length-upto}
 use Rattle.layout.specs.Layout.{rowWords, cells}
-use Rattle.rows.specs.Codes.{Kind, same, linear, clockwise, counter, akima, basis, cubic, other, refused}
+use Rattle.motion.specs.declared.Kind.{Kind}
+use Rattle.motion.specs.declared.Kind.the-variants.{Same, Linear, Clockwise, Counter, Akima, Basis, Cubic, Other, Refused}
 use Rattle.rows.specs.Row.{rowOf, outRow, madeRow, cell, withRiders, lineOf, motionOf, planeOf, carryOf, hasPoint}
 use Rattle.arc_rows.specs.Arc.{Answer, silent, passed, arcAnswer, fromStart, fromCentre, arcRows, arcRow, Centre, centred, warned, Ends, Arc}
 use Rattle.spline_emission.specs.Emission.{Spline, splineGroups, heldGroup, pointGroup}
@@ -66,15 +67,15 @@ module _ (tol : Float) (gs : List ℕ) (plane : ℕ) (cw : Bool) (pos : ℕ → 
 
 own-long : (m : Kind) (tol : Float) (gs : List ℕ) (plane : ℕ) (pos : ℕ → Option ℕ) (r : List ℕ) → Every Long (answerAs m tol gs plane pos r .rows)
 unfolding answerAs
-own-long same tol gs plane pos r = passed-long 0 r
-own-long linear tol gs plane pos r = passed-long 0 r
-own-long clockwise tol gs plane pos r = arc-long tol gs plane true pos r
-own-long counter tol gs plane pos r = arc-long tol gs plane false pos r
-own-long akima tol gs plane pos r = nil
-own-long basis tol gs plane pos r = nil
-own-long cubic tol gs plane pos r = nil
-own-long other tol gs plane pos r = passed-long 0 r
-own-long refused tol gs plane pos r = passed-long 0 r
+own-long Same tol gs plane pos r = passed-long 0 r
+own-long Linear tol gs plane pos r = passed-long 0 r
+own-long Clockwise tol gs plane pos r = arc-long tol gs plane true pos r
+own-long Counter tol gs plane pos r = arc-long tol gs plane false pos r
+own-long Akima tol gs plane pos r = nil
+own-long Basis tol gs plane pos r = nil
+own-long Cubic tol gs plane pos r = nil
+own-long Other tol gs plane pos r = passed-long 0 r
+own-long Refused tol gs plane pos r = passed-long 0 r
 
 -- ---- the rows of a spline
 point-long : (s : Spline) (cs : List ℕ) (n j : ℕ) (run : List (List Float)) (r : List ℕ) → Every Long (pointGroup s cs n j run r)

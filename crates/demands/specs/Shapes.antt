@@ -15,7 +15,7 @@ use Rattle.floats.specs.Lists.{upto, member, isSome}
 use Rattle.floats.specs.Fill.{length-upto, at-upto, lt-or-le}
 use Rattle.layout.specs.Layout.{cells, lastCode}
 use Rattle.rows.specs.Row.{has, cell, lineOf, planeOf, markOf, carryOf, presentOf, rowOf, outRow, rides, withRiders, madeRow, within}
-use Rattle.rows.specs.Truth.{by-bit, cond-t, cond-f}
+use Rattle.floats.specs.Truth.{by-bit, cond-t, cond-f}
 use Rattle.rows.specs.Masks.{maskSum, mask-lt, has-past}
 use Rattle.rows.specs.RowLaws.{row-present, out-line, out-plane, out-carry, out-cell, made-is, made-cell, madeCell, check-cell-within}
 use Rattle.demands.specs.Demands.{Bare, Carries, rowAt, lastRow}

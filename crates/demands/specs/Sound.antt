@@ -8,9 +8,9 @@ use lib.ListN.{length, length-append}
 use lib.Dec.{eqb}
 use borrow.Author.Tests.{eqb-true}
 use Rattle.layout.specs.Layout.{mostHeld}
-use Rattle.rows.specs.Codes.{isSpline}
+use Rattle.motion.specs.Motion.{isSpline}
 use Rattle.rows.specs.Row.{motionOf, within}
-use Rattle.rows.specs.Truth.{by-bit, cond-t}
+use Rattle.floats.specs.Truth.{by-bit, cond-t}
 use Rattle.demands.specs.Laws.{Every, nil, more}
 use Rattle.demands.specs.Groups.{Event, seed, block, closed, Standing, motionWith, goesOn, withBlock, withSeed, withClose, together}
 use Rattle.demands.specs.Demands.{Call, answer, taken, run}

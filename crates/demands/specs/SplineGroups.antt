@@ -19,9 +19,9 @@ use Rattle.floats.specs.Lists.{upto, keep, member}
 use Rattle.floats.specs.Fill.{at-upto}
 use Rattle.floats.specs.FloatLaws.{one, one-is, tidy, fits-unique}
 use Rattle.layout.specs.Layout.{axisCodes}
-use Rattle.rows.specs.Codes.{gOne}
+use Rattle.motion.specs.Motion.{gOne}
 use Rattle.rows.specs.Row.{cell, hasPoint, markOf, outRow, madeRow, within}
-use Rattle.rows.specs.Truth.{by-bit, and-left, and-right, cond-t, cond-f}
+use Rattle.floats.specs.Truth.{by-bit, and-left, and-right, cond-t, cond-f}
 use Rattle.curve_metric.specs.Metric.{pointOf}
 use Rattle.curve_metric.specs.Ends.{EndsWith, ends-last}
 use Rattle.fit_knots.specs.Fit.{fitRuns}

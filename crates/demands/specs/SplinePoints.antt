@@ -16,7 +16,7 @@ use Rattle.floats.specs.Fill.{at-upto}
 use Rattle.floats.specs.FloatLaws.{modest}
 use Rattle.layout.specs.Layout.{axisCodes, cells, cPW}
 use Rattle.rows.specs.Row.{has, cell, number, presentOf, within}
-use Rattle.rows.specs.Truth.{by-bit, and-right, or-f, cond-t, cond-f}
+use Rattle.floats.specs.Truth.{by-bit, and-right, or-f, cond-t, cond-f}
 use Rattle.rows.specs.Masks.{member-append, member-keep}
 use Rattle.rows.specs.RowLaws.{check-cell-within}
 use Rattle.curve_metric.specs.Metric.{pointOf}

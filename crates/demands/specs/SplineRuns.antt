@@ -15,7 +15,7 @@ use Rattle.floats.specs.Numbers.{_⊖_, 1e-12, num, at}
 use Rattle.floats.specs.Lists.{member, opt}
 use Rattle.floats.specs.Fill.{length-upto, at-upto}
 use Rattle.rows.specs.Row.{cell, number}
-use Rattle.rows.specs.Truth.{by-bit, cond-t, cond-f}
+use Rattle.floats.specs.Truth.{by-bit, cond-t, cond-f}
 use Rattle.curve_metric.specs.Metric.{pointOf, chords}
 use Rattle.curve_metric.specs.Walk.{Sample}
 use Rattle.curve_metric.specs.Ends.{EndsWith, ends-one, ends-map}

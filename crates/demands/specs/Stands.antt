@@ -8,14 +8,15 @@ use native.Mathlib.Omega.{arith}
 use native.Mathlib.Numerals.{add-one}
 use lib.ListN.{length, getD, take, drop, length-append, length-drop}
 use lib.Seq.{length-take-le, getD-take, getD-drop, ext-getD}
-use lib.Dec.{leb, eqb}
-use borrow.Author.Tests.{eqb-true, eqb-false, eq-eqb, ne-eqb, leb-true, lt-ltb}
-use Rattle.floats.specs.Lists.{upto, member, spliced}
+use lib.Dec.{leb, eqb, ltb}
+use borrow.Author.Tests.{eqb-true, eqb-false, eq-eqb, ne-eqb, leb-true, lt-ltb, ltb-true, le-ltb}
+use Rattle.floats.specs.Lists.{upto, member, spliced, all}
 use Rattle.floats.specs.Fill.{length-upto, at-upto}
 use Rattle.layout.specs.Layout.{axisCodes, cSD, rowWords, wAxes, wKnown, wStart, wMotion, wPlane, wDegree, wHeld, stateWords, mostHeld}
-use Rattle.rows.specs.Codes.{isSpline, geometricOf}
-use Rattle.rows.specs.Row.{all, has, cell, number, motionOf, planeOf, presentOf, outRow}
-use Rattle.rows.specs.Truth.{by-bit, cond-t, cond-f, and-left}
+use Rattle.motion.specs.Motion.{isSpline}
+use Rattle.rows.specs.Codes.{geometricOf}
+use Rattle.rows.specs.Row.{has, cell, number, motionOf, planeOf, presentOf, outRow}
+use Rattle.floats.specs.Truth.{by-bit, cond-t, cond-f, and-left}
 use Rattle.rows.specs.Masks.{has-none, member-keep}
 use Rattle.saved_state.specs.State.{tolerance, axisCount, geometric, codeOk, codesOk, placed, motionNow, planeNow, held, degree, pointWord, position, curveStart, heldRow, heldRows}
 use Rattle.call_start.specs.Start.{freshWord, fresh}
@@ -46,8 +47,8 @@ pub record Stands (tol : ℕ) (gs : List ℕ) (s : Standing) (st store : List �
 pub small-axes : (axes : List ℕ) (k : ℕ) → member k (geometricOf axes) ≡ true → k < axisCodes
 unfolding geometricOf
 small-axes axes k h =
-    let e : (leb k 9 && member k axes) ≡ true = sym (member-keep (λ (j : ℕ). leb j 9) k axes) ∙ h in
-    let g : k ≤ 9 = leb-true k 9 (and-left (leb k 9) (member k axes) e) in
+    let e : (ltb k axisCodes && member k axes) ≡ true = sym (member-keep (λ (j : ℕ). ltb j axisCodes) k axes) ∙ h in
+    let g : k < axisCodes = ltb-true k axisCodes (and-left (ltb k axisCodes) (member k axes) e) in
     omega arith
 
 no-axis : {tol : ℕ} {gs : List ℕ} {s : Standing} {st store : List ℕ} → Stands tol gs s st store → (k : ℕ) → axisCodes ≤ k → member k gs ≡ false

@@ -15,9 +15,10 @@ use Rattle.floats.specs.Lists.{upto, member, spliced}
 use Rattle.floats.specs.Fill.{length-upto, at-upto}
 use Rattle.floats.specs.Splice.{length-spliced}
 use Rattle.layout.specs.Layout.{axisCodes, cSD, rCells, wAxes, wMotion, wPlane, wKnown, wWarned, wStart, wDegree, wHeld, stateWords}
-use Rattle.rows.specs.Codes.{isSpline, geometricOf}
+use Rattle.motion.specs.Motion.{isSpline}
+use Rattle.rows.specs.Codes.{geometricOf}
 use Rattle.rows.specs.Row.{has, presentOf, motionOf, number}
-use Rattle.rows.specs.Truth.{by-bit, cond-t, cond-f}
+use Rattle.floats.specs.Truth.{by-bit, cond-t, cond-f}
 use Rattle.rows.specs.Masks.{add-same, add-other}
 use Rattle.saved_state.specs.State.{axisCount, geometric, motionNow, planeNow, held, degree, pointWord, position, curveStart, withBit, placed}
 use Rattle.push_check.specs.Blocks.{emits, motionThen, planeThen, news}

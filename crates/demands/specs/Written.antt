@@ -15,9 +15,9 @@ use Rattle.floats.specs.Numbers.{num}
 use Rattle.floats.specs.Lists.{flatten, spliced}
 use Rattle.floats.specs.Fill.{lt-or-le}
 use Rattle.layout.specs.Layout.{axisCodes, lastCode, rowWords}
-use Rattle.rows.specs.Codes.{isSpline, kindOf}
+use Rattle.motion.specs.Motion.{isSpline, kindOf}
 use Rattle.rows.specs.Row.{planeOf, within, outRow}
-use Rattle.rows.specs.Truth.{by-bit, cond-t, cond-f, and-left, and-right}
+use Rattle.floats.specs.Truth.{by-bit, cond-t, cond-f, and-left, and-right}
 use Rattle.spline_emission.specs.Emission.{Spline, splineGroups}
 use Rattle.saved_state.specs.State.{stateOk, held, position, curveStart, tolerance, motionNow, degree, savedCheck}
 use Rattle.call_close.specs.Held.{heldSpline, emission}

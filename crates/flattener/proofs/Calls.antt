@@ -12,7 +12,7 @@ use Rattle.floats.specs.Lists.{flatten, spliced}
 use Rattle.floats.specs.Splice.{spliced-none, spliced-spliced}
 use Rattle.layout.specs.Layout.{rowWords}
 use Rattle.rows.specs.Row.{rowCheck}
-use Rattle.rows.specs.Truth.{by-bit, cond-t, cond-f}
+use Rattle.floats.specs.Truth.{by-bit, cond-t, cond-f}
 use Rattle.arc_rows.specs.declared.Plan.{Plan}
 use Rattle.saved_state.specs.State.{held, savedCheck}
 use Rattle.call_reply.specs.Replies.{plain, After, tooFew, doneReply}

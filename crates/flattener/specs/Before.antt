@@ -6,7 +6,7 @@ use mathlib.Core.List.{List, []}
 use lib.ListN.{length}
 use Rattle.floats.specs.Lists.{flatten}
 use Rattle.layout.specs.Layout.{rowWords}
-use Rattle.rows.specs.Truth.{by-bit}
+use Rattle.floats.specs.Truth.{by-bit}
 use Rattle.push_check.specs.Blocks.{emits}
 use Rattle.call_close.specs.Held.{emission}
 use Rattle.call_close.specs.Emitted.{emission-words}

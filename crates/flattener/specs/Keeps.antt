@@ -10,15 +10,16 @@ use lib.ListN.{length, getD, set, take, drop, length-set, length-drop}
 use lib.Seq.{getD-set-other, getD-set-same, take-take, take-at, drop-at, length-take-le, drop-append-le, take-append-le}
 use lib.Dec.{leb, ltb, eqb}
 use borrow.Author.Tests.{eqb-true, lt-ltb, le-leb, eq-eqb, eqb-false}
-use Rattle.floats.specs.Lists.{member, spliced}
+use Rattle.floats.specs.Lists.{member, spliced, all}
 use Rattle.floats.specs.Fill.{length-upto, at-upto}
 use Rattle.floats.specs.Splice.{length-spliced}
 use Rattle.whole.specs.Whole.{truncCount}
 use Rattle.layout.specs.Layout.{axisCodes, rowWords, rCells, wMotion, wPlane, wKnown, wWarned, wStart, wDegree, wHeld, stateWords, mostHeld, mostDegree, cSD}
-use Rattle.rows.specs.Codes.{isSpline, planeOk}
-use Rattle.rows.specs.Row.{has, all, within, number, motionOf, planeOf, presentOf, rowCheck, outRow}
+use Rattle.motion.specs.Motion.{isSpline}
+use Rattle.rows.specs.Codes.{planeOk}
+use Rattle.rows.specs.Row.{has, within, number, motionOf, planeOf, presentOf, rowCheck, outRow}
 use Rattle.rows.specs.RowLaws.{check-motion, check-plane, check-shape, check-within, out-check, out-motion, length-out}
-use Rattle.rows.specs.Truth.{or-t, or-f, and-i, and-left, and-right, cond-t, cond-f, all-at, all-more, all-intro, by-bit}
+use Rattle.floats.specs.Truth.{or-t, or-f, and-i, and-left, and-right, cond-t, cond-f, all-at, all-more, all-intro, by-bit}
 use Rattle.rows.specs.Masks.{has-none}
 use Rattle.saved_state.specs.State.{axisCount, motionNow, planeNow, degree, held, geometric, tolOk, codesOk, axesOk, pointAtOk, pointOk, heldOk, stateOk, storeOk, heldRow, heldRowOk, savedCheck, pointWord, position, withBit, placed}
 use Rattle.saved_state.specs.StateLaws.{Good, good, good-ok, good-few, axes-few, point-small, geometric-small, with-other, with-lt}

@@ -8,10 +8,10 @@ use native.Mathlib.Nat.{div-add-mod'}
 use lib.ListN.{length}
 use borrow.Author.Tests.{leb-false}
 use Rattle.layout.specs.Layout.{rowWords, stateWords, mostHeld}
-use Rattle.rows.specs.Codes.{isSpline}
+use Rattle.motion.specs.Motion.{isSpline}
 use Rattle.rows.specs.Row.{rowCheck, motionOf}
 use Rattle.rows.specs.RowLaws.{check-length, check-motion}
-use Rattle.rows.specs.Truth.{and-t}
+use Rattle.floats.specs.Truth.{and-t}
 use Rattle.saved_state.specs.State.{axisCount, stateOk}
 use Rattle.saved_state.specs.StateLaws.{Listed, Good, good, axes-few}
 use Rattle.push_check.specs.Blocks.{kept, isFull, motionThen}

@@ -5,7 +5,7 @@ use mathlib.Core.List.{List}
 use lib.ListN.{length, getD}
 use lib.Dec.{leb, eqb}
 use Rattle.layout.specs.Layout.{rowWords, wWarned, mostHeld}
-use Rattle.rows.specs.Codes.{isSpline}
+use Rattle.motion.specs.Motion.{isSpline, isOther}
 use Rattle.rows.specs.Row.{has, motionOf, planeOf, rowCheck}
 use Rattle.saved_state.specs.State.{motionNow, planeNow, held, savedCheck}
 
@@ -29,7 +29,7 @@ kept st r = cond (emits st r) 0 (held st)
 
 -- "A motion cell with another word warns 7 once per word"
 unfoldable pub news : List ℕ → List ℕ → Bool
-news st r = leb 8 (motionOf r) && not (has (getD st wWarned 0) (motionOf r))
+news st r = isOther (motionOf r) && not (has (getD st wWarned 0) (motionOf r))
 
 -- reply 6: "the block would be buffered and the spline store, after any spline this call emits, is full (256 blocks, or the lent whole blocks if fewer)"
 unfoldable pub isFull : List ℕ → List ℕ → List ℕ → Bool

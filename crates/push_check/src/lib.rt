@@ -1,15 +1,16 @@
 // A block at a state: its motion and plane, the spline that it ends, and what it is refused for.
 use layout::MOST_HELD;
-use layout::ROW_WORDS;
 use layout::R_MOTION;
 use layout::R_PLANE;
+use layout::ROW_WORDS;
 use layout::W_HELD;
 use layout::W_MOTION;
 use layout::W_PLANE;
 use layout::W_WARNED;
+use motion::is_other;
+use motion::is_spline;
 use rows::check_row;
 use rows::has_bit;
-use saved_state::state::is_spline;
 use saved_state::state::saved_check;
 ghost use mathlib.Core.Path.{_≡_};
 ghost use Prim.Native.Nat.{_/_, min};
@@ -112,8 +113,8 @@ pub fn is_news(state: &[u64], row: &[u64]) -> bool
     requires { ⌜ Block (now state) (now row) ⌝ }
     ensures { λ r. ⌜ r ≡ news (now (state .entry)) (now (row .entry)) ⌝ }
 {
-    if row[R_MOTION] < 8 {
-        return false;
+    if is_other(row[R_MOTION]) {
+        return !has_bit(state[W_WARNED], row[R_MOTION]);
     }
-    !has_bit(state[W_WARNED], row[R_MOTION])
+    false
 }

@@ -9,10 +9,11 @@ use lib.Ieee.{Float}
 use borrow.Author.Tests.{eqb-true, eq-eqb}
 use Rattle.floats.specs.Lists.{upto, member, anyOf}
 use Rattle.layout.specs.Layout.{axisCodes}
-use Rattle.rows.specs.Codes.{planeU, planeV, gOne}
+use Rattle.motion.specs.Motion.{gOne}
+use Rattle.rows.specs.Codes.{planeU, planeV}
 use Rattle.rows.specs.Row.{has, presentOf, hasPoint}
 use Rattle.rows.specs.RowLaws.{made-same}
-use Rattle.rows.specs.Truth.{by-bit, or-t, or-f}
+use Rattle.floats.specs.Truth.{by-bit, or-t, or-f}
 use Rattle.arc_rows.specs.Arc.{Answer, silent, Ends, Arc, Centre, centred, warned, lastCell, midCell, arcRow, heldAxes, arcRows, wantedOf, countOf, fromCentre, fromStart, arcAnswer}
 
 -- ---- something holds of a member

@@ -7,8 +7,11 @@ use native.Mathlib.Omega.{arith}
 use lib.ListN.{length}
 use lib.Ieee.{Float}
 use Rattle.floats.specs.Fill.{length-upto}
-use Rattle.rows.specs.Codes.{planeU, planeV, Kind, same, linear, clockwise, counter, akima, basis, cubic, other, refused, kindOf}
-use Rattle.rows.specs.Truth.{by-bit}
+use Rattle.motion.specs.Motion.{kindOf}
+use Rattle.motion.specs.declared.Kind.{Kind}
+use Rattle.motion.specs.declared.Kind.the-variants.{Same, Linear, Clockwise, Counter, Akima, Basis, Cubic, Other, Refused}
+use Rattle.rows.specs.Codes.{planeU, planeV}
+use Rattle.floats.specs.Truth.{by-bit}
 use Rattle.arc_rows.specs.Arc.{Ends, Centre, centred, warned, passed, silent, arcRows, countOf, fromCentre, fromStart, arcAnswer}
 use Rattle.saved_state.specs.State.{tolerance, geometric, position}
 use Rattle.push_check.specs.Blocks.{motionThen, planeThen}
@@ -33,15 +36,15 @@ few-arc tol gs plane cw pos r =
 
 few-as : (k : Kind) (tol : Float) (gs : List ℕ) (plane : ℕ) (pos : ℕ → Option ℕ) (r : List ℕ) → length (answerAs k tol gs plane pos r .rows) ≤ 100000
 unfolding answerAs passed
-few-as same tol gs plane pos r = omega arith
-few-as linear tol gs plane pos r = omega arith
-few-as clockwise tol gs plane pos r = few-arc tol gs plane true pos r
-few-as counter tol gs plane pos r = few-arc tol gs plane false pos r
-few-as akima tol gs plane pos r = omega arith
-few-as basis tol gs plane pos r = omega arith
-few-as cubic tol gs plane pos r = omega arith
-few-as other tol gs plane pos r = omega arith
-few-as refused tol gs plane pos r = omega arith
+few-as Same tol gs plane pos r = omega arith
+few-as Linear tol gs plane pos r = omega arith
+few-as Clockwise tol gs plane pos r = few-arc tol gs plane true pos r
+few-as Counter tol gs plane pos r = few-arc tol gs plane false pos r
+few-as Akima tol gs plane pos r = omega arith
+few-as Basis tol gs plane pos r = omega arith
+few-as Cubic tol gs plane pos r = omega arith
+few-as Other tol gs plane pos r = omega arith
+few-as Refused tol gs plane pos r = omega arith
 
 pub few-own : (st r : List ℕ) → length (ownAnswer st r .rows) ≤ 100000
 unfolding ownAnswer

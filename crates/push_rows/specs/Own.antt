@@ -11,9 +11,10 @@ use lib.Dec.{eqb, ltb}
 use lib.Ieee.{Float}
 use borrow.Author.Tests.{ltb-true, ltb-false, eq-eqb, ne-eqb}
 use Rattle.layout.specs.Layout.{axisCodes, rowWords, wKnown}
-use Rattle.rows.specs.Codes.{same, linear, clockwise, counter, akima, basis, cubic, other, refused, kindOf}
+use Rattle.motion.specs.Motion.{kindOf}
+use Rattle.motion.specs.declared.Kind.the-variants.{Same, Linear, Clockwise, Counter, Akima, Basis, Cubic, Other, Refused}
 use Rattle.rows.specs.Row.{has, shown, axesOf, rowCheck}
-use Rattle.rows.specs.Truth.{by-bit, cond-t, cond-f}
+use Rattle.floats.specs.Truth.{by-bit, cond-t, cond-f}
 use Rattle.rows.specs.Masks.{has-past}
 use Rattle.arc_rows.specs.Arc.{Answer, passed, arcAnswer}
 use Rattle.arc_rows.specs.declared.Way.the-variants.{Pass}
@@ -87,11 +88,11 @@ module _ (st r : List ℕ) (p : Plan) where
         held = h .held ∙ ap (λ (a : Answer). a .held) (sym e);
       }
 
-  pub own-clockwise : kindOf (motionThen st r) ≡ clockwise → TurnPlanned st r true p → OwnPlanned st r p
+  pub own-clockwise : kindOf (motionThen st r) ≡ Clockwise → TurnPlanned st r true p → OwnPlanned st r p
   unfolding ownAnswer answerAs
   own-clockwise e h = own-turn true (rw e) h
 
-  pub own-counter : kindOf (motionThen st r) ≡ counter → TurnPlanned st r false p → OwnPlanned st r p
+  pub own-counter : kindOf (motionThen st r) ≡ Counter → TurnPlanned st r false p → OwnPlanned st r p
   unfolding ownAnswer answerAs
   own-counter e h = own-turn false (rw e) h
 
@@ -106,19 +107,19 @@ module _ (st r : List ℕ) (p : Plan) where
     held = ap (λ (a : Answer). a .held) (sym e);
   })
 
-  pub own-same : kindOf (motionThen st r) ≡ same → p ≡ passPlan 0 → OwnPlanned st r p
+  pub own-same : kindOf (motionThen st r) ≡ Same → p ≡ passPlan 0 → OwnPlanned st r p
   unfolding ownAnswer answerAs
   own-same e q = own-pass (rw e) q
 
-  pub own-linear : kindOf (motionThen st r) ≡ linear → p ≡ passPlan 0 → OwnPlanned st r p
+  pub own-linear : kindOf (motionThen st r) ≡ Linear → p ≡ passPlan 0 → OwnPlanned st r p
   unfolding ownAnswer answerAs
   own-linear e q = own-pass (rw e) q
 
-  pub own-other : kindOf (motionThen st r) ≡ other → p ≡ passPlan 0 → OwnPlanned st r p
+  pub own-other : kindOf (motionThen st r) ≡ Other → p ≡ passPlan 0 → OwnPlanned st r p
   unfolding ownAnswer answerAs
   own-other e q = own-pass (rw e) q
 
-  pub own-refused : kindOf (motionThen st r) ≡ refused → p ≡ passPlan 0 → OwnPlanned st r p
+  pub own-refused : kindOf (motionThen st r) ≡ Refused → p ≡ passPlan 0 → OwnPlanned st r p
   unfolding ownAnswer answerAs
   own-refused e q = own-pass (rw e) q
 
@@ -133,15 +134,15 @@ module _ (st r : List ℕ) (p : Plan) where
     held = ap (λ (a : Answer). a .held) (sym e);
   })
 
-  pub own-akima : kindOf (motionThen st r) ≡ akima → p ≡ nonePlan → OwnPlanned st r p
+  pub own-akima : kindOf (motionThen st r) ≡ Akima → p ≡ nonePlan → OwnPlanned st r p
   unfolding ownAnswer answerAs
   own-akima e q = own-none (rw e) q
 
-  pub own-basis : kindOf (motionThen st r) ≡ basis → p ≡ nonePlan → OwnPlanned st r p
+  pub own-basis : kindOf (motionThen st r) ≡ Basis → p ≡ nonePlan → OwnPlanned st r p
   unfolding ownAnswer answerAs
   own-basis e q = own-none (rw e) q
 
-  pub own-cubic : kindOf (motionThen st r) ≡ cubic → p ≡ nonePlan → OwnPlanned st r p
+  pub own-cubic : kindOf (motionThen st r) ≡ Cubic → p ≡ nonePlan → OwnPlanned st r p
   unfolding ownAnswer answerAs
   own-cubic e q = own-none (rw e) q
 

@@ -14,7 +14,7 @@ use borrow.Author.Tests.{eq-eqb, ne-eqb, ltb-true, ltb-false}
 use Rattle.floats.specs.Lists.{member}
 use Rattle.layout.specs.Layout.{axisCodes, rCells}
 use Rattle.rows.specs.Row.{has, presentOf}
-use Rattle.rows.specs.Truth.{by-bit, cond-t, cond-f, and-right}
+use Rattle.floats.specs.Truth.{by-bit, cond-t, cond-f, and-right}
 use Rattle.rows.specs.Masks.{bit-0, bit-1, has-none}
 use Rattle.rows.specs.BitWalk.{Lowest, lowest, others, lowest-is, out-same, out-other}
 use Rattle.saved_state.specs.State.{geometric, placed}

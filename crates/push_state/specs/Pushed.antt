@@ -9,7 +9,7 @@ use lib.Ieee.{Float}
 use Rattle.floats.specs.Lists.{upto, member, spliced}
 use Rattle.whole.specs.Whole.{truncCount}
 use Rattle.layout.specs.Layout.{axisCodes, cSD, rCells, rowWords, wMotion, wPlane, wKnown, wWarned, wStart, wDegree, wHeld, mostDegree}
-use Rattle.rows.specs.Codes.{isSpline}
+use Rattle.motion.specs.Motion.{isSpline}
 use Rattle.rows.specs.Row.{has, number, motionOf, presentOf, outRow}
 use Rattle.saved_state.specs.State.{degree, held, geometric, position, withBit, placed}
 use Rattle.push_check.specs.Blocks.{motionThen, planeThen, emits, kept, news}

@@ -1,6 +1,6 @@
 // What a line asks for, done: a call and its answer, or a change of what is lent.
-use call_reply::Reply;
 use crate::answer::put_answer;
+use call_reply::Reply;
 use replay_text::ask::Ask;
 use replay_text::memory::MOST_LENGTH;
 use replay_text::memory::OLD_WORDS;

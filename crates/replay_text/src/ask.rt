@@ -12,13 +12,13 @@ use crate::input::unread;
 use crate::memory::MOST_BLOCKS;
 use crate::memory::MOST_LENGTH;
 use crate::memory::MOST_ROOM;
-use layout::ROW_WORDS;
 use layout::R_CARRY;
 use layout::R_LINE;
 use layout::R_MARK;
 use layout::R_MOTION;
 use layout::R_PLANE;
 use layout::R_PRESENT;
+use layout::ROW_WORDS;
 ghost use lib.ListN.{length};
 ghost use mathlib.Core.Path.{_≡_};
 

@@ -1,12 +1,12 @@
 // Answers, put into a buffer from a place on; what does not fit is left out, and the callers flush in time.
 use crate::memory::least;
-use layout::ROW_WORDS;
 use layout::R_CARRY;
 use layout::R_LINE;
 use layout::R_MARK;
 use layout::R_MOTION;
 use layout::R_PLANE;
 use layout::R_PRESENT;
+use layout::ROW_WORDS;
 use libc::STDOUT_FILENO;
 ghost use Prim.Native.Nat.{_≤_, _<_, _+_};
 ghost use lib.ListN.{length};
@@ -98,7 +98,14 @@ fn put_rest(out: &mut [u8], at: usize, carry: u64, present: u64, cells: &[u64]) 
 pub fn put_row_line(out: &mut [u8], at: usize, row: &[u64]) -> usize
     requires { ⌜ 6 ≤ length (now row) ⌝ }
 {
-    let a = put_head(out, at, row[R_LINE], row[R_MOTION], row[R_PLANE], row[R_MARK]);
+    let a = put_head(
+        out,
+        at,
+        row[R_LINE],
+        row[R_MOTION],
+        row[R_PLANE],
+        row[R_MARK],
+    );
     put_rest(out, a, row[R_CARRY], row[R_PRESENT], &row[6..])
 }
 

@@ -16,7 +16,7 @@ use Rattle.floats.specs.Lists.{upto, spliced}
 use Rattle.floats.specs.Fill.{length-upto, at-upto, upto-below}
 use Rattle.floats.specs.Splice.{length-spliced}
 use Rattle.rows.specs.Row.{has}
-use Rattle.rows.specs.Truth.{by-bit, cond-t, cond-f}
+use Rattle.floats.specs.Truth.{by-bit, cond-t, cond-f}
 use Rattle.rows.specs.Masks.{has-none, has-past, bit-0, bit-1, add-other, mask-has, has-mask}
 
 -- the lowest set bit of a word, and the word without it

@@ -6,8 +6,9 @@ use mathlib.Core.List.{List}
 use native.Mathlib.Omega.{arith}
 use lib.ListN.{getD}
 use Rattle.layout.specs.Layout.{cells, rCells}
-use Rattle.rows.specs.Row.{has, all, presentOf, within, cellOk, numbersOk}
-use Rattle.rows.specs.Truth.{or-t, or-f, by-bit, all-ext, all-fails}
+use Rattle.floats.specs.Lists.{all}
+use Rattle.rows.specs.Row.{has, presentOf, within, cellOk, numbersOk}
+use Rattle.floats.specs.Truth.{or-t, or-f, by-bit, all-ext, all-fails}
 use Rattle.rows.specs.BitWalk.{has-half, has-0, not-0, has-mod}
 
 -- cell k is in range, if the mask has it

@@ -1,7 +1,5 @@
 pub mod Codes
 pub mod Row
-pub mod KindCase
-pub mod Truth
 pub mod Masks
 pub mod BitWalk
 pub mod FirstCells

@@ -14,7 +14,7 @@ use lib.ListN.{length}
 use borrow.Author.Tests.{eqb-true, eqb-false, eq-eqb, ltb-true, ltb-false, lt-ltb, le-ltb}
 use Rattle.floats.specs.Lists.{upto, keep, member, isSome}
 use Rattle.floats.specs.Fill.{length-upto}
-use Rattle.rows.specs.Truth.{by-bit}
+use Rattle.floats.specs.Truth.{by-bit}
 use Rattle.layout.specs.Layout.{axisCodes}
 use Rattle.rows.specs.Row.{has, maskOf, axesOf}
 

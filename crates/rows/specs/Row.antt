@@ -7,35 +7,32 @@ use lib.ListN.{length, getD}
 use lib.Dec.{leb, ltb, eqb}
 use lib.Ieee.{Float}
 use Rattle.floats.specs.Numbers.{num}
-use Rattle.floats.specs.Lists.{upto, keep, member, anyOf, opt, isSome}
-use Rattle.layout.specs.Layout.{axisCodes, cells, rCells, rowWords, lastCode, cTURN}
+use Rattle.floats.specs.Lists.{upto, keep, member, anyOf, opt, isSome, all}
+use Rattle.layout.specs.Layout.{axisCodes, cells, rCells, rowWords, lastCode, cTURN, cellMasks, lineNumbers, rLine, rMotion, rPlane, rMark, rCarry, rPresent}
+use Rattle.motion.specs.Motion.{lastMotion}
 use Rattle.rows.specs.Codes.{planeOk}
 
 abbrev pub lineOf : List ℕ → ℕ
-lineOf r = getD r 0 0
+lineOf r = getD r rLine 0
 
 abbrev pub motionOf : List ℕ → ℕ
-motionOf r = getD r 1 0
+motionOf r = getD r rMotion 0
 
 abbrev pub planeOf : List ℕ → ℕ
-planeOf r = getD r 2 0
+planeOf r = getD r rPlane 0
 
 abbrev pub markOf : List ℕ → ℕ
-markOf r = getD r 3 0
+markOf r = getD r rMark 0
 
 abbrev pub carryOf : List ℕ → ℕ
-carryOf r = getD r 4 0
+carryOf r = getD r rCarry 0
 
 abbrev pub presentOf : List ℕ → ℕ
-presentOf r = getD r 5 0
+presentOf r = getD r rPresent 0
 
--- bit k of p is set; every k below n
+-- bit k of p is set
 unfoldable pub has : ℕ → ℕ → Bool
 has p k = eqb (p / 2 ^ k % 2) 1
-
-unfoldable pub all : ℕ → (ℕ → Bool) → Bool
-all zero f = true
-all (suc n) f = all n f && f n
 
 -- "Each has a presence bit. An absent cell's number is not read": the word of cell k, and its number
 unfoldable pub cell : List ℕ → ℕ → Option ℕ
@@ -88,10 +85,10 @@ madeRow gs r first motion marked f =
 unfoldable pub shapeOk : List ℕ → Bool
 shapeOk r =
     eqb (length r) rowWords
-    && (ltb (lineOf r) 0x100000000
-    && (leb (motionOf r) 31
+    && (ltb (lineOf r) lineNumbers
+    && (leb (motionOf r) lastMotion
     && (planeOk (planeOf r)
-    && (eqb (markOf r) 0 && ltb (presentOf r) 0x800000))))
+    && (eqb (markOf r) 0 && ltb (presentOf r) cellMasks))))
 
 -- reply 3: "a present number, or a seed, not finite or beyond 1,000,000,000 either side"
 unfoldable pub within : ℕ → Bool

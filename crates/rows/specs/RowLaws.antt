@@ -11,7 +11,7 @@ use lib.Dec.{leb, ltb, eqb}
 use borrow.Author.Tests.{eqb-true, leb-true, ltb-true}
 use Rattle.floats.specs.Lists.{upto, isSome, member}
 use Rattle.floats.specs.Fill.{length-upto, at-upto, upto-below}
-use Rattle.rows.specs.Truth.{by-bit, cond-t, cond-f, and-left, and-right, true-of-not-false, all-ext, all-at}
+use Rattle.floats.specs.Truth.{by-bit, cond-t, cond-f, and-left, and-right, true-of-not-false, all-ext, all-at}
 use Rattle.layout.specs.Layout.{axisCodes, cells, rCells, rowWords, cTURN}
 use Rattle.rows.specs.Codes.{planeOk}
 use Rattle.rows.specs.Row.{has, cell, shown, rides, withRiders, lineOf, motionOf, planeOf, markOf, carryOf, presentOf, rowOf, outRow, madeRow, hasPoint, shapeOk, within, cellOk, numbersOk, above1000, turnOk, rowCheck}

@@ -1,10 +1,10 @@
 // Rows as words: what an incoming row is refused for, what a motion cell says, and rows that go out.
 use layout::AXIS_CODES;
-use layout::CELLS;
-use layout::CELL_MASKS;
 use layout::C_TURN;
+use layout::CELL_MASKS;
+use layout::CELLS;
 use layout::LAST_CODE;
-use layout::ROW_WORDS;
+use layout::LINE_NUMBERS;
 use layout::R_CARRY;
 use layout::R_CELLS;
 use layout::R_LINE;
@@ -12,6 +12,8 @@ use layout::R_MARK;
 use layout::R_MOTION;
 use layout::R_PLANE;
 use layout::R_PRESENT;
+use layout::ROW_WORDS;
+use motion::LAST_MOTION;
 ghost use mathlib.Core.Path.{_≡_};
 ghost use mathlib.Core.Bool.{true, cond, _&&_};
 ghost use mathlib.Core.List.{[], _∷_};
@@ -19,10 +21,9 @@ ghost use Prim.Native.Nat.{_+_, _<_, _≤_, _^_};
 ghost use lib.ListN.{length};
 ghost use Rattle.floats.specs.Lists.{upto, spliced};
 ghost use Rattle.layout.specs.Layout.{axisCodes, cells, rCells, rowWords};
-ghost use Rattle.rows.specs.Codes.{planeOk, kindOf};
+ghost use Rattle.rows.specs.Codes.{planeOk};
 ghost use Rattle.rows.specs.Row.{has, within, above1000, shapeOk, numbersOk, turnOk, rowCheck, cell, shown, axesOf, outRow, rides, madeRow};
 ghost use Rattle.rows.specs.FirstCells.{maskOk};
-ghost use Rattle.rows.specs.KindCase.{kindCase};
 ghost use Rattle.rows.specs.RowLaws.{cellWord, shownWord, madeHas, madeWord, MadeOf};
 ghost use Rattle.rows.specs.Masks.{maskSum};
 ghost use Rattle.rows.specs.BitWalk.{lowest, others, zeros};
@@ -61,10 +62,10 @@ pub fn shape_ok(row: &[u64]) -> bool
     if row.len() != ROW_WORDS {
         return false;
     }
-    if row[R_LINE] >= 0x1_0000_0000 {
+    if row[R_LINE] >= LINE_NUMBERS {
         return false;
     }
-    if row[R_MOTION] > 31 {
+    if row[R_MOTION] > LAST_MOTION {
         return false;
     }
     if !plane_ok(row[R_PLANE]) {
@@ -159,35 +160,6 @@ pub fn check_row(row: &[u64]) -> u64
         return 5;
     }
     0
-}
-
-// What a motion cell says.
-pub enum Kind {
-    Same,
-    Linear,
-    Clockwise,
-    Counter,
-    Akima,
-    Basis,
-    Cubic,
-    Other,
-    Refused,
-}
-
-pub fn kind_of(motion: u64) -> Kind
-    ensures { λ r. ⌜ kindCase r ≡ kindOf motion ⌝ }
-{
-    match motion {
-        0 => Kind::Same,
-        1..=2 => Kind::Linear,
-        3 => Kind::Clockwise,
-        4 => Kind::Counter,
-        5 => Kind::Akima,
-        6 => Kind::Basis,
-        7 => Kind::Cubic,
-        8..=31 => Kind::Other,
-        _ => Kind::Refused,
-    }
 }
 
 // The word that goes out for cell k: an absent cell is written as zero.

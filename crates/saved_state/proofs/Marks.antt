@@ -8,11 +8,11 @@ use native.Mathlib.Nat.{mod-eq-of-lt}
 use native.Mathlib.Numerals.{add-one}
 use lib.ListN.{length, getD, take, drop}
 use lib.Dec.{leb, ltb, eqb}
-use borrow.Author.Tests.{eqb-true, eqb-false, ne-eqb, ltb-true, ltb-false, lt-ltb, le-leb, leb-true}
-use Rattle.floats.specs.Lists.{member}
+use borrow.Author.Tests.{eqb-true, eqb-false, ne-eqb, ltb-true, ltb-false, lt-ltb, le-leb, leb-true, le-ltb}
+use Rattle.floats.specs.Lists.{member, all}
 use Rattle.layout.specs.Layout.{axisCodes, lastCode, wAxes}
-use Rattle.rows.specs.Row.{has, all, within}
-use Rattle.rows.specs.Truth.{by-bit, and-t, and-i, and-left, or-t, or-f, all-intro}
+use Rattle.rows.specs.Row.{has, within}
+use Rattle.floats.specs.Truth.{by-bit, and-t, and-i, and-left, or-t, or-f, all-intro}
 use Rattle.rows.specs.Masks.{maskSum, mask-same, mask-has, has-none}
 use Rattle.saved_state.specs.State.{axisCount, codeOk, withBit, pointAtOk, pointOk}
 use Rattle.saved_state.specs.StateLaws.{with-same, with-other, with-lt, member-geometric}
@@ -90,7 +90,7 @@ module _ (codes : List ℕ) (i m : ℕ) (s : Marking codes i m) where
       ∙ mask-same (has m) _ axisCodes (λ k l. sym (or-false (has m k)) ∙ ap (λ (b : Bool). has m k || b) (sym (member-end k codes i h)) ∙ s .marks k l)
 
 pub mask-of-codes : (st codes : List ℕ) → codes ≡ take (axisCount st) (drop wAxes st) → maskSum (λ (k : ℕ). member k codes) axisCodes ≡ geometricMask st
-mask-of-codes st codes e = mask-same _ _ axisCodes (λ k l. rw e (sym (member-geometric st k ∙ and-t _ (le-leb k 9 (omega arith)))))
+mask-of-codes st codes e = mask-same _ _ axisCodes (λ k l. rw e (sym (member-geometric st k ∙ and-t _ (lt-ltb k axisCodes l))))
 
 -- ---- a point of the state
 pub point-absent : (st : List ℕ) (w k : ℕ) → has (getD st w 0) k ≡ false → pointAtOk st w k ≡ true

@@ -10,7 +10,7 @@ use borrow.Author.Tests.{ltb-true, ltb-false}
 use Rattle.floats.specs.Lists.{member}
 use Rattle.layout.specs.Layout.{axisCodes, wStart, stateWords}
 use Rattle.rows.specs.Row.{has, axesOf}
-use Rattle.rows.specs.Truth.{by-bit}
+use Rattle.floats.specs.Truth.{by-bit}
 use Rattle.rows.specs.Masks.{maskSum, mask-lt, has-mask, has-past, member-small}
 use Rattle.saved_state.specs.State.{geometric}
 use Rattle.saved_state.specs.StateLaws.{geometric-small}

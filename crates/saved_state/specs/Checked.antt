@@ -8,8 +8,8 @@ use lib.ListN.{length}
 use lib.Dec.{leb}
 use borrow.Author.Tests.{leb-true}
 use Rattle.layout.specs.Layout.{rowWords}
-use Rattle.rows.specs.Row.{all}
-use Rattle.rows.specs.Truth.{cond-t, cond-f, by-bit}
+use Rattle.floats.specs.Lists.{all}
+use Rattle.floats.specs.Truth.{cond-t, cond-f, by-bit}
 use Rattle.saved_state.specs.State.{held, stateOk, storeOk, heldRowOk, savedCheck}
 
 pub saved-ok : (st store : List ℕ) → savedCheck st store ≡ 0 → stateOk st ≡ true

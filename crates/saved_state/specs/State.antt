@@ -7,13 +7,14 @@ use lib.ListN.{length, getD, set, take, drop}
 use lib.Dec.{leb, ltb, eqb}
 use lib.Ieee.{Float}
 use Rattle.floats.specs.Numbers.{num}
-use Rattle.floats.specs.Lists.{upto, member}
-use Rattle.layout.specs.Layout.{axisCodes, lastCode, rowWords, wAxes, wMotion, wPlane, wKnown, wStart, wDegree, wHeld, stateWords, mostHeld, mostDegree}
-use Rattle.rows.specs.Codes.{isSpline, geometricOf}
-use Rattle.rows.specs.Row.{has, all, within, rowCheck, motionOf}
+use Rattle.floats.specs.Lists.{upto, member, all}
+use Rattle.layout.specs.Layout.{axisCodes, lastCode, rowWords, wAxes, wMotion, wPlane, wKnown, wStart, wDegree, wHeld, stateWords, mostHeld, mostDegree, listCodes, axisMasks, wTolerance, wAxisCount}
+use Rattle.motion.specs.Motion.{isSpline, lastMotion}
+use Rattle.rows.specs.Codes.{geometricOf}
+use Rattle.rows.specs.Row.{has, within, rowCheck, motionOf}
 
 abbrev pub axisCount : List ℕ → ℕ
-axisCount st = getD st 1 0
+axisCount st = getD st wAxisCount 0
 
 abbrev pub motionNow : List ℕ → ℕ
 motionNow st = getD st wMotion 0
@@ -28,7 +29,7 @@ abbrev pub held : List ℕ → ℕ
 held st = getD st wHeld 0
 
 abbrev pub tolerance : List ℕ → Float
-tolerance st = num (getD st 0 0)
+tolerance st = num (getD st wTolerance 0)
 
 -- the geometric axes of a state, in order
 unfoldable pub geometric : List ℕ → List ℕ
@@ -53,18 +54,18 @@ unfoldable pub codeOk : List ℕ → ℕ → Bool
 codeOk axes i = leb (getD axes i 0) lastCode && all i (λ (j : ℕ). not (eqb (getD axes j 0) (getD axes i 0)))
 
 unfoldable pub codesOk : List ℕ → Bool
-codesOk axes = leb (length axes) 15 && all (length axes) (codeOk axes)
+codesOk axes = leb (length axes) listCodes && all (length axes) (codeOk axes)
 
 -- reply 9: ".. bad tolerance, axis list, code, motion or plane": a state's motion is a word's, 1 to 31
 unfoldable pub axesOk : List ℕ → Bool
-axesOk st = leb (axisCount st) 15 && codesOk (take (axisCount st) (drop wAxes st))
+axesOk st = leb (axisCount st) listCodes && codesOk (take (axisCount st) (drop wAxes st))
 
 -- ".. position or curve start outside rule 3 or off the geometric axes"
 unfoldable pub pointAtOk : List ℕ → ℕ → ℕ → Bool
 pointAtOk st w k = not (has (getD st w 0) k) || (member k (geometric st) && within (getD st (w + 1 + k) 0))
 
 unfoldable pub pointOk : List ℕ → ℕ → Bool
-pointOk st w = ltb (getD st w 0) (2 ^ axisCodes) && all axisCodes (pointAtOk st w)
+pointOk st w = ltb (getD st w 0) axisMasks && all axisCodes (pointAtOk st w)
 
 -- ".. degree outside 1 to 256, over 256 held, blocks held while motion is no spline"
 unfoldable pub heldOk : List ℕ → Bool
@@ -73,9 +74,9 @@ heldOk st = leb (held st) mostHeld && (eqb (held st) 0 || isSpline (motionNow st
 unfoldable pub stateOk : List ℕ → Bool
 stateOk st =
     eqb (length st) stateWords
-    && (tolOk (getD st 0 0)
+    && (tolOk (getD st wTolerance 0)
     && (axesOk st
-    && ((leb 1 (motionNow st) && leb (motionNow st) 31)
+    && ((leb 1 (motionNow st) && leb (motionNow st) lastMotion)
     && ((leb 17 (planeNow st) && leb (planeNow st) 19)
     && (pointOk st wKnown
     && (pointOk st wStart

@@ -6,12 +6,13 @@ use mathlib.Core.List.{List}
 use native.Mathlib.Omega.{arith}
 use lib.ListN.{length, getD, take, drop}
 use lib.Dec.{leb, ltb, eqb}
-use borrow.Author.Tests.{eqb-true, leb-true, ltb-true, eq-eqb}
-use Rattle.floats.specs.Lists.{member}
+use borrow.Author.Tests.{eqb-true, leb-true, ltb-true, eq-eqb, lt-ltb, le-ltb}
+use Rattle.floats.specs.Lists.{member, all}
 use Rattle.layout.specs.Layout.{axisCodes, wAxes, wKnown, wStart, stateWords, mostHeld, mostDegree}
-use Rattle.rows.specs.Codes.{isSpline, geometricOf}
-use Rattle.rows.specs.Row.{has, all, rowCheck, motionOf}
-use Rattle.rows.specs.Truth.{and-i, and-left, and-right, cond-t, cond-f, by-bit}
+use Rattle.motion.specs.Motion.{isSpline}
+use Rattle.rows.specs.Codes.{geometricOf}
+use Rattle.rows.specs.Row.{has, rowCheck, motionOf}
+use Rattle.floats.specs.Truth.{and-i, and-left, and-right, cond-t, cond-f, by-bit}
 use Rattle.rows.specs.Masks.{member-keep, add-same, add-other, add-lt}
 use Rattle.saved_state.specs.State.{axisCount, motionNow, planeNow, degree, held, geometric, tolOk, codesOk, axesOk, pointAtOk, pointOk, heldOk, stateOk, heldRow, heldRowOk, withBit}
 
@@ -105,14 +106,14 @@ unfolding pointOk
 point-small st w p = ltb-true _ _ (and-left (ltb (getD st w 0) (2 ^ axisCodes)) (all axisCodes (pointAtOk st w)) p)
 
 -- geometric axes are below 10 and listed
-pub member-geometric : (st : List ℕ) (k : ℕ) → member k (geometric st) ≡ (leb k 9 && member k (take (axisCount st) (drop wAxes st)))
+pub member-geometric : (st : List ℕ) (k : ℕ) → member k (geometric st) ≡ (ltb k axisCodes && member k (take (axisCount st) (drop wAxes st)))
 unfolding geometric geometricOf
-member-geometric st k = member-keep (λ (j : ℕ). leb j 9) k (take (axisCount st) (drop wAxes st))
+member-geometric st k = member-keep (λ (j : ℕ). ltb j axisCodes) k (take (axisCount st) (drop wAxes st))
 
 pub geometric-small : (st : List ℕ) (k : ℕ) → member k (geometric st) ≡ true → k < axisCodes
 geometric-small st k p =
-    let q : (leb k 9 && member k (take (axisCount st) (drop wAxes st))) ≡ true = sym (member-geometric st k) ∙ p in
-    let r : k ≤ 9 = leb-true k 9 (and-left (leb k 9) (member k (take (axisCount st) (drop wAxes st))) q) in
+    let q : (ltb k axisCodes && member k (take (axisCount st) (drop wAxes st))) ≡ true = sym (member-geometric st k) ∙ p in
+    let r : k < axisCodes = ltb-true k axisCodes (and-left (ltb k axisCodes) (member k (take (axisCount st) (drop wAxes st))) q) in
     omega arith
 
 -- ---- a bit set

@@ -10,7 +10,7 @@ use lib.Seq.{drop-cons}
 use lib.Dec.{eqb}
 use borrow.Author.Tests.{eq-eqb, ne-eqb}
 use Rattle.floats.specs.Lists.{member}
-use Rattle.rows.specs.Truth.{or-t, or-f}
+use Rattle.floats.specs.Truth.{or-t, or-f}
 use Rattle.layout.specs.Layout.{wAxes, rowWords}
 use Rattle.saved_state.specs.State.{axisCount, heldRow}
 

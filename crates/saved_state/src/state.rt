@@ -1,10 +1,12 @@
 // The saved state and the rows that its store holds: when they are refused, and a position that becomes known.
 use layout::AXIS_CODES;
+use layout::AXIS_MASKS;
 use layout::LAST_CODE;
+use layout::LIST_CODES;
 use layout::MOST_DEGREE;
 use layout::MOST_HELD;
-use layout::ROW_WORDS;
 use layout::R_MOTION;
+use layout::ROW_WORDS;
 use layout::STATE_WORDS;
 use layout::W_AXES;
 use layout::W_AXIS_COUNT;
@@ -15,6 +17,9 @@ use layout::W_MOTION;
 use layout::W_PLANE;
 use layout::W_START;
 use layout::W_TOLERANCE;
+use motion::LAST_MOTION;
+use motion::is_spline;
+use motion::kind_of;
 use rows::has_bit;
 use rows::lowest_bit;
 use rows::numbers_ok;
@@ -27,10 +32,10 @@ ghost use mathlib.Core.Bool.{true, _&&_, not, cond};
 ghost use Prim.Native.Nat.{ℕ, _+_, _*_, _^_, _<_, _≤_};
 ghost use lib.ListN.{length, getD};
 ghost use lib.Dec.{leb, ltb, eqb};
-ghost use Rattle.floats.specs.Lists.{member};
+ghost use Rattle.floats.specs.Lists.{member, all};
 ghost use Rattle.layout.specs.Layout.{axisCodes, lastCode, rowWords, wStart, stateWords};
-ghost use Rattle.rows.specs.Codes.{isSpline};
-ghost use Rattle.rows.specs.Row.{has, all, rowCheck};
+ghost use Rattle.motion.specs.Motion.{isSpline};
+ghost use Rattle.rows.specs.Row.{has, rowCheck};
 ghost use Rattle.rows.specs.Masks.{maskSum};
 ghost use Rattle.saved_state.specs.State.{tolOk, codesOk, axesOk, geometric, pointAtOk, pointOk, heldOk, stateOk, heldRowOk, savedCheck, withBit, placed};
 ghost use Rattle.saved_state.specs.StateLaws.{Listed, rowFits};
@@ -55,7 +60,7 @@ fn is_new(seen: u64, code: u64) -> bool
 pub fn codes_ok(axes: &[u64]) -> bool
     ensures { λ r. ⌜ r ≡ codesOk (now (axes .entry)) ⌝ }
 {
-    if axes.len() > 15 {
+    if axes.len() > LIST_CODES {
         return false;
     }
     let mut seen: u64 = 0;
@@ -76,7 +81,7 @@ fn axes_ok(state: &[u64]) -> bool
     ensures { λ r. ⌜ r ≡ axesOk (now (state .entry)) ⌝ }
 {
     let n = state[W_AXIS_COUNT];
-    if n > 15 {
+    if n > LIST_CODES as u64 {
         return false;
     }
     let e = W_AXES + n as usize;
@@ -101,7 +106,7 @@ pub fn is_geometric(state: &[u64], k: u64) -> bool
     requires { ⌜ Listed (now state) ⌝ }
     ensures { λ r. ⌜ r ≡ member k (geometric (now (state .entry))) ⌝ }
 {
-    if k > 9 {
+    if k >= AXIS_CODES as u64 {
         return false;
     }
     let e = W_AXES + state[W_AXIS_COUNT] as usize;
@@ -172,16 +177,10 @@ fn point_ok(state: &[u64], w: usize) -> bool
     if state[w] == 0 {
         return true;
     }
-    if state[w] >= 1024 {
+    if state[w] >= AXIS_MASKS {
         return false;
     }
     point_axes_ok(state, w, geometric_mask(state))
-}
-
-pub fn is_spline(motion: u64) -> bool
-    ensures { λ r. ⌜ r ≡ isSpline motion ⌝ }
-{
-    5 <= motion && motion <= 7
 }
 
 fn held_ok(state: &[u64]) -> bool
@@ -194,7 +193,7 @@ fn held_ok(state: &[u64]) -> bool
     if state[W_HELD] == 0 {
         return true;
     }
-    is_spline(state[W_MOTION])
+    is_spline(kind_of(state[W_MOTION]))
 }
 
 fn between(low: u64, x: u64, high: u64) -> bool
@@ -215,7 +214,7 @@ pub fn state_ok(state: &[u64]) -> bool
     if !axes_ok(state) {
         return false;
     }
-    if !between(1, state[W_MOTION], 31) {
+    if !between(1, state[W_MOTION], LAST_MOTION) {
         return false;
     }
     if !between(17, state[W_PLANE], 19) {

@@ -7,16 +7,16 @@ use mathlib.Core.Option.{Option}
 use mathlib.Core.Logic.{⊎-elim}
 use native.Mathlib.Nat.{mul-le-mul, le-trans, div-add-mod'}
 use native.Mathlib.Omega.{arith}
-use lib.Dec.{leb, eqb}
+use lib.Dec.{leb, eqb, ltb}
 use lib.ListN.{length, getD, take, drop, replicate, length-append, length-map, length-replicate, List·getD-eq-default, getD-replicate}
 use lib.Seq.{drop-append-add, drop-drop, take-length}
 use lib.Ieee.{Float}
-use borrow.Author.Tests.{le-leb, lt-leb}
+use borrow.Author.Tests.{le-leb, lt-leb, ltb-true, lt-ltb, le-ltb}
 use Rattle.floats.specs.Numbers.{bits, f1}
 use Rattle.floats.specs.Lists.{upto, keep, member, filled, flatten, rowsOf, spliced}
 use Rattle.floats.specs.Fill.{length-upto, at-filled, past-filled, length-filled, lt-or-le}
 use Rattle.floats.specs.Splice.{spliced-none}
-use Rattle.layout.specs.Layout.{rowWords}
+use Rattle.layout.specs.Layout.{rowWords, axisCodes}
 use Rattle.rows.specs.Codes.{geometricOf}
 use Rattle.rows.specs.Row.{has, shown, hasPoint}
 use Rattle.rows.specs.Masks.{maskSum, has-mask, mask-lt, has-past, member-keep}
@@ -127,7 +127,7 @@ pub record Planned (motion degree : ℕ) (tol : Float) (axes : List ℕ) (start 
 module _ (axes : List ℕ) (blocks : List (List ℕ)) (o : Once axes) where
   chan-good : Good (geometricOf axes) (channelsFrom (geometricOf axes) [] blocks)
   unfolding geometricOf
-  chan-good = channels-good (geometricOf axes) [] blocks (distinct-keep (λ (k : ℕ). leb k 9) axes (once-distinct axes o)) (none-good (geometricOf axes))
+  chan-good = channels-good (geometricOf axes) [] blocks (distinct-keep (λ (k : ℕ). ltb k axisCodes) axes (once-distinct axes o)) (none-good (geometricOf axes))
 
   pub chan-below : (k : ℕ) → member k (channelsFrom (geometricOf axes) [] blocks) ≡ true → k < 10
   chan-below k m = geometric-few axes k (chan-good .inside k m)
@@ -283,8 +283,8 @@ bit-below m k h e = ⊎-elim (λ (l : k < 10). l) (λ (g : 10 ≤ k). absurd (tr
 mask-axes : (axes : List ℕ) (k : ℕ) → has (maskSum (λ (k : ℕ). member k axes) 10) k ≡ member k (geometricOf axes)
 unfolding geometricOf
 mask-axes axes k = ⊎-elim
-    (λ (l : k < 10). has-mask (λ (k : ℕ). member k axes) 10 k l ∙ sym (member-keep (λ (k : ℕ). leb k 9) k axes ∙ rw (le-leb k 9 (omega arith))))
-    (λ (g : 10 ≤ k). has-past (maskSum (λ (k : ℕ). member k axes) 10) 10 k (mask-lt (λ (k : ℕ). member k axes) 10) g ∙ sym (member-keep (λ (k : ℕ). leb k 9) k axes ∙ rw (lt-leb k 9 (omega arith))))
+    (λ (l : k < axisCodes). has-mask (λ (k : ℕ). member k axes) axisCodes k l ∙ sym (member-keep (λ (k : ℕ). ltb k axisCodes) k axes ∙ rw (lt-ltb k axisCodes (omega arith))))
+    (λ (g : axisCodes ≤ k). has-past (maskSum (λ (k : ℕ). member k axes) axisCodes) axisCodes k (mask-lt (λ (k : ℕ). member k axes) axisCodes) g ∙ sym (member-keep (λ (k : ℕ). ltb k axisCodes) k axes ∙ rw (le-ltb k axisCodes (omega arith))))
     (lt-or-le k 10)
 
 mask-codes : (cs : List ℕ) → ((k : ℕ) → member k cs ≡ true → k < 10) → (k : ℕ) → has (maskSum (λ (k : ℕ). member k cs) 10) k ≡ member k cs

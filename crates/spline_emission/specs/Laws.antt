@@ -6,14 +6,15 @@ use mathlib.Core.Path.{_≡_, refl, sym, _∙_, ap, fun-ext}
 use mathlib.Core.Bool.{Bool, true, false, cond, not, _&&_, _||_, false≢true, true≢false}
 use mathlib.Core.List.{List, [], _∷_, _++_}
 use native.Mathlib.Omega.{arith}
-use lib.Dec.{leb, eqb}
+use lib.Dec.{leb, eqb, ltb}
 use lib.ListN.{length, getD, take, drop}
 use lib.Ieee.{Float}
 use borrow.Author.Tests.{eqb-true, eqb-false}
 use Rattle.floats.specs.Lists.{upto, keep, member, anyOf}
 use Rattle.floats.specs.Fill.{length-upto}
-use Rattle.layout.specs.Layout.{rowWords}
-use Rattle.rows.specs.Codes.{gOne, geometricOf}
+use Rattle.layout.specs.Layout.{rowWords, axisCodes}
+use Rattle.motion.specs.Motion.{gOne}
+use Rattle.rows.specs.Codes.{geometricOf}
 use Rattle.rows.specs.Row.{has, presentOf, shown, hasPoint, outRow, madeRow}
 use Rattle.rows.specs.Masks.{member-append, member-keep}
 use Rattle.spline_points.specs.Channels.{Once, Good, Distinct, channels-good, channels-few, once-distinct, distinct-keep, none-good}
@@ -49,7 +50,7 @@ group-some s runs i =
 module _ (s : Spline) (axes : List ℕ) (once : Once axes) (is : s .axes ≡ geometricOf axes) where
   axes-distinct : Distinct (s .axes)
   unfolding geometricOf
-  axes-distinct = rw is (distinct-keep (λ (k : ℕ). leb k 9) axes (once-distinct axes once))
+  axes-distinct = rw is (distinct-keep (λ (k : ℕ). ltb k axisCodes) axes (once-distinct axes once))
 
   spline-good : Good (s .axes) (channels s)
   unfolding channels

@@ -13,7 +13,7 @@ use lib.ListN.{length, getD, take, drop, drop-of-length-le}
 use lib.Ieee.{Float}
 use Rattle.floats.specs.Numbers.{bits, at}
 use Rattle.floats.specs.Lists.{upto, keep, member}
-use Rattle.rows.specs.Codes.{gOne}
+use Rattle.motion.specs.Motion.{gOne}
 use Rattle.rows.specs.Row.{cell, hasPoint, outRow, madeRow}
 use Rattle.spline_points.specs.Points.{Spline, channels}
 

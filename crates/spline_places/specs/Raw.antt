@@ -6,7 +6,7 @@ use mathlib.Core.Option.{Option, none, some}
 use lib.Dec.{eqb}
 use lib.ListN.{length, getD, take, drop}
 use Rattle.floats.specs.Lists.{upto}
-use Rattle.rows.specs.Codes.{gOne}
+use Rattle.motion.specs.Motion.{gOne}
 use Rattle.rows.specs.Row.{has, cell, axesOf, hasPoint, outRow, madeRow}
 use Rattle.spline_places.specs.declared.layout.Layout.{Layout}
 use Rattle.spline_places.specs.declared.place.Place.{Place}

@@ -5,12 +5,13 @@ use mathlib.Core.Bool.{Bool, true, false, cond, not, _&&_, _||_, false≢true, t
 use mathlib.Core.List.{List, [], _∷_, _++_, append-assoc}
 use native.Mathlib.Numerals.{add-one}
 use native.Mathlib.Omega.{arith}
-use borrow.Author.Tests.{le-leb, lt-leb, leb-true, eqb-true, eq-eqb, ne-eqb, not-true}
+use borrow.Author.Tests.{le-leb, lt-leb, leb-true, eqb-true, eq-eqb, ne-eqb, not-true, ltb-true, lt-ltb, le-ltb}
 use native.Mathlib.Nat.{eq-or-lt-of-le, le-of-suc-le-suc}
 use mathlib.Core.Logic.{_⊎_, inl, inr, ⊎-elim}
 use lib.Dec.{leb, eqb, ltb}
 use lib.ListN.{length, getD, take, drop, length-append, length-drop, take-append-drop}
 use lib.Seq.{take-suc, drop-cons, length-take-le, getD-take, getD-drop}
+use Rattle.layout.specs.Layout.{axisCodes}
 use Rattle.floats.specs.Lists.{upto, keep, member, anyOf}
 use Rattle.rows.specs.Codes.{geometricOf}
 use Rattle.rows.specs.Row.{has, presentOf}
@@ -21,7 +22,7 @@ use Rattle.spline_points.specs.Points.{channelsFrom, Spline, channels, m
 
 -- code k is a geometric axis, programmed, and none of cs
 unfoldable pub isNew : ℕ → List ℕ → ℕ → Bool
-isNew present cs k = leb k 9 && (has present k && not (member k cs))
+isNew present cs k = ltb k axisCodes && (has present k && not (member k cs))
 
 -- the channel at place i is X, Y or Z
 unfoldable pub isXyz : List ℕ → ℕ → Bool
@@ -53,13 +54,13 @@ new-yes : (a b c : Bool) → (a && b) ≡ true → c ≡ (a && (b && c))
 new-yes true b c e = rw e
 new-yes false b c e = absurd (false≢true e)
 
-pub not-new : (present : ℕ) (cs : List ℕ) (k : ℕ) → (leb k 9 && has present k) ≡ false → false ≡ isNew present cs k
+pub not-new : (present : ℕ) (cs : List ℕ) (k : ℕ) → (ltb k axisCodes && has present k) ≡ false → false ≡ isNew present cs k
 unfolding isNew
-not-new present cs k e = new-no (leb k 9) (has present k) (not (member k cs)) e
+not-new present cs k e = new-no (ltb k axisCodes) (has present k) (not (member k cs)) e
 
-pub maybe-new : (present : ℕ) (cs : List ℕ) (k : ℕ) → (leb k 9 && has present k) ≡ true → not (member k cs) ≡ isNew present cs k
+pub maybe-new : (present : ℕ) (cs : List ℕ) (k : ℕ) → (ltb k axisCodes && has present k) ≡ true → not (member k cs) ≡ isNew present cs k
 unfolding isNew
-maybe-new present cs k e = new-yes (leb k 9) (has present k) (not (member k cs)) e
+maybe-new present cs k e = new-yes (ltb k axisCodes) (has present k) (not (member k cs)) e
 
 pub xyz-yes : (cs : List ℕ) (i : ℕ) → getD cs i 0 ≤ 2 → isXyz cs i ≡ true
 unfolding isXyz
@@ -167,7 +168,7 @@ pigeon (suc b) xs d h =
 pub geometric-few : (axes : List ℕ) (k : ℕ) → member k (geometricOf axes) ≡ true → k < 10
 unfolding geometricOf
 geometric-few axes k m =
-    let h : k ≤ 9 = leb-true k 9 (and-first (leb k 9) (member k axes) (sym (member-keep (λ (k : ℕ). leb k 9) k axes) ∙ m)) in
+    let h : k < axisCodes = ltb-true k axisCodes (and-first (ltb k axisCodes) (member k axes) (sym (member-keep (λ (k : ℕ). ltb k axisCodes) k axes) ∙ m)) in
     omega arith
 
 -- the channels are geometric axes, and none stands twice
@@ -203,7 +204,7 @@ none-good gs = record { distinct = tt; inside = λ k m. absurd (false≢true m) 
 pub channels-few : (axes : List ℕ) (rs : List (List ℕ)) → Once axes → length (channelsFrom (geometricOf axes) [] rs) ≤ 10
 unfolding geometricOf
 channels-few axes rs o =
-    let d : Distinct (geometricOf axes) = distinct-keep (λ (k : ℕ). leb k 9) axes (once-distinct axes o) in
+    let d : Distinct (geometricOf axes) = distinct-keep (λ (k : ℕ). ltb k axisCodes) axes (once-distinct axes o) in
     let g : Good (geometricOf axes) (channelsFrom (geometricOf axes) [] rs) = channels-good (geometricOf axes) [] rs d (none-good (geometricOf axes)) in
     pigeon 10 (channelsFrom (geometricOf axes) [] rs) (g .distinct) (λ k m. geometric-few axes k (g .inside k m))
 

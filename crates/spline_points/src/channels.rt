@@ -1,22 +1,21 @@
 // The channels of a spline, in order of first programming.
-use layout::ROW_WORDS;
 use layout::R_PRESENT;
+use layout::AXIS_CODES;
+use layout::ROW_WORDS;
 use rows::has_bit;
 ghost use mathlib.Core.Path.{_≡_};
 ghost use mathlib.Core.Bool.{_&&_, not};
 ghost use mathlib.Core.List.{[], _∷_};
 ghost use Prim.Native.Nat.{ℕ, _+_, _*_, _≤_, _<_};
-ghost use lib.Dec.{leb};
+ghost use lib.Dec.{leb, ltb};
 ghost use lib.ListN.{length, take};
 ghost use Rattle.floats.specs.Lists.{upto, keep, member};
-ghost use Rattle.layout.specs.Layout.{rowWords};
+ghost use Rattle.layout.specs.Layout.{rowWords, axisCodes};
 ghost use Rattle.rows.specs.Codes.{geometricOf};
 ghost use Rattle.rows.specs.Row.{has, presentOf, hasPoint};
 ghost use Rattle.spline_points.specs.Points.{channelsFrom, blockAt};
 ghost use Rattle.spline_points.specs.Append.{Appended};
 ghost use Rattle.spline_points.specs.Channels.{isNew, Once};
-
-const LAST_AXIS: u64 = 9;
 
 // The row held at place i.
 pub fn block(store: &[u64], i: usize) -> &[u64]
@@ -30,9 +29,9 @@ pub fn block(store: &[u64], i: usize) -> &[u64]
 
 // Whether code k is a geometric axis whose cell is present.
 fn programs(present: u64, k: u64) -> bool
-    ensures { λ r. ⌜ r ≡ leb k 9 && has present k ⌝ }
+    ensures { λ r. ⌜ r ≡ ltb k axisCodes && has present k ⌝ }
 {
-    if k > LAST_AXIS {
+    if k >= AXIS_CODES as u64 {
         return false;
     }
     has_bit(present, k)

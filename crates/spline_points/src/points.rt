@@ -105,7 +105,7 @@ fn weight_of(row: &[u64]) -> f64
     requires { ⌜ length (now row) ≡ rowWords ⌝ }
     ensures { λ r. ⌜ r ≡ weightOf (now (row .entry)) ⌝ }
 {
-    let w = next_value(row, C_PW, 1.0);
+    let w = next_value(row, C_PW as u64, 1.0);
     if w < 1e-4 { 1e-4 } else { w }
 }
 

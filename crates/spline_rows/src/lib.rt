@@ -1,8 +1,8 @@
 // Rows written into their places, from the last to the first, so that no sample is written over before it is read.
 use layout::AXIS_CODES;
-use layout::ROW_WORDS;
 use layout::R_CELLS;
 use layout::R_PRESENT;
+use layout::ROW_WORDS;
 use rows::has_bit;
 use rows::put_made;
 use rows::put_row;

@@ -13,8 +13,7 @@ use lib.Ieee.Scale.{round-same}
 use lib.Ieee.Back.{round-whole}
 use borrow.Author.Tests.{ltb-true, ltb-false, lt-ltb, le-ltb}
 use Rattle.floats.specs.Numbers.{f0, f½}
-use Rattle.whole.specs.Whole.{twoTo52, twoTo53}
-use Rattle.whole.specs.Whole.{halfUpOf}
+use Rattle.whole.specs.Whole.{twoTo52, twoTo53, halfUpOf}
 use Rattle.whole.proofs.Whole.{ltb-scale, cut}
 
 -- ---- a test of a float against a value is one of numbers

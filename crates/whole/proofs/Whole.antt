@@ -12,8 +12,7 @@ use lib.Ieee.Exact.{HasValue}
 use lib.Ieee.Back.{round-whole}
 use borrow.Author.Tests.{ltb-true, ltb-false, lt-ltb, le-ltb}
 use Rattle.floats.specs.Numbers.{f0}
-use Rattle.whole.specs.Whole.{twoTo53}
-use Rattle.whole.specs.Whole.{ceilOf, truncOf}
+use Rattle.whole.specs.Whole.{twoTo53, ceilOf, truncOf}
 
 -- ---- numbers
 up-one : (n d q : ℕ) → q * d < n → n < q * d + d → (n + (d - 1)) / d ≡ q + 1

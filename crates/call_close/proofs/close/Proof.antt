@@ -4,7 +4,7 @@ use native.Mathlib.Omega.{arith}
 use Prim.Native.Nat.{ℕ, _+_, _/_, _≤_, _<_}
 use lib.ListN.{length}
 use borrow.Author.Tests.{eq-eqb, ne-eqb}
-use Rattle.rows.specs.Truth.{cond-t, cond-f}
+use Rattle.floats.specs.Truth.{cond-t, cond-f}
 use Rattle.layout.specs.Layout.{rowWords}
 use Rattle.call_reply.specs.Replies.{plain, tooFew, answers, doneReply}
 use Rattle.saved_state.specs.StateLaws.{good}

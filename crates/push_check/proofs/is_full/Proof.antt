@@ -2,8 +2,8 @@
 use mathlib.Core.Path.{sym, ap, ap₂, _∙_}
 use lib.Dec.{leb}
 use borrow.Author.Tests.{not-true, not-false}
-use Rattle.rows.specs.Truth.{and-t, and-f}
-use Rattle.rows.specs.Codes.{isSpline}
+use Rattle.floats.specs.Truth.{and-t, and-f}
+use Rattle.motion.specs.Motion.{isSpline}
 use Rattle.push_check.specs.Blocks.{isFull}
 use borrow.Author.Needs.{needs}
 use Rattle.push_check.proofs.is_full.Statement.{statement}

@@ -2,7 +2,7 @@
 use mathlib.Core.Path.{sym, ap, _∙_}
 use mathlib.Core.Bool.{not}
 use borrow.Author.Tests.{le-leb, lt-leb}
-use Rattle.rows.specs.Truth.{and-t, and-f}
+use Rattle.floats.specs.Truth.{and-t, and-f}
 use Rattle.push_check.specs.Blocks.{news}
 use borrow.Author.Needs.{needs}
 use Rattle.push_check.proofs.is_news.Statement.{statement}

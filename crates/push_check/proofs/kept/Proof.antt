@@ -1,6 +1,6 @@
 -- `push_check::kept` meets its contract. Assumes nothing.
 use mathlib.Core.Path.{sym, _∙_}
-use Rattle.rows.specs.Truth.{cond-t, cond-f}
+use Rattle.floats.specs.Truth.{cond-t, cond-f}
 use Rattle.push_check.specs.Blocks.{kept}
 use borrow.Author.Needs.{needs}
 use Rattle.push_check.proofs.kept.Statement.{statement}

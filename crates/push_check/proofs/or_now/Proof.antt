@@ -1,7 +1,7 @@
 -- `push_check::or_now` meets its contract. Assumes nothing.
 use mathlib.Core.Path.{sym}
 use borrow.Author.Tests.{eq-eqb, ne-eqb}
-use Rattle.rows.specs.Truth.{cond-t, cond-f}
+use Rattle.floats.specs.Truth.{cond-t, cond-f}
 use Rattle.push_check.specs.Blocks.{orNow}
 use Rattle.push_check.proofs.or_now.Statement.{statement}
 use Rattle.push_check.proofs.or_now.Tie as tie

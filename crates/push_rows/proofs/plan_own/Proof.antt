@@ -1,7 +1,7 @@
 -- `push_rows::plan_own` meets its contract. Assumes nothing.
 use mathlib.Core.Path.{sym, ap, _∙_}
 use Rattle.rows.specs.KindCase.{kindCase}
-use Rattle.rows.specs.Codes.{kindOf}
+use Rattle.motion.specs.Motion.{kindOf}
 use Rattle.push_rows.specs.Own.{own-clockwise, own-counter, own-same, own-linear, own-other, own-refused, own-akima, own-basis, own-cubic}
 use borrow.Author.Needs.{needs}
 use Rattle.push_rows.proofs.plan_own.Statement.{statement}

@@ -1,7 +1,7 @@
 -- `push_state::open_first` meets its contract. Assumes nothing.
 use mathlib.Core.Path.{sym, _∙_}
 use borrow.Author.Tests.{eq-eqb, ne-eqb}
-use Rattle.rows.specs.Truth.{cond-t, cond-f}
+use Rattle.floats.specs.Truth.{cond-t, cond-f}
 use borrow.Author.Needs.{needs}
 use Rattle.push_state.proofs.open_first.Statement.{statement}
 use Rattle.push_state.proofs.open_first.Tie as tie

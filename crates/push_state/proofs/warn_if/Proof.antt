@@ -1,7 +1,7 @@
 -- `push_state::warn_if` meets its contract. Assumes nothing.
 use mathlib.Core.Path.{sym, ap, _∙_}
 use lib.ListN.{set}
-use Rattle.rows.specs.Truth.{cond-t, cond-f}
+use Rattle.floats.specs.Truth.{cond-t, cond-f}
 use Rattle.layout.specs.Layout.{wWarned}
 use borrow.Author.Needs.{needs}
 use Rattle.push_state.proofs.warn_if.Statement.{statement}

@@ -5,7 +5,7 @@ use native.Mathlib.Omega.{arith}
 use Prim.Native.Nat.{ℕ}
 use borrow.Author.Tests.{not-true, not-false}
 use Rattle.layout.specs.Layout.{cells}
-use Rattle.rows.specs.Truth.{all-intro, all-fails}
+use Rattle.floats.specs.Truth.{all-intro, all-fails}
 use Rattle.rows.specs.FirstCells.{maskCellOk, maskOk, absent-ok, there-ok}
 use Rattle.rows.specs.BitWalk.{Walking, AtBit, at-bit, walking-all, walking-more, walked}
 use borrow.Author.Needs.{needs}

@@ -1,7 +1,7 @@
 -- `rows::check_row` meets its contract. Assumes nothing.
 use mathlib.Core.Path.{sym, _∙_}
 use borrow.Author.Tests.{not-true, not-false}
-use Rattle.rows.specs.Truth.{cond-t, cond-f}
+use Rattle.floats.specs.Truth.{cond-t, cond-f}
 use Rattle.rows.specs.Row.{rowCheck}
 use Rattle.rows.specs.RowLaws.{shape-length}
 use borrow.Author.Needs.{needs}

@@ -2,7 +2,7 @@
 use mathlib.Core.Path.{sym, ap, _∙_}
 use mathlib.Core.Bool.{not}
 use borrow.Author.Tests.{le-leb, lt-leb}
-use Rattle.rows.specs.Truth.{and-t, and-f}
+use Rattle.floats.specs.Truth.{and-t, and-f}
 use Rattle.rows.specs.Row.{rides}
 use Rattle.rows.specs.Masks.{member-small}
 use borrow.Author.Needs.{needs}

@@ -1,7 +1,7 @@
 -- `rows::numbers_ok` meets its contract. Assumes nothing.
 use mathlib.Core.Path.{sym, _∙_}
 use borrow.Author.Tests.{not-true, not-false}
-use Rattle.rows.specs.Truth.{and-t, and-f}
+use Rattle.floats.specs.Truth.{and-t, and-f}
 use Rattle.rows.specs.FirstCells.{numbers-mask, three-apart}
 use borrow.Author.Needs.{needs}
 use Rattle.rows.proofs.numbers_ok.Statement.{statement}

@@ -9,7 +9,7 @@ use lib.ListN.{getD}
 use Rattle.layout.specs.Layout.{cells, rCells}
 use Rattle.rows.specs.Row.{has, presentOf, cell}
 use Rattle.rows.specs.RowLaws.{cellWord}
-use Rattle.rows.specs.Truth.{cond-t, cond-f}
+use Rattle.floats.specs.Truth.{cond-t, cond-f}
 use Rattle.rows.specs.BitWalk.{at-bit, Storing, storing-first, storing-more, stored}
 use borrow.Author.Needs.{needs}
 use Rattle.rows.proofs.put_cells.Statement.{statement}

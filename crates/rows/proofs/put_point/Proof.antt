@@ -10,7 +10,7 @@ use lib.ListN.{getD}
 use Rattle.layout.specs.Layout.{axisCodes, cells}
 use Rattle.rows.specs.Row.{has, shown}
 use Rattle.rows.specs.RowLaws.{shownWord}
-use Rattle.rows.specs.Truth.{cond-t, cond-f}
+use Rattle.floats.specs.Truth.{cond-t, cond-f}
 use Rattle.rows.specs.BitWalk.{below-bits, at-bit, Storing, storing-first, storing-more, stored}
 use borrow.Author.Needs.{needs}
 use Rattle.rows.proofs.put_point.Statement.{statement}

@@ -1,8 +1,7 @@
 -- `rows::shape_ok` meets its contract. Assumes nothing.
-use borrow.Author.Tests.{lt-ltb, le-ltb, le-leb, lt-leb, eq-eqb, ne-eqb}
+use borrow.Author.Tests.{lt-ltb, le-ltb, le-leb, lt-leb, eq-eqb, ne-eqb, not-true, not-false}
 use mathlib.Core.Path.{sym, _∙_}
-use Rattle.rows.specs.Truth.{and-t, and-f}
-use borrow.Author.Tests.{not-true, not-false}
+use Rattle.floats.specs.Truth.{and-t, and-f}
 use Rattle.rows.specs.Row.{shapeOk}
 use borrow.Author.Needs.{needs}
 use Rattle.rows.proofs.shape_ok.Statement.{statement}

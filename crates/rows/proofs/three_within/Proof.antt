@@ -1,7 +1,7 @@
 -- `rows::three_within` meets its contract. Assumes nothing.
 use mathlib.Core.Path.{sym, _∙_}
 use borrow.Author.Tests.{not-true, not-false}
-use Rattle.rows.specs.Truth.{and-t, and-f}
+use Rattle.floats.specs.Truth.{and-t, and-f}
 use borrow.Author.Needs.{needs}
 use Rattle.rows.proofs.three_within.Statement.{statement}
 use Rattle.rows.proofs.three_within.Tie as tie

@@ -1,7 +1,7 @@
 -- `rows::turn_ok` meets its contract. Assumes nothing.
 use mathlib.Core.Path.{sym, ap, _∙_}
 use mathlib.Core.Bool.{not}
-use Rattle.rows.specs.Truth.{or-t, or-f}
+use Rattle.floats.specs.Truth.{or-t, or-f}
 use Rattle.rows.specs.Row.{turnOk}
 use borrow.Author.Needs.{needs}
 use Rattle.rows.proofs.turn_ok.Statement.{statement}

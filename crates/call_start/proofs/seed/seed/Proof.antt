@@ -1,7 +1,7 @@
 -- `call_start::seed::seed` meets its contract. Assumes nothing.
 use mathlib.Core.Path.{refl, sym, _∙_}
 use borrow.Author.Tests.{le-leb, lt-leb, not-true, not-false}
-use Rattle.rows.specs.Truth.{cond-t, cond-f}
+use Rattle.floats.specs.Truth.{cond-t, cond-f}
 use Rattle.call_start.specs.Seed.{seedSpec, seeded}
 use Rattle.call_reply.specs.Replies.{state-is}
 use Rattle.saved_state.specs.StateLaws.{good, good-listed, geometric-small}

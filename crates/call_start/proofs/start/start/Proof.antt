@@ -1,7 +1,7 @@
 -- `call_start::start::start` meets its contract. Assumes nothing.
 use mathlib.Core.Path.{refl, sym, _∙_}
 use borrow.Author.Tests.{eq-eqb, ne-eqb, not-true, not-false}
-use Rattle.rows.specs.Truth.{cond-t, cond-f}
+use Rattle.floats.specs.Truth.{cond-t, cond-f}
 use Rattle.call_start.specs.Start.{startSpec}
 use Rattle.call_reply.specs.Replies.{state-is}
 use borrow.Author.Needs.{needs}

@@ -1,7 +1,7 @@
 -- `saved_state::state::axes_ok` meets its contract. Assumes nothing.
 use mathlib.Core.Path.{sym, ap, _∙_}
 use borrow.Author.Tests.{le-leb, lt-leb}
-use Rattle.rows.specs.Truth.{and-t, and-f}
+use Rattle.floats.specs.Truth.{and-t, and-f}
 use Rattle.saved_state.specs.State.{codesOk, axesOk}
 use Rattle.saved_state.specs.Walk.{part-codes}
 use borrow.Author.Needs.{needs}

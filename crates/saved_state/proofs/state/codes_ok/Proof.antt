@@ -5,8 +5,8 @@ use native.Mathlib.Omega.{arith}
 use Prim.Native.Nat.{ℕ, _-_, _≤_}
 use lib.ListN.{length, getD}
 use borrow.Author.Tests.{le-leb, lt-leb, not-true, not-false}
-use Rattle.rows.specs.Truth.{and-t, and-f, all-fails}
-use Rattle.rows.specs.Row.{all}
+use Rattle.floats.specs.Truth.{and-t, and-f, all-fails}
+use Rattle.floats.specs.Lists.{all}
 use Rattle.saved_state.specs.State.{codeOk, codesOk}
 use Rattle.saved_state.proofs.Marks.{Seen, seen-none, new-ok, new-small, seen-more}
 use borrow.Author.Needs.{needs}

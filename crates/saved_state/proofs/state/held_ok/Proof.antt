@@ -1,7 +1,8 @@
 -- `saved_state::state::held_ok` meets its contract. Assumes nothing.
-use mathlib.Core.Path.{sym, _∙_}
+use mathlib.Core.Path.{sym, ap, _∙_}
 use borrow.Author.Tests.{le-leb, lt-leb, eq-eqb, ne-eqb}
-use Rattle.rows.specs.Truth.{and-t, and-f, or-t, or-f}
+use Rattle.floats.specs.Truth.{and-t, and-f, or-t, or-f}
+use Rattle.motion.specs.Motion.{splineKind, isSpline}
 use Rattle.saved_state.specs.State.{heldOk}
 use borrow.Author.Needs.{needs}
 use Rattle.saved_state.proofs.state.held_ok.Statement.{statement}
@@ -21,15 +22,18 @@ returns-2 : tie.Need-returns-2
 unfolding heldOk
 returns-2 c = sym (and-t _ (le-leb _ _ (c .before .before .if1 .left)) ∙ or-t _ (eq-eqb _ _ (c .if2 .taken)))
 
-shared-slice-read-is-spline : tie.Need-shared-slice-read-is-spline
-shared-slice-read-is-spline c = search needs
+shared-slice-read-kind-of : tie.Need-shared-slice-read-kind-of
+shared-slice-read-kind-of c = search needs
+
+kind-of-requires : tie.Need-kind-of-requires
+kind-of-requires c κs = search needs
 
 is-spline-requires : tie.Need-is-spline-requires
 is-spline-requires c κs = search needs
 
 returns-3 : tie.Need-returns-3
-unfolding heldOk
-returns-3 c = (c .is-spline .ensures) ∙ sym (and-t _ (le-leb _ _ (c .before .before .before .before .if1 .left)) ∙ or-f _ (ne-eqb _ _ (c .before .before .if2 .left)))
+unfolding heldOk isSpline
+returns-3 c = (c .is-spline .ensures) ∙ ap splineKind (c .before .kind-of .ensures) ∙ sym (and-t _ (le-leb _ _ (c .before .before .before .before .before .if1 .left)) ∙ or-f _ (ne-eqb _ _ (c .before .before .before .if2 .left)))
 
 pub held-ok-spec : {M : Type 1} → statement M
 held-ok-spec =
@@ -39,6 +43,7 @@ held-ok-spec =
     returns
     shared-slice-read-if2
     returns-2
-    shared-slice-read-is-spline
+    shared-slice-read-kind-of
+    kind-of-requires
     is-spline-requires
     returns-3)

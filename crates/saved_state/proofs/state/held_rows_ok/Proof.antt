@@ -4,8 +4,8 @@ use mathlib.Core.Bool.{true}
 use native.Mathlib.Omega.{arith}
 use Prim.Native.Nat.{ℕ, _-_, _≤_}
 use borrow.Author.Tests.{not-true, not-false}
-use Rattle.rows.specs.Truth.{all-more, all-fails}
-use Rattle.rows.specs.Row.{all}
+use Rattle.floats.specs.Truth.{all-more, all-fails}
+use Rattle.floats.specs.Lists.{all}
 use Rattle.saved_state.specs.State.{heldRowOk}
 use borrow.Author.Needs.{needs}
 use Rattle.saved_state.proofs.state.held_rows_ok.Statement.{statement}

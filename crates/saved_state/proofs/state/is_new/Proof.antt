@@ -2,7 +2,7 @@
 use mathlib.Core.Path.{sym, ap, _∙_}
 use mathlib.Core.Bool.{not}
 use borrow.Author.Tests.{le-leb, lt-leb}
-use Rattle.rows.specs.Truth.{and-t, and-f}
+use Rattle.floats.specs.Truth.{and-t, and-f}
 use borrow.Author.Needs.{needs}
 use Rattle.saved_state.proofs.state.is_new.Statement.{statement}
 use Rattle.saved_state.proofs.state.is_new.Tie as tie

@@ -1,7 +1,7 @@
 -- `saved_state::state::point_at_ok` meets its contract. Assumes nothing.
 use mathlib.Core.Path.{sym, _∙_}
 use borrow.Author.Tests.{not-true, not-false}
-use Rattle.rows.specs.Truth.{and-t, and-f}
+use Rattle.floats.specs.Truth.{and-t, and-f}
 use Rattle.saved_state.proofs.Marks.{point-there}
 use borrow.Author.Needs.{needs}
 use Rattle.saved_state.proofs.state.point_at_ok.Statement.{statement}

@@ -7,7 +7,7 @@ use Prim.Native.Nat.{ℕ}
 use lib.ListN.{getD}
 use borrow.Author.Tests.{not-true, not-false}
 use Rattle.layout.specs.Layout.{axisCodes}
-use Rattle.rows.specs.Truth.{all-intro, all-fails}
+use Rattle.floats.specs.Truth.{all-intro, all-fails}
 use Rattle.rows.specs.BitWalk.{at-bit, AtBit, Walking, walking-first, walking-more, walked}
 use Rattle.saved_state.specs.State.{pointAtOk}
 use Rattle.saved_state.proofs.Marks.{point-absent}

@@ -2,7 +2,7 @@
 use mathlib.Core.Path.{sym, _∙_}
 use native.Mathlib.Omega.{arith}
 use borrow.Author.Tests.{eq-eqb, ne-eqb, eqb-true, not-true, not-false}
-use Rattle.rows.specs.Truth.{and-t, and-f, or-t, or-f}
+use Rattle.floats.specs.Truth.{and-t, and-f, or-t, or-f}
 use Rattle.saved_state.specs.StateLaws.{rowFits}
 use Rattle.rows.specs.RowLaws.{check-length}
 use borrow.Author.Needs.{needs}

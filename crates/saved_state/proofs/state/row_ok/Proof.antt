@@ -4,7 +4,7 @@ use mathlib.Core.Bool.{Bool, true, false, cond}
 use Prim.Native.Nat.{ℕ}
 use lib.Dec.{eqb}
 use borrow.Author.Tests.{not-true, not-false}
-use Rattle.rows.specs.Truth.{cond-t, cond-f}
+use Rattle.floats.specs.Truth.{cond-t, cond-f}
 use Rattle.rows.specs.Row.{rowCheck}
 use Rattle.rows.specs.RowLaws.{shape-length}
 use borrow.Author.Needs.{needs}

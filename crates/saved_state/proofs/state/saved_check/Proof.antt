@@ -2,7 +2,7 @@
 use mathlib.Core.Path.{sym, _∙_}
 use native.Mathlib.Omega.{arith}
 use borrow.Author.Tests.{le-leb, lt-leb, not-true, not-false}
-use Rattle.rows.specs.Truth.{cond-t, cond-f}
+use Rattle.floats.specs.Truth.{cond-t, cond-f}
 use Rattle.saved_state.specs.State.{savedCheck, storeOk}
 use Rattle.saved_state.specs.StateLaws.{good, good-few}
 use borrow.Author.Needs.{needs}

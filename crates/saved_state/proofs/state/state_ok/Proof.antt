@@ -2,7 +2,7 @@
 use mathlib.Core.Path.{sym, _∙_}
 use native.Mathlib.Omega.{arith}
 use borrow.Author.Tests.{eq-eqb, ne-eqb, not-true, not-false}
-use Rattle.rows.specs.Truth.{and-t, and-f}
+use Rattle.floats.specs.Truth.{and-t, and-f}
 use Rattle.saved_state.specs.State.{stateOk}
 use Rattle.saved_state.specs.StateLaws.{axes-few}
 use borrow.Author.Needs.{needs}

@@ -1,7 +1,7 @@
 -- `saved_state::state::with_axis` meets its contract. Assumes nothing.
 use mathlib.Core.Path.{sym, _∙_}
 use borrow.Author.Tests.{lt-ltb, le-ltb}
-use Rattle.rows.specs.Truth.{cond-t, cond-f}
+use Rattle.floats.specs.Truth.{cond-t, cond-f}
 use borrow.Author.Needs.{needs}
 use Rattle.saved_state.proofs.state.with_axis.Statement.{statement}
 use Rattle.saved_state.proofs.state.with_axis.Tie as tie

@@ -2,8 +2,9 @@ use mathlib.Core.Path.{_≡_, sym, _∙_}
 use mathlib.Core.Bool.{Bool, _&&_}
 use Prim.Native.Nat.{ℕ, _≤_, _-_}
 use native.Mathlib.Omega.{arith}
-use lib.Dec.{leb}
+use lib.Dec.{leb, ltb}
 use lib.ListN.{length, getD, drop}
+use Rattle.layout.specs.Layout.{axisCodes}
 use Rattle.floats.specs.Lists.{anyOf}
 use Rattle.rows.specs.Codes.{geometricOf}
 use Rattle.rows.specs.Row.{has, hasPoint}
@@ -16,7 +17,7 @@ use Rattle.spline_points.proofs.channels.has_point.Lts as lts
 use Rattle.spline_points.proofs.channels.programs.Reads as programs-reads
 
 abbrev Inv-loop : tie.InvT-loop
-Inv-loop axes row present i₀ i = (i ≤ length axes) × (hasPoint (geometricOf axes) row ≡ anyOf (λ (k : ℕ). leb k 9 && has present k) (drop i axes))
+Inv-loop axes row present i₀ i = (i ≤ length axes) × (hasPoint (geometricOf axes) row ≡ anyOf (λ (k : ℕ). ltb k axisCodes && has present k) (drop i axes))
 
 abbrev μ-loop : tie.MeasureT-loop
 μ-loop axes row present i₀ i = length axes - i

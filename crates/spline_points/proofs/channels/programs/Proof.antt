@@ -1,6 +1,7 @@
+use Rattle.layout.specs.Layout.{axisCodes}
 use mathlib.Core.Path.{_≡_, sym, _∙_}
 use lib.Dec.{leb}
-use borrow.Author.Tests.{le-leb, lt-leb}
+use borrow.Author.Tests.{lt-ltb, le-ltb}
 use borrow.Author.Needs.{needs}
 use Rattle.spline_points.proofs.channels.programs.Statement.{statement}
 use Rattle.spline_points.proofs.channels.programs.Tie as tie
@@ -9,13 +10,13 @@ use Rattle.spline_points.proofs.channels.programs.Lts as lts
 use Rattle.rows.proofs.has_bit.Reads as has-bit-reads
 
 returns : tie.Need-returns
-returns c = rw (lt-leb _ 9 (c .if1 .taken))
+returns c = rw (le-ltb _ axisCodes (c .if1 .taken))
 
 has-bit-requires : tie.Need-has-bit-requires
 has-bit-requires c κs = search needs
 
 returns-2 : tie.Need-returns-2
-returns-2 c = (c .has-bit .ensures) ∙ rw (le-leb _ 9 (c .before .if1 .left))
+returns-2 c = (c .has-bit .ensures) ∙ rw (lt-ltb _ axisCodes (c .before .if1 .left))
 
 pub programs-spec : {M : Type 1} → statement M
 programs-spec = tie.close (tie.spec returns has-bit-requires returns-2)

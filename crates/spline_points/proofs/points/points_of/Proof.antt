@@ -3,7 +3,6 @@ use native.Mathlib.Omega.{arith}
 use borrow.Author.Needs.{needs}
 use lib.ListN.{length-set}
 use Rattle.spline_points.specs.Curve.{points-are}
-use borrow.Author.Needs.{needs}
 use Rattle.spline_points.proofs.points.points_of.Statement.{statement}
 use Rattle.spline_points.proofs.points.points_of.Tie as tie
 use Rattle.spline_points.proofs.points.points_of.Reads as reads

@@ -1,11 +1,11 @@
--- `rows::kind_of` meets its contract. Assumes nothing.
+-- `motion::kind_of` meets its contract. Assumes nothing.
 use mathlib.Core.Path.{sym, ap, _∙_}
 use native.Mathlib.Omega.{arith}
 use borrow.Author.Tests.{le-leb, lt-leb, ne-eqb}
-use Rattle.rows.specs.Truth.{cond-t, cond-f}
-use Rattle.rows.specs.Codes.{kindOf}
-use Rattle.rows.proofs.kind_of.Statement.{statement}
-use Rattle.rows.proofs.kind_of.Tie as tie
+use Rattle.floats.specs.Truth.{cond-t, cond-f}
+use Rattle.motion.specs.Motion.{kindOf}
+use Rattle.motion.proofs.kind_of.Statement.{statement}
+use Rattle.motion.proofs.kind_of.Tie as tie
 
 returns : tie.Need-returns
 unfolding kindOf

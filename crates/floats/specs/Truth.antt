@@ -5,7 +5,7 @@ use mathlib.Core.Bool.{Bool, true, false, _&&_, _||_, cond, false≢true, and-fa
 use mathlib.Core.Logic.{⊎-elim}
 use native.Mathlib.Nat.{not-suc-le-zero, le-of-suc-le-suc, eq-or-lt-of-le, le-refl, le-step}
 use native.Mathlib.Numerals.{add-one}
-use Rattle.rows.specs.Row.{all}
+use Rattle.floats.specs.Lists.{all}
 
 pub and-t : {a : Bool} (b : Bool) → a ≡ true → (a && b) ≡ b
 and-t b p = rw p
