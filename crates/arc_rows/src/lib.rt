@@ -2,7 +2,7 @@
 use layout::R_PRESENT;
 ghost use mathlib.Core.Path.{_≡_};
 ghost use mathlib.Core.Option.{Option·getD};
-ghost use Prim.Native.Nat.{ℕ, _+_, _^_, _<_, _≤_};
+ghost use Prim.Native.Nat.{_+_, _^_, _<_, _≤_};
 ghost use lib.ListN.{length};
 ghost use Rattle.floats.specs.Numbers.{num};
 ghost use Rattle.floats.specs.Lists.{flatten, spliced};

@@ -1,23 +1,23 @@
 -- Laws of a B-spline's runs: one for each control point after the start, end to end all the samples in curve order, every point with its channels. Assumes nothing.
-use mathlib.Core.Path.{_≡_, refl, sym, ap, _∙_, subst}
+use mathlib.Core.Path.{_≡_, refl, sym, ap, _∙_}
 use mathlib.Core.Bool.{Bool, true, false, cond}
 use mathlib.Core.List.{List, [], _∷_, _++_, map}
-use mathlib.Core.Logic.{_⊎_, inl, inr, ⊎-elim}
+use mathlib.Core.Logic.{_⊎_, ⊎-elim}
 use Prim.Native.Nat.{ℕ, zero, suc, _+_, _-_, _≤_, _<_}
 use native.Mathlib.Nat.{eq-or-lt-of-le}
 use native.Mathlib.Omega.{arith}
 use lib.Dec.{leb, eqb}
-use lib.ListN.{length, getD, length-append}
+use lib.ListN.{length, getD}
 use lib.Ieee.{Float, lt}
 use borrow.Author.Tests.{le-leb, lt-leb, eq-eqb, ne-eqb}
 use Rattle.floats.specs.Numbers.{ofNat}
 use Rattle.floats.specs.Lists.{upto, keep, flatten}
 use Rattle.floats.specs.Fill.{length-upto, at-upto, lt-or-le}
 use Rattle.curve_metric.specs.Metric.{pointOf}
-use Rattle.curve_metric.specs.Walk.{Sample, samples}
-use Rattle.curve_metric.specs.WalkLaws.{Wide, samples-end, samples-wide}
-use Rattle.curve_metric.specs.Ends.{EndsWith, Every, ends-append, every-upto, every-flatten, every-map}
-use Rattle.bspline_tables.specs.Joins.{flatten-snoc, map-append, keep-append, keep-here, keep-not}
+use Rattle.curve_metric.specs.Walk.{Sample}
+use Rattle.curve_metric.specs.WalkLaws.{Wide, samples-wide}
+use Rattle.curve_metric.specs.Ends.{Every, every-upto, every-flatten, every-map}
+use Rattle.bspline_tables.specs.Joins.{flatten-snoc, map-append, keep-here, keep-not}
 use Rattle.bspline_tables.specs.Basis.{Bspline, spansOf, basisOf, evalBasis, basisSamples, greville, ownerFrom, Owned, owned, runOf, basisRuns}
 
 abbrev pub pointIs : Owned → List Float

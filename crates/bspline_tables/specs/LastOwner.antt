@@ -1,14 +1,11 @@
 -- The sample at a B-spline's last parameter belongs to the last control point: every Greville value before is below that parameter. Assumes nothing.
-use mathlib.Core.List.{List}
-use mathlib.Core.Bool.{Bool, true, false, cond, _||_, _&&_, true≢false, false≢true}
+use mathlib.Core.Bool.{Bool, true, false, _||_, _&&_, true≢false}
 use mathlib.Core.Logic.{_⊎_, inl, inr, ⊎-elim}
 use mathlib.Core.Path.{_≡_, refl, sym, ap, _∙_, subst}
-use Prim.Native.Nat.{ℕ, zero, suc, _+_, _-_, _*_, _^_, _≤_, _<_, min}
+use Prim.Native.Nat.{ℕ, zero, suc, _+_, _-_, _*_, _≤_, _<_, min}
 use native.Mathlib.Omega.{arith}
-use native.Mathlib.Nat.{mul-one, one-mul, mul-comm, mul-assoc, mul-right-comm, mul-pos, zero-lt-suc, mul-le-mul-right, mul-le-mul-left, mul-lt-mul-of-pos-right, lt-of-mul-lt-mul-right, mul-mul-mul-comm, suc-mul}
+use native.Mathlib.Nat.{mul-one, mul-comm, mul-assoc, mul-right-comm, mul-pos, zero-lt-suc, mul-le-mul-right, mul-le-mul-left, mul-lt-mul-of-pos-right, lt-of-mul-lt-mul-right, suc-mul}
 use lib.Dec.{T, ltb, eqb}
-use lib.IntN.{pos}
-use lib.Pow.{pow-pos}
 use lib.Ieee as Ieee
 use lib.Ieee.{Float, nan, inf, fin, binary64, up, down, round, lt, le, div}
 use lib.Ieee.Fits.{down-pos, up-pos}
@@ -16,7 +13,7 @@ use lib.Ieee.Exact.{HasValue}
 use lib.Ieee.Scale.{round-same}
 use lib.Ieee.Order.{round-mono}
 use borrow.Author.Tests.{lt-ltb, ltb-true, eqb-true, ne-eqb}
-use Rattle.floats.specs.Numbers.{_⊕_, _⊘_, ofNat, f0, at}
+use Rattle.floats.specs.Numbers.{_⊘_, ofNat, at}
 use Rattle.floats.specs.Fill.{at-upto}
 use Rattle.floats.specs.FloatLaws.{whole-value, whole-add}
 use Rattle.floats.specs.Dyadic.{dy, dy-value}

@@ -1,8 +1,8 @@
 -- The last run of a B-spline ends at the curve's last parameter, so it is not empty. Assumes nothing.
-use mathlib.Core.Path.{_≡_, refl, sym, ap, _∙_, subst}
+use mathlib.Core.Path.{_≡_, refl, ap, _∙_, subst}
 use mathlib.Core.Bool.{Bool, true}
 use mathlib.Core.List.{List, [], _∷_, _++_}
-use Prim.Native.Nat.{ℕ, zero, suc, _+_, _-_, _≤_, _<_}
+use Prim.Native.Nat.{ℕ, suc, _+_, _-_, _≤_}
 use native.Mathlib.Omega.{arith}
 use lib.Dec.{eqb}
 use lib.ListN.{length, getD}
@@ -14,7 +14,7 @@ use Rattle.curve_metric.specs.Walk.{Sample, samples}
 use Rattle.curve_metric.specs.WalkLaws.{samples-end}
 use Rattle.curve_metric.specs.Ends.{EndsWith, ends-one, ends-append, ends-map}
 use Rattle.bspline_tables.specs.Joins.{flatten-snoc, keep-append, keep-here, keep-none}
-use Rattle.bspline_tables.specs.Basis.{Bspline, degreeOf, knots, spansOf, basisOf, evalBasis, basisSamples, ownerFrom, Owned, owned, runOf, basisRuns}
+use Rattle.bspline_tables.specs.Basis.{Bspline, degreeOf, spansOf, basisOf, evalBasis, basisSamples, ownerFrom, Owned, owned, runOf, basisRuns}
 use Rattle.bspline_tables.specs.BasisLaws.{pointIs, run-at, owner-in}
 use Rattle.bspline_tables.specs.LastOwner.{last-owner}
 

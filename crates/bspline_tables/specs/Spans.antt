@@ -1,20 +1,19 @@
 -- The knot span of a parameter lies below the last knot. Assumes nothing.
 use mathlib.Core.Path.{_≡_, refl, sym, ap, _∙_, subst}
-use mathlib.Core.Bool.{Bool, true, false, _&&_, _||_, cond, true≢false, false≢true}
-use mathlib.Core.Logic.{_⊎_, inl, inr, ⊎-elim}
-use Prim.Native.Nat.{ℕ, zero, suc, _+_, _-_, _*_, _/_, _^_, _<_, _≤_}
+use mathlib.Core.Bool.{Bool, true, false, _&&_, _||_, cond, true≢false}
+use mathlib.Core.Logic.{_⊎_, ⊎-elim}
+use Prim.Native.Nat.{ℕ, _+_, _-_, _*_, _/_, _^_, _<_, _≤_}
 use native.Mathlib.Nat.{mul-one, mul-right-comm, mul-le-mul-right, lt-of-mul-lt-mul-right, div-lt-iff-lt-mul}
 use native.Mathlib.Omega.{arith}
-use lib.Dec.{T, ltb, eqb}
-use lib.IntN.{pos}
+use lib.Dec.{ltb, eqb}
 use lib.Ieee as Ieee
-use lib.Ieee.{Float, nan, inf, fin, binary64, up, down, lt, le, eq}
+use lib.Ieee.{Float, nan, inf, fin, up, down, lt, le, eq}
 use lib.Ieee.Fits.{down-pos}
 use lib.Ieee.Exact.{HasValue}
 use borrow.Author.Tests.{ltb-false, eq-eqb, lt-ltb}
-use Rattle.floats.specs.Numbers.{f0, ofNat}
+use Rattle.floats.specs.Numbers.{ofNat}
 use Rattle.floats.specs.FloatLaws.{whole-value}
-use Rattle.whole.specs.Whole.{truncOf, truncCount}
+use Rattle.whole.specs.Whole.{truncCount}
 use Rattle.bspline_tables.specs.Tables.{spanIn}
 
 or-false : (a b : Bool) → (a || b) ≡ false → a ≡ false

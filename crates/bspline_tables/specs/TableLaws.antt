@@ -1,17 +1,16 @@
 -- The tables of a B-spline give its points and its owners. Assumes nothing.
 use mathlib.Core.Path.{_≡_, refl, sym, ap, _∙_}
-use mathlib.Core.Bool.{Bool, true, false, cond}
+use mathlib.Core.Bool.{cond}
 use mathlib.Core.List.{List}
-use Prim.Native.Nat.{ℕ, zero, suc, _+_, _-_, _*_, _<_, _≤_}
+use Prim.Native.Nat.{ℕ, zero, suc, _+_, _-_, _<_, _≤_}
 use native.Mathlib.Omega.{arith}
 use lib.ListN.{length, take, drop, length-drop}
 use lib.Seq.{ext-getD, getD-take, getD-drop, length-take-le}
-use lib.Ieee.{Float, nan, lt, le}
+use lib.Ieee.{Float, nan, lt}
 use borrow.Author.Tests.{lt-ltb, le-ltb}
 use Rattle.floats.specs.Numbers.{_⊗_, _⊘_, ofNat, at}
 use Rattle.floats.specs.Lists.{upto, row, rowsOf, Agrees}
 use Rattle.floats.specs.Fill.{length-upto, at-upto, upto-below}
-use Rattle.whole.specs.Whole.{truncCount}
 use Rattle.curve_metric.specs.Metric.{pointOf}
 use Rattle.curve_metric.specs.Points.{length-rows, point-rows, row-fits, length-row, at-row}
 use Rattle.bspline_tables.specs.Basis.{Bspline, knots, share, raisedAt, levels, basisOf, spanOf, topOf, evalBasis, knotSum, greville, ownerFrom}

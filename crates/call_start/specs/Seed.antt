@@ -1,6 +1,6 @@
 -- Document 01, "Seed: 9 (state fields), 2, 3": what a seed answers and leaves. Assumes nothing.
 use Prim.Native.Nat.{ℕ}
-use mathlib.Core.Bool.{Bool, cond}
+use mathlib.Core.Bool.{cond}
 use mathlib.Core.List.{List}
 use lib.Dec.{leb}
 use Rattle.layout.specs.Layout.{lastCode}

@@ -1,6 +1,6 @@
 -- Document 01, "Fresh state" and "Start: 9 (length only), 1, 2": what a start answers and leaves. Assumes nothing.
 use Prim.Native.Nat.{ℕ, _-_}
-use mathlib.Core.Bool.{Bool, cond}
+use mathlib.Core.Bool.{cond}
 use mathlib.Core.List.{List}
 use lib.ListN.{length, getD}
 use lib.Dec.{ltb, eqb}

@@ -8,7 +8,7 @@ use mathlib.Core.Bool.{Bool, true, false, cond, true≢false}
 use lib.Dec.{eqb, lit<, lit≤}
 use lib.IntN.{pos}
 use lib.Pow.{pow-pos, pow-mono}
-use lib.Ieee.{Float, nan, inf, fin, binary64, up, down, size, nearest, div, neg, round, ofInt, ofBits, lt}
+use lib.Ieee.{Float, nan, inf, fin, binary64, up, down, size, div, neg, round, ofInt, ofBits, lt}
 use lib.Ieee.Digits.{size-le}
 use lib.Ieee.Fits.{down-pos}
 use lib.Ieee.Exact.{HasValue}

@@ -1,12 +1,11 @@
 // The fields of the row text that hold numbers: reading them from a slice, and storing them into one.
 ghost use mathlib.Core.Path.{_≡_};
-ghost use mathlib.Core.List.{List, [], _∷_, _++_};
-ghost use Prim.Native.Nat.{ℕ, _+_, _*_, _/_, _%_, _^_, _≤_, _<_};
-ghost use lib.ListN.{length, take, drop};
-ghost use Rattle.csv_decimal.specs.Decimal.{millionths, quotient, width};
+ghost use mathlib.Core.List.{[], _∷_};
+ghost use Prim.Native.Nat.{_+_, _*_, _/_, _≤_, _<_};
+ghost use lib.ListN.{length, take};
 ghost use Rattle.csv_fields.specs.Out.{Wrote};
 ghost use Rattle.csv_fields.specs.Read.{run, num, fraction, unsigned, number, lineNumber};
-ghost use Rattle.csv_fields.specs.Write.{figures, wholeText, millionthsText, numberText, Put};
+ghost use Rattle.csv_fields.specs.Write.{figures, wholeText, millionthsText, Put};
 
 // What a number field holds.
 pub enum Number {

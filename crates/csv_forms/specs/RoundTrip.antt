@@ -15,7 +15,7 @@ use borrow.Author.Tests.{ne-eqb, lt-ltb, ltb-true}
 use Rattle.floats.specs.Numbers.{num, bits}
 use Rattle.floats.specs.Lists.{upto, isSome, all}
 use Rattle.floats.specs.Fill.{length-upto}
-use Rattle.layout.specs.Layout.{rCells, cells}
+use Rattle.layout.specs.Layout.{rCells}
 use Rattle.rows.specs.Codes.{planeOk}
 use Rattle.rows.specs.Row.{has, maskOf, rowOf, presentOf, lineOf, motionOf, planeOf, markOf}
 use Rattle.csv_decimal.specs.Decimal.{millionths, quotient, width}

@@ -1,7 +1,7 @@
 // Lines: their ends, the headers, the columns, and the lines of standard error.
 ghost use mathlib.Core.Path.{_≡_};
 ghost use mathlib.Core.List.{_++_};
-ghost use Prim.Native.Nat.{ℕ, _+_, _≤_, _<_};
+ghost use Prim.Native.Nat.{_+_, _≤_, _<_};
 ghost use lib.ListN.{length};
 ghost use Rattle.csv_words.specs.Words.{same};
 ghost use Rattle.csv_fields.specs.Out.{Wrote};

@@ -7,14 +7,13 @@ use csv_words::Found;
 use layout::R_CELLS;
 use layout::R_PRESENT;
 ghost use mathlib.Core.Path.{_≡_};
-ghost use mathlib.Core.Bool.{cond};
 ghost use mathlib.Core.Option.{Option·getD};
-ghost use Prim.Native.Nat.{ℕ, _+_, _*_, _^_, _≤_, _<_};
+ghost use Prim.Native.Nat.{_+_, _*_, _^_, _≤_, _<_};
 ghost use lib.ListN.{length, drop};
 ghost use Rattle.floats.specs.Lists.{isSome};
 ghost use Rattle.csv_line.specs.LineText.{parted, reach};
-ghost use Rattle.csv_read.specs.Reader.{cellsOk, fromPlane, fromMotion, readRow};
-ghost use Rattle.csv_read.specs.Cells.{CellIs, CellsRead, placed, masked, Took};
+ghost use Rattle.csv_read.specs.Reader.{fromPlane, fromMotion, readRow};
+ghost use Rattle.csv_read.specs.Cells.{CellIs, CellsRead, Took};
 
 // What the field of a cell holds: a number has the bit 1, an empty field none.
 pub struct Cell {

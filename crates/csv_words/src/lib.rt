@@ -1,7 +1,7 @@
 // The words of the row text, from one table that the reader and the writer share: a motion word's place in it
 // is its code.
 ghost use mathlib.Core.Path.{_≡_};
-ghost use Prim.Native.Nat.{ℕ, _+_, _-_, _*_, _/_, _%_, _^_, _≤_, _<_};
+ghost use Prim.Native.Nat.{_+_, _-_, _*_, _/_, _%_, _^_, _≤_, _<_};
 ghost use lib.ListN.{length};
 ghost use Rattle.csv_fields.specs.Out.{Wrote};
 ghost use Rattle.csv_words.specs.Words.{wordAt, planeText, seek, motionOf, planeOf, pack, wordNumber, chars};

@@ -13,13 +13,13 @@ use layout::R_PRESENT;
 use layout::ROW_WORDS;
 ghost use mathlib.Core.Path.{_≡_};
 ghost use mathlib.Core.List.{_∷_, _++_};
-ghost use Prim.Native.Nat.{ℕ, _+_, _*_, _≤_, _<_};
+ghost use Prim.Native.Nat.{_+_, _*_, _≤_, _<_};
 ghost use lib.ListN.{length};
-ghost use Rattle.floats.specs.Lists.{flatten, upto, all};
+ghost use Rattle.floats.specs.Lists.{all};
 ghost use Rattle.rows.specs.Row.{motionOf, planeOf};
 ghost use Rattle.csv_fields.specs.Out.{Wrote};
 ghost use Rattle.csv_line.specs.LineText.{comma, crlf, tailed, joined};
-ghost use Rattle.csv_write.specs.Writer.{cellText, cellShown, cellTexts, headFields, markText, rowText, writable, rowAt, rowsText, rowsWritable, Tried};
+ghost use Rattle.csv_write.specs.Writer.{cellText, cellShown, cellTexts, headFields, markText, rowText, writable, rowsText, rowsWritable, Tried};
 
 const MOTIONS: u64 = 16;
 

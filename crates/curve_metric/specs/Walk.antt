@@ -3,7 +3,7 @@ use Prim.Native.Nat.{ℕ, zero, suc}
 use mathlib.Core.Bool.{Bool, cond, _&&_}
 use mathlib.Core.List.{List, [], _∷_, _++_}
 use lib.Ieee.{Float, le}
-use Rattle.floats.specs.Numbers.{_⊕_, _⊖_, _⊗_, f¼, f½, f¾, at}
+use Rattle.floats.specs.Numbers.{_⊕_, _⊖_, _⊗_, f¼, f½, f¾}
 use Rattle.curve_metric.specs.Metric.{deviationOf}
 
 -- ---- "Test at middle, quarter and three quarters; stop at depth 20"

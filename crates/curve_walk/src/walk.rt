@@ -12,7 +12,7 @@ ghost use lib.Dec.{ltb, eqb};
 ghost use lib.ListN.{length, getD, set, replicate};
 ghost use Rattle.floats.specs.Numbers.{f0, at};
 ghost use Rattle.floats.specs.Lists.{filled};
-ghost use Rattle.curve_metric.specs.Walk.{near, flat, samples, middle};
+ghost use Rattle.curve_metric.specs.Walk.{near, flat, samples};
 ghost use Rattle.curve_walk.specs.Walks.{encode, pointAt, evalOf, ownOf, Tables, Stretch, Owners, bumped, Counted, Counts, pointsOf, Written};
 ghost use Rattle.curve_walk.specs.Lefts.{leftsOf, Recalls, Stored, Cursor};
 

@@ -9,7 +9,7 @@ use native.Mathlib.Numerals.{add-one}
 use lib.ListN.{length, getD, take, drop, length-append, length-drop}
 use lib.Seq.{length-take-le, getD-take, getD-drop, ext-getD}
 use lib.Dec.{leb, eqb, ltb}
-use borrow.Author.Tests.{eqb-true, eqb-false, eq-eqb, ne-eqb, leb-true, lt-ltb, ltb-true, le-ltb}
+use borrow.Author.Tests.{eqb-true, eqb-false, eq-eqb, ne-eqb, leb-true, lt-ltb, ltb-true}
 use Rattle.floats.specs.Lists.{upto, member, spliced, all}
 use Rattle.floats.specs.Fill.{length-upto, at-upto}
 use Rattle.layout.specs.Layout.{axisCodes, cSD, rowWords, wAxes, wKnown, wStart, wMotion, wPlane, wDegree, wHeld, stateWords, mostHeld}

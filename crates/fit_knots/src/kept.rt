@@ -1,6 +1,5 @@
 // The points kept for the fit.
 use fit_slopes::sizes::SMALL;
-ghost use mathlib.Core.Path.{_≡_};
 ghost use Prim.Native.Nat.{_≤_, _<_, _+_, _-_};
 ghost use lib.ListN.{length, getD};
 ghost use Rattle.fit_knots.specs.Kept.{Kept, Judged};

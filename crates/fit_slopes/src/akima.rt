@@ -5,7 +5,7 @@ use crate::steps::straight_slopes;
 ghost use mathlib.Core.Path.{_≡_};
 ghost use Prim.Native.Nat.{_≤_, _<_, _+_, _-_};
 ghost use lib.ListN.{length};
-ghost use Rattle.floats.specs.Numbers.{_⊕_, _⊖_, _⊗_, at};
+ghost use Rattle.floats.specs.Numbers.{at};
 ghost use Rattle.floats.specs.Lists.{filled};
 ghost use Rattle.fit_slopes.specs.Slopes.{widened, akimaAt, akimaSlope};
 ghost use Rattle.fit_slopes.specs.Akima.{akimaOf, before, behind};

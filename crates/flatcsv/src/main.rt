@@ -16,7 +16,7 @@ use text_lines::line_end;
 use text_lines::read_more;
 use text_lines::to_front;
 ghost use mathlib.Core.Path.{_≡_};
-ghost use Prim.Native.Nat.{ℕ, _+_, _-_, _<_, _≤_};
+ghost use Prim.Native.Nat.{_-_, _<_, _≤_};
 ghost use lib.ListN.{length};
 ghost use Rattle.csv_out.specs.Bounds.{Waits, Roomy};
 

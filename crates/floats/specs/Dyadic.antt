@@ -1,12 +1,10 @@
 -- Whole multiples of a power of two down: their sums, differences, halves and quarters are exact. Assumes nothing.
 use mathlib.Core.Path.{_≡_, refl, sym, ap, _∙_, subst}
-use mathlib.Core.Logic.{_⊎_, inl, inr, ⊎-elim}
 use Prim.Native.Nat.{ℕ, zero, suc, _+_, _-_, _*_, _^_, _≤_, _<_}
-use native.Mathlib.Nat.{mul-assoc, mul-comm, mul-left-comm, mul-right-comm, mul-one, one-mul, zero-mul, mul-pos, zero-lt-suc, lt-of-lt-of-le, mul-mul-mul-comm, mul-lt-mul-of-pos-right, mul-le-mul-right, le-of-mul-le-mul-right, mul-sub, add-mul, pow-succ', eq-of-mul-eq-mul-right}
+use native.Mathlib.Nat.{mul-assoc, mul-comm, mul-right-comm, one-mul, zero-mul, mul-pos, zero-lt-suc, lt-of-lt-of-le, mul-mul-mul-comm, mul-lt-mul-of-pos-right, mul-le-mul-right, le-of-mul-le-mul-right, mul-sub, add-mul, pow-succ'}
 use native.Mathlib.Omega.{arith}
-use mathlib.Core.Bool.{Bool, true, false, true≢false, false≢true}
-use lib.IntN.{ℤ, pos, negsuc}
-use lib.Dec.{T, ltb}
+use mathlib.Core.Bool.{true, false, true≢false}
+use lib.IntN.{pos}
 use lib.Pow.{pow-add, pow-pos, pow-mono, shl-lt}
 use lib.Ieee.{Float, nan, inf, fin, binary64, up, down, round, sum, add, sub, mul, neg, lt, ofBits, ofInt}
 use lib.Ieee.Fits.{down-pos, up-pos}

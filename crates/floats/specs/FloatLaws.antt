@@ -1,23 +1,23 @@
 -- Exact laws of the rounded operations: by one, by zero, of a number with itself, and of whole numbers. Assumes nothing.
 use mathlib.Core.Path.{_≡_, refl, sym, ap, _∙_, subst}
-use mathlib.Core.Logic.{_⊎_, inl, inr, ⊎-elim}
+use mathlib.Core.Logic.{_⊎_, ⊎-elim}
 use Prim.Native.Nat.{ℕ, zero, suc, _+_, _-_, _*_, _/_, _%_, _^_, _≤_, _<_}
-use native.Mathlib.Nat.{mul-assoc, mul-comm, mul-left-comm, mul-right-comm, mul-one, one-mul, zero-mul, mul-pos, zero-lt-suc, lt-of-lt-of-le, lt-of-not-le, not-le-of-lt, le-of-eq, lt-irrefl, eq-of-mul-eq-mul-right, lt-of-mul-lt-mul-right, mul-lt-mul-of-pos-right, mul-le-mul-right, mul-le-mul, mul-mul-mul-comm, mul-sub}
+use native.Mathlib.Nat.{mul-assoc, mul-comm, mul-right-comm, mul-one, one-mul, zero-mul, mul-pos, zero-lt-suc, not-le-of-lt, lt-irrefl, eq-of-mul-eq-mul-right, lt-of-mul-lt-mul-right, mul-lt-mul-of-pos-right, mul-le-mul-right, mul-le-mul, mul-mul-mul-comm, mul-sub}
 use native.Mathlib.Omega.{arith}
-use mathlib.Core.Bool.{Bool, true, false, not, _&&_, Bool·beq, cond, true≢false, false≢true}
+use mathlib.Core.Bool.{Bool, true, false, not, _&&_, cond, true≢false}
 use lib.IntN.{ℤ, pos, negsuc}
 use lib.Dec.{T, leb, ltb, eqb, ltb→lt, leb→le}
 use lib.Pow.{pow-add, pow-pos, pow-lt}
-use lib.Ieee.{Float, nan, inf, fin, Format, binary32, binary64, prec, emax, low, unlike, up, down, size, round, sum, add, sub, mul, div, neg, lt, le, odd, units, fits, toBits, ofBits, ofInt}
-use lib.Ieee.Fits.{down-pos, up-pos, and-l, and-r, round-fits, ofInt-fits, add-fits, sub-fits, mul-fits, div-fits}
-use lib.Ieee.Bits.{ofBits-toBits, ofBits-fits}
+use lib.Ieee.{Float, nan, inf, fin, Format, binary32, binary64, prec, emax, low, unlike, up, down, round, sum, add, sub, mul, div, neg, lt, le, odd, units, fits, toBits, ofBits, ofInt}
+use lib.Ieee.Fits.{down-pos, up-pos, and-l, and-r, round-fits, ofInt-fits}
+use lib.Ieee.Bits.{ofBits-toBits}
 use lib.Ieee.Exact.{HasValue, round-exact}
 use lib.Ieee.Nearest.{div-same}
 use lib.Ieee.Scale.{finite, round-same}
 use lib.Ieee.Back.{round-whole}
 use lib.Ieee.Order.{round-mono}
 use borrow.Author.Tests.{lt-ltb, le-ltb, ne-eqb, eq-eqb}
-use Rattle.floats.specs.Numbers.{_⊕_, _⊖_, _⊗_, _⊘_, f0, f1}
+use Rattle.floats.specs.Numbers.{_⊕_, _⊖_, _⊗_, f0, f1}
 
 -- ---- a value that fits is written in one way
 

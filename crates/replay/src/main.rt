@@ -17,7 +17,7 @@ use replay_text::output::flush;
 use text_lines::line_end;
 use text_lines::read_more;
 use text_lines::to_front;
-ghost use Prim.Native.Nat.{ℕ, _+_, _-_, _<_, _≤_};
+ghost use Prim.Native.Nat.{_+_, _-_, _<_, _≤_};
 ghost use lib.ListN.{length};
 ghost use mathlib.Core.Path.{_≡_};
 

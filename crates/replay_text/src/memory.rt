@@ -1,9 +1,7 @@
 // The memory that is lent, and whether a refused call left it alone.
 use layout::ROW_WORDS;
 ghost use Prim.Native.Nat.{_≤_, _<_, _+_};
-ghost use lib.ListN.{length};
 ghost use Rattle.io.specs.Counts.{Counts};
-ghost use mathlib.Core.Path.{_≡_};
 
 // The most that is lent, by docs/INTERFACE.md: words of a state or a row, blocks of a store, rows; and the words of these.
 pub const MOST_LENGTH: usize = 64;

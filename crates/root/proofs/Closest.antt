@@ -3,21 +3,21 @@
 use mathlib.Core.Path.{_≡_, refl, sym, ap, _∙_, subst}
 use mathlib.Core.Logic.{_⊎_, inl, inr, ⊎-elim}
 use Prim.Native.Nat.{ℕ, zero, suc, _+_, _-_, _*_, _/_, _%_, _^_, _≤_, _<_, Ordering, Ordering·lt, Ordering·eq, Ordering·gt, compare}
-use native.Mathlib.Nat.{le-refl, le-trans, le-of-eq, le-of-lt, lt-of-lt-of-le, lt-of-le-of-lt, lt-of-not-le, lt-irrefl, zero-mul, mul-one, mul-assoc, mul-right-comm, mul-pos, mul-le-mul, mul-le-mul-left, mul-le-mul-right, mul-lt-mul-of-pos-right, lt-of-mul-lt-mul-right, eq-of-mul-eq-mul-right, div-lt-iff-lt-mul, le-div-iff-mul-le, suc-mul, add-mul}
+use native.Mathlib.Nat.{le-trans, le-of-eq, le-of-lt, lt-of-lt-of-le, lt-of-le-of-lt, lt-of-not-le, lt-irrefl, zero-mul, mul-one, mul-assoc, mul-right-comm, mul-pos, mul-le-mul, mul-le-mul-right, mul-lt-mul-of-pos-right, lt-of-mul-lt-mul-right, eq-of-mul-eq-mul-right, div-lt-iff-lt-mul, le-div-iff-mul-le, suc-mul, add-mul}
 use native.Mathlib.Omega.{arith}
 use native.Mathlib.Decide.{decLe}
-use mathlib.Core.Bool.{Bool, true, false, _&&_}
+use mathlib.Core.Bool.{false, _&&_}
 use lib.Dec.{T, leb, ltb, eqb, ltb→lt, leb→le}
-use lib.IntN.{ℤ, pos, negsuc}
+use lib.IntN.{pos, negsuc}
 use lib.Pow.{pow-add, pow-pos, pow-mono}
-use lib.Ieee.{Float, nan, inf, fin, binary64, up, down, size, nearest, units, fits}
+use lib.Ieee.{Float, nan, inf, fin, binary64, up, down, size, nearest, fits}
 use lib.Ieee.Digits.{size-lt, size-le, size-reaches}
 use lib.Ieee.Fits.{down-pos, nearest-le, and-l, and-r}
 use lib.Ieee.Exact.{HasValue, units-val}
-use Rattle.root.specs.Root.{floorRoot, rootUnits, sqrt}
+use Rattle.root.specs.Root.{floorRoot, sqrt}
 use Rattle.root.proofs.Floor.{floor-root}
 use Rattle.root.proofs.Whole.{Cmp, cmp}
-use Rattle.root.proofs.Rounded.{cut, rootUnits-is, even-pow, pow-lt-back, square-of-product}
+use Rattle.root.proofs.Rounded.{rootUnits-is, even-pow, pow-lt-back, square-of-product}
 use Rattle.root.proofs.Values.{sqrt-of-value}
 use Rattle.root.proofs.Holds.{digits-lt, half, few}
 

@@ -1,15 +1,15 @@
 -- The format holds the root of each value that it holds. Assumes nothing.
-use mathlib.Core.Path.{_≡_, refl, sym, ap, _∙_, subst}
-use Prim.Native.Nat.{ℕ, zero, suc, _+_, _-_, _*_, _/_, _%_, _^_, _≤_, _<_, Ordering, compare}
-use native.Mathlib.Nat.{le-trans, le-of-eq, le-of-lt, lt-of-lt-of-le, lt-of-le-of-lt, lt-of-not-le, lt-irrefl, mul-pos, mul-assoc, mul-comm, mul-right-comm, mul-le-mul-right, mul-le-mul-left, mul-lt-mul-of-pos-right, div-lt-iff-lt-mul}
+use mathlib.Core.Path.{_≡_, refl, sym, subst}
+use Prim.Native.Nat.{ℕ, zero, suc, _+_, _-_, _*_, _/_, _%_, _^_, _≤_, _<_, compare}
+use native.Mathlib.Nat.{le-trans, le-of-eq, lt-of-lt-of-le, lt-of-le-of-lt, lt-of-not-le, lt-irrefl, mul-pos, mul-right-comm, mul-le-mul-right, mul-le-mul-left, mul-lt-mul-of-pos-right, div-lt-iff-lt-mul}
 use native.Mathlib.Omega.{arith}
-use mathlib.Core.Bool.{Bool, true, false, cond, _&&_}
+use mathlib.Core.Bool.{true, false, _&&_}
 use lib.Dec.{T, leb, ltb, eqb, ltb→lt}
 use lib.Pow.{pow-add, pow-pos, pow-mono}
 use lib.IntN.{ℤ}
 use lib.Ieee.{Float, nan, inf, fin, binary64, up, down, size, nearest, units, odd, fits}
 use lib.Ieee.Digits.{size-lt, size-le}
-use lib.Ieee.Fits.{down-pos, nearest-le, odd-fits, cond-fits, nan-fits, inf-fits, and-r}
+use lib.Ieee.Fits.{down-pos, nearest-le, odd-fits, cond-fits, inf-fits, and-r}
 use Rattle.root.specs.Root.{floorRoot, rootUnits, sqrt}
 use Rattle.root.proofs.Floor.{floor-root}
 use Rattle.root.proofs.Rounded.{cut, rootUnits-is, even-pow}

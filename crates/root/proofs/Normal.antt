@@ -5,8 +5,8 @@ use mathlib.Core.Logic.{_⊎_, inl, inr, ⊎-elim}
 use mathlib.Core.Bool.{Bool, true, false, cond}
 use native.Mathlib.Nat.{lt-of-lt-of-le, mul-assoc, mul-pos, add-comm}
 use native.Mathlib.Omega.{arith}
-use lib.Dec.{T, eqb, eqb→eq, eqb-refl}
-use lib.Pow.{pow-add, pow-pos, pow-mono, shl-lt}
+use lib.Dec.{T, eqb, eqb→eq}
+use lib.Pow.{pow-pos, pow-mono, shl-lt}
 use lib.Ieee.{Float, binary64, toBits, ofBits}
 use lib.Ieee.Exact.{HasValue, units-val}
 use Rattle.root.specs.Root.{Nearest, rootUnits, sqrt}

@@ -1,12 +1,12 @@
 -- Laws of a walk over the set bits of a number, the lowest first: the bit, the bits after it, and what such a loop keeps. Assumes nothing.
-use Prim.Native.Nat.{ℕ, zero, suc, _+_, _-_, _*_, _/_, _%_, _^_, _<_, _≤_, min}
+use Prim.Native.Nat.{ℕ, zero, suc, _+_, _-_, _*_, _/_, _%_, _^_, _<_, _≤_}
 use mathlib.Core.Path.{_≡_, refl, sym, _∙_, ap, subst}
-use mathlib.Core.Bool.{Bool, true, false, cond, false≢true}
+use mathlib.Core.Bool.{true, false, cond, false≢true}
 use mathlib.Core.List.{List, [], _∷_, _++_, append-assoc}
 use native.Mathlib.Omega.{arith}
 use native.Mathlib.Nat.{lt-of-lt-of-le, mod-lt, mod-eq-of-lt, add-div-right, div-div-eq-div-mul, div-eq-of-lt, pow-suc, pow-succ'}
 use lib.Bits.{bitAnd, and-step, and-self}
-use lib.Count.{trailingZeros, under}
+use lib.Count.{trailingZeros}
 use lib.ListN.{length, getD, set, take, drop, length-set, length-append}
 use lib.Seq.{length-take-le, take-at, drop-append-add, set-append-left, getD-set-same, getD-set-other, ext-getD}
 use lib.Pow.{pow-pos, pow-mono}
@@ -17,7 +17,7 @@ use Rattle.floats.specs.Fill.{length-upto, at-upto, upto-below}
 use Rattle.floats.specs.Splice.{length-spliced}
 use Rattle.rows.specs.Row.{has}
 use Rattle.floats.specs.Truth.{by-bit, cond-t, cond-f}
-use Rattle.rows.specs.Masks.{has-none, has-past, bit-0, bit-1, add-other, mask-has, has-mask}
+use Rattle.rows.specs.Masks.{has-none, has-past, bit-1, add-other, mask-has, has-mask}
 
 -- the lowest set bit of a word, and the word without it
 abbrev pub lowest : ℕ → ℕ

@@ -1,6 +1,6 @@
 -- Document 01, "Row, axes, codes" and reply numbers 4, 3, 5: a row as words, its cells, and what an incoming row is refused for. Assumes nothing.
-use Prim.Native.Nat.{ℕ, zero, suc, _+_, _*_, _/_, _%_, _^_}
-use mathlib.Core.Bool.{Bool, true, false, _&&_, _||_, not, cond}
+use Prim.Native.Nat.{ℕ, _+_, _*_, _/_, _%_, _^_}
+use mathlib.Core.Bool.{Bool, _&&_, _||_, not, cond}
 use mathlib.Core.List.{List, [], _∷_, map}
 use mathlib.Core.Option.{Option, none, some, Option·getD}
 use lib.ListN.{length, getD}

@@ -22,7 +22,7 @@ ghost use lib.ListN.{length};
 ghost use Rattle.floats.specs.Lists.{upto, spliced};
 ghost use Rattle.layout.specs.Layout.{axisCodes, cells, rCells, rowWords};
 ghost use Rattle.rows.specs.Codes.{planeOk};
-ghost use Rattle.rows.specs.Row.{has, within, above1000, shapeOk, numbersOk, turnOk, rowCheck, cell, shown, axesOf, outRow, rides, madeRow};
+ghost use Rattle.rows.specs.Row.{has, within, above1000, shapeOk, numbersOk, turnOk, rowCheck, shown, axesOf, outRow, rides, madeRow};
 ghost use Rattle.rows.specs.FirstCells.{maskOk};
 ghost use Rattle.rows.specs.RowLaws.{cellWord, shownWord, madeHas, madeWord, MadeOf};
 ghost use Rattle.rows.specs.Masks.{maskSum};

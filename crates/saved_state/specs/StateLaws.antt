@@ -6,7 +6,7 @@ use mathlib.Core.List.{List}
 use native.Mathlib.Omega.{arith}
 use lib.ListN.{length, getD, take, drop}
 use lib.Dec.{leb, ltb, eqb}
-use borrow.Author.Tests.{eqb-true, leb-true, ltb-true, eq-eqb, lt-ltb, le-ltb}
+use borrow.Author.Tests.{eqb-true, leb-true, ltb-true, eq-eqb}
 use Rattle.floats.specs.Lists.{member, all}
 use Rattle.layout.specs.Layout.{axisCodes, wAxes, wKnown, wStart, stateWords, mostHeld, mostDegree}
 use Rattle.motion.specs.Motion.{isSpline}

@@ -34,7 +34,6 @@ ghost use lib.ListN.{length, getD};
 ghost use lib.Dec.{leb, ltb, eqb};
 ghost use Rattle.floats.specs.Lists.{member, all};
 ghost use Rattle.layout.specs.Layout.{axisCodes, lastCode, rowWords, wStart, stateWords};
-ghost use Rattle.motion.specs.Motion.{isSpline};
 ghost use Rattle.rows.specs.Row.{has, rowCheck};
 ghost use Rattle.rows.specs.Masks.{maskSum};
 ghost use Rattle.saved_state.specs.State.{tolOk, codesOk, axesOk, geometric, pointAtOk, pointOk, heldOk, stateOk, heldRowOk, savedCheck, withBit, placed};

@@ -11,7 +11,7 @@ use lib.Dec.{leb, eqb, ltb}
 use lib.ListN.{length, getD, take, drop, replicate, length-append, length-map, length-replicate, List·getD-eq-default, getD-replicate}
 use lib.Seq.{drop-append-add, drop-drop, take-length}
 use lib.Ieee.{Float}
-use borrow.Author.Tests.{le-leb, lt-leb, ltb-true, lt-ltb, le-ltb}
+use borrow.Author.Tests.{le-leb, lt-leb, lt-ltb, le-ltb}
 use Rattle.floats.specs.Numbers.{bits, f1}
 use Rattle.floats.specs.Lists.{upto, keep, member, filled, flatten, rowsOf, spliced}
 use Rattle.floats.specs.Fill.{length-upto, at-filled, past-filled, length-filled, lt-or-le}

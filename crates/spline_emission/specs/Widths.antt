@@ -4,19 +4,18 @@ use mathlib.Core.Path.{_≡_, refl, sym, _∙_, ap}
 use mathlib.Core.Bool.{Bool, true, false, cond}
 use mathlib.Core.List.{List, [], _∷_, _++_, map, map-append, append-nil}
 use mathlib.Core.Logic.{⊎-elim}
-use native.Mathlib.Nat.{mul-le-mul-right, suc-mul, zero-mul, eq-or-lt-of-le, le-trans}
-use native.Mathlib.Numerals.{add-one}
+use native.Mathlib.Nat.{mul-le-mul-right, le-trans}
 use native.Mathlib.Omega.{arith}
 use lib.Dec.{eqb, ltb}
 use lib.ListN.{length, getD, length-append, length-map, List·getD-append, List·getD-eq-default}
 use lib.Seq.{getD-at}
 use lib.Pow.{pow-pos}
 use lib.Ieee.{Float, lt, le}
-use borrow.Author.Tests.{ltb-true, ltb-false}
+use borrow.Author.Tests.{ltb-false}
 use Rattle.floats.specs.Numbers.{at, _⊖_, 1e-12}
 use Rattle.floats.specs.Lists.{upto, keep, flatten}
 use Rattle.floats.specs.Fill.{length-upto, at-upto, lt-or-le}
-use Rattle.spline_points.specs.Flat.{Sized, sized-append, sized-cons, flatten-append}
+use Rattle.spline_points.specs.Flat.{Sized, sized-append, flatten-append}
 use Rattle.spline_points.specs.Keeps.{keep-most}
 use Rattle.curve_metric.specs.Metric.{pointOf, chords}
 use Rattle.curve_metric.specs.Walk.{Sample, middle, samples, flat}

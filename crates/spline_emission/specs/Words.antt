@@ -1,9 +1,9 @@
 -- The groups of a spline, as the code writes them: the same rows, and their number. Assumes nothing.
-use Prim.Native.Nat.{ℕ, zero, suc, _+_, _*_, _-_, _≤_, _<_}
-use mathlib.Core.Path.{_≡_, refl, sym, _∙_, ap, ap₂, subst}
-use mathlib.Core.Bool.{Bool, true, false, cond, not, _&&_, _||_, false≢true, true≢false}
-use mathlib.Core.List.{List, [], _∷_, _++_, map, append-nil, append-assoc}
-use mathlib.Core.Option.{Option, none, some}
+use Prim.Native.Nat.{ℕ, zero, suc, _+_, _-_, _≤_, _<_}
+use mathlib.Core.Path.{_≡_, refl, sym, _∙_, ap, ap₂}
+use mathlib.Core.Bool.{Bool, true, false, cond, _||_, false≢true}
+use mathlib.Core.List.{List, [], _∷_, _++_, map, append-nil}
+use mathlib.Core.Option.{none, some}
 use mathlib.Core.Logic.{⊎-elim}
 use native.Mathlib.Nat.{eq-or-lt-of-le, le-refl, le-trans, le-of-suc-le-suc}
 use native.Mathlib.Numerals.{add-one}
@@ -12,11 +12,10 @@ use lib.Dec.{eqb}
 use lib.ListN.{length, getD, take, drop, length-append, List·getD-append}
 use lib.Seq.{take-suc, take-all, take-append-le, split-at, getD-append-add}
 use lib.Ieee.{Float, nan}
-use borrow.Author.Tests.{eq-eqb, ne-eqb, eqb-true}
 use Rattle.floats.specs.Numbers.{bits, at}
 use Rattle.floats.specs.Lists.{upto, keep, member, flatten}
 use Rattle.floats.specs.Fill.{length-upto, at-upto, upto-below}
-use Rattle.rows.specs.Row.{has, cell, axesOf, hasPoint, outRow, madeRow}
+use Rattle.rows.specs.Row.{has, axesOf, hasPoint, outRow}
 use Rattle.rows.specs.RowLaws.{made-same}
 use Rattle.rows.specs.Masks.{member-small}
 use Rattle.spline_points.specs.Flat.{Sized, flatten-append}
@@ -25,8 +24,8 @@ use Rattle.spline_places.specs.declared.layout.Layout.{Layout}
 use Rattle.spline_places.specs.declared.place.Place.{Place}
 use Rattle.spline_places.specs.Groups.{isBasis, placeOf, sampleCell, ownCell, isMarked, pointGroup, heldGroup}
 use Rattle.spline_places.specs.Sizes.{sizeOf, moved, placeTo, place-next, place-points}
-use Rattle.spline_places.specs.Raw.{rawCell, rawOwn, rawMark, rawMotion, rawAt, rawRow, bareRow, rawGroup, rawBlock, rawHeld}
-use Rattle.spline_places.specs.Puts.{samplesOf, moved-rows, heldWords}
+use Rattle.spline_places.specs.Raw.{rawCell, rawOwn, rawMark, rawMotion, rawRow, bareRow, rawGroup, rawBlock, rawHeld}
+use Rattle.spline_places.specs.Puts.{samplesOf, moved-rows}
 use Rattle.spline_emission.specs.Widths.{getD-map, sized-at}
 
 -- ---- lists

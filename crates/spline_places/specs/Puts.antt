@@ -1,23 +1,22 @@
 -- What writing a block's rows asks, and the laws that its code cites. Assumes nothing.
-use Prim.Native.Nat.{ℕ, zero, suc, _+_, _*_, _-_, _^_, _≤_, _<_}
+use Prim.Native.Nat.{ℕ, zero, suc, _+_, _*_, _-_, _≤_, _<_}
 use mathlib.Core.Path.{_≡_, refl, sym, _∙_, ap, subst}
-use mathlib.Core.Bool.{Bool, true, false, cond, not, _&&_, _||_, true≢false}
+use mathlib.Core.Bool.{Bool, true, false, cond, not, _&&_, true≢false}
 use mathlib.Core.List.{List, [], _∷_, _++_, append-nil}
-use mathlib.Core.Option.{Option, none, some}
+use mathlib.Core.Option.{none, some}
 use mathlib.Core.Logic.{⊎-elim}
 use native.Mathlib.Nat.{mul-le-mul, le-refl, le-trans, le-of-suc-le-suc, eq-or-lt-of-le}
 use native.Mathlib.Numerals.{add-one}
 use native.Mathlib.Omega.{arith}
 use lib.Dec.{eqb}
-use lib.ListN.{length, getD, take, drop, replicate, length-append, length-drop}
+use lib.ListN.{length, getD, take, drop, replicate, length-drop}
 use lib.Seq.{getD-take, getD-drop, drop-cons, drop-length, take-all}
 use borrow.Author.Tests.{eq-eqb, ne-eqb}
 use Rattle.floats.specs.Lists.{upto, filled, flatten, spliced}
 use Rattle.floats.specs.Fill.{length-upto, at-upto, at-filled, length-filled, upto-below, lt-or-le}
 use Rattle.floats.specs.Splice.{spliced-none}
-use Rattle.layout.specs.Layout.{axisCodes, rowWords}
 use Rattle.rows.specs.Row.{has, presentOf, cell, shown, axesOf, hasPoint, outRow, madeRow}
-use Rattle.rows.specs.RowLaws.{made-same, length-made, length-out, MadeOf}
+use Rattle.rows.specs.RowLaws.{made-same, length-made, length-out}
 use Rattle.rows.specs.Masks.{maskSum, has-mask, mask-lt, has-past, has-none}
 use Rattle.spline_points.specs.Flat.{Sized, sized-append, length-flatten}
 use Rattle.spline_places.specs.declared.layout.Layout.{Layout}

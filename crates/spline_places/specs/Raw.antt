@@ -1,10 +1,10 @@
 -- The rows of a held block, of samples whose words stand one after another: the groups of Groups, as the code writes them. Assumes nothing.
-use Prim.Native.Nat.{ℕ, zero, suc, _+_, _*_}
+use Prim.Native.Nat.{ℕ, _+_, _*_}
 use mathlib.Core.Bool.{Bool, true, false, cond, not, _&&_, _||_}
 use mathlib.Core.List.{List, [], _∷_}
 use mathlib.Core.Option.{Option, none, some}
 use lib.Dec.{eqb}
-use lib.ListN.{length, getD, take, drop}
+use lib.ListN.{getD, take, drop}
 use Rattle.floats.specs.Lists.{upto}
 use Rattle.motion.specs.Motion.{gOne}
 use Rattle.rows.specs.Row.{has, cell, axesOf, hasPoint, outRow, madeRow}

@@ -1,11 +1,11 @@
 -- Laws of words written before others that are written already, and of what is read before them. Assumes nothing.
-use Prim.Native.Nat.{ℕ, zero, suc, _+_, _*_, _-_, _≤_, _<_}
-use mathlib.Core.Path.{_≡_, refl, sym, _∙_, ap}
-use mathlib.Core.List.{List, [], _∷_, _++_, append-assoc}
+use Prim.Native.Nat.{ℕ, _+_, _-_, _≤_}
+use mathlib.Core.Path.{_≡_, sym, _∙_, ap}
+use mathlib.Core.List.{List, _++_, append-assoc}
 use native.Mathlib.Nat.{add-assoc}
 use native.Mathlib.Omega.{arith}
-use lib.ListN.{length, getD, take, drop, length-append}
-use lib.Seq.{take-at, drop-at, take-append-le, drop-append-le, take-take, length-take-le, take-add}
+use lib.ListN.{length, take, drop, length-append}
+use lib.Seq.{drop-at, take-append-le, take-take, length-take-le, take-add}
 use Rattle.floats.specs.Lists.{spliced}
 
 pub spliced-before : (l : List ℕ) (i k : ℕ) (xs ys : List ℕ) → k ≡ i + length xs → k ≤ length l → spliced (spliced l k ys) i xs ≡ spliced l i (xs ++ ys)

@@ -2,10 +2,8 @@
 use spline_points::channels::block;
 use spline_points::channels::has_point;
 ghost use mathlib.Core.Path.{_≡_};
-ghost use mathlib.Core.Bool.{cond};
-ghost use Prim.Native.Nat.{ℕ, _+_, _-_, _*_, _≤_, _<_, _^_};
-ghost use lib.ListN.{length, getD};
-ghost use Rattle.floats.specs.Lists.{upto};
+ghost use Prim.Native.Nat.{_+_, _-_, _*_, _≤_, _<_, _^_};
+ghost use lib.ListN.{length};
 ghost use Rattle.layout.specs.Layout.{rowWords};
 ghost use Rattle.rows.specs.Codes.{geometricOf};
 ghost use Rattle.spline_points.specs.Points.{blockAt};

@@ -1,24 +1,24 @@
 -- Document 01, "Channels in order of first programming": the channels are geometric axes, no code twice, at most 10. Assumes nothing.
 use Prim.Native.Nat.{ℕ, zero, suc, _+_, _*_, _-_, _≤_, _<_}
-use mathlib.Core.Path.{_≡_, refl, sym, _∙_, ap, subst}
+use mathlib.Core.Path.{_≡_, refl, sym, _∙_, ap}
 use mathlib.Core.Bool.{Bool, true, false, cond, not, _&&_, _||_, false≢true, true≢false}
-use mathlib.Core.List.{List, [], _∷_, _++_, append-assoc}
+use mathlib.Core.List.{List, [], _∷_, _++_}
 use native.Mathlib.Numerals.{add-one}
 use native.Mathlib.Omega.{arith}
-use borrow.Author.Tests.{le-leb, lt-leb, leb-true, eqb-true, eq-eqb, ne-eqb, not-true, ltb-true, lt-ltb, le-ltb}
+use borrow.Author.Tests.{le-leb, lt-leb, eqb-true, eq-eqb, ne-eqb, not-true, ltb-true}
 use native.Mathlib.Nat.{eq-or-lt-of-le, le-of-suc-le-suc}
-use mathlib.Core.Logic.{_⊎_, inl, inr, ⊎-elim}
+use mathlib.Core.Logic.{_⊎_, ⊎-elim}
 use lib.Dec.{leb, eqb, ltb}
-use lib.ListN.{length, getD, take, drop, length-append, length-drop, take-append-drop}
-use lib.Seq.{take-suc, drop-cons, length-take-le, getD-take, getD-drop}
+use lib.ListN.{length, getD, take, drop, length-append, length-drop}
+use lib.Seq.{length-take-le, getD-take, getD-drop}
 use Rattle.layout.specs.Layout.{axisCodes}
-use Rattle.floats.specs.Lists.{upto, keep, member, anyOf}
+use Rattle.floats.specs.Lists.{upto, keep, member}
 use Rattle.rows.specs.Codes.{geometricOf}
 use Rattle.rows.specs.Row.{has, presentOf}
 use Rattle.rows.specs.Masks.{member-append, member-keep}
-use Rattle.spline_points.specs.Keeps.{keep-append, keep-keep, keep-room, member-here, member-none, and-none}
+use Rattle.spline_points.specs.Keeps.{keep-keep, keep-room, member-here, member-none, and-none}
 use Rattle.spline_points.specs.Append.{Appended, appended-before, appended-next, appended-as, appended-then}
-use Rattle.spline_points.specs.Points.{channelsFrom, Spline, channels, metricOf, blockAt}
+use Rattle.spline_points.specs.Points.{channelsFrom, metricOf, blockAt}
 
 -- code k is a geometric axis, programmed, and none of cs
 unfoldable pub isNew : ℕ → List ℕ → ℕ → Bool

@@ -1,20 +1,20 @@
 -- Laws of the points of a curve, written one after another. Assumes nothing.
-use Prim.Native.Nat.{ℕ, zero, suc, _+_, _*_, _-_, _≤_, _<_}
+use Prim.Native.Nat.{ℕ, suc, _+_, _*_, _-_, _≤_, _<_}
 use mathlib.Core.Path.{_≡_, refl, sym, _∙_, ap}
-use mathlib.Core.Bool.{Bool, true, false, cond, not, _&&_, _||_}
+use mathlib.Core.Bool.{true, false}
 use mathlib.Core.List.{List, [], _∷_, _++_, map, map-append, append-assoc, append-nil}
-use mathlib.Core.Option.{Option, none, some, Option·getD}
+use mathlib.Core.Option.{Option, Option·getD}
 use native.Mathlib.Nat.{suc-mul, mul-le-mul, mul-le-mul-right, one-mul, add-comm, le-trans}
 use native.Mathlib.Numerals.{add-one}
 use native.Mathlib.Omega.{arith}
 use lib.ListN.{length, getD, take, drop, set, length-append, length-map}
-use lib.Seq.{take-at, drop-at, take-add, length-take-le, getD-take, getD-drop}
+use lib.Seq.{drop-at, take-add, length-take-le, getD-take, getD-drop}
 use lib.Ieee.{Float, nan, lt}
 use Rattle.floats.specs.Numbers.{num, f1, 1e-4, at}
-use Rattle.floats.specs.Lists.{upto, keep, flatten, member, rowsOf}
+use Rattle.floats.specs.Lists.{upto, keep, flatten, rowsOf}
 use Rattle.floats.specs.Fill.{length-upto}
 use Rattle.rows.specs.Row.{has, presentOf, cell, number, shown, hasPoint}
-use Rattle.spline_points.specs.Points.{Spline, firstCell, startValue, nextPoint, pointsFrom, weightOf}
+use Rattle.spline_points.specs.Points.{firstCell, startValue, nextPoint, pointsFrom, weightOf}
 use Rattle.spline_points.specs.Append.{Appended, appended-none, appended-one, appended-as, appended-then, appended-before, appended-to, appended-upto}
 use Rattle.spline_points.specs.Keeps.{keep-yes, keep-no, keep-upto, keep-upto-most}
 use Rattle.spline_points.specs.Flat.{Sized, flatten-append, flat-rows, map-next, sized-cons, flatten-cons}

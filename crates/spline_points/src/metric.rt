@@ -1,8 +1,7 @@
 // The places of the channels that deviation and chords sum.
 ghost use mathlib.Core.List.{[], _∷_};
 ghost use Prim.Native.Nat.{ℕ, _+_, _≤_, _<_};
-ghost use lib.Dec.{leb};
-ghost use lib.ListN.{length, getD};
+ghost use lib.ListN.{length};
 ghost use Rattle.floats.specs.Lists.{upto, keep};
 ghost use Rattle.spline_points.specs.Points.{metricOf};
 ghost use Rattle.spline_points.specs.Append.{Appended};

@@ -15,15 +15,13 @@ use spline_points::channels::has_point;
 ghost use mathlib.Core.Path.{_≡_};
 ghost use mathlib.Core.Bool.{true};
 ghost use Prim.Native.Nat.{ℕ, _+_, _*_, _≤_, _<_};
-ghost use lib.ListN.{length, getD, replicate};
+ghost use lib.ListN.{length, replicate};
 ghost use Rattle.floats.specs.Lists.{upto, filled, flatten, spliced};
 ghost use Rattle.layout.specs.Layout.{axisCodes, rowWords};
 ghost use Rattle.rows.specs.Codes.{geometricOf};
-ghost use Rattle.rows.specs.Row.{has};
 ghost use Rattle.spline_points.specs.Points.{blockAt};
-ghost use Rattle.spline_places.specs.Sizes.{placeTo};
 ghost use Rattle.spline_places.specs.Raw.{rawWord, rawMark, rawMotion, rawAt, rawRow, bareRow, rawGroup, rawBlock};
-ghost use Rattle.spline_places.specs.Puts.{Sound, Sample, Puts, OwnMask, samplesOf, Blocks, BlockPut, Spreads, heldWords};
+ghost use Rattle.spline_places.specs.Puts.{Sample, Puts, OwnMask, samplesOf, Blocks, BlockPut, Spreads, heldWords};
 
 const G1: u64 = 2;
 

@@ -1,5 +1,5 @@
 -- Document 01, "Own arithmetic": "Sine, cosine, arc cosine and two-argument arc tangent are fixed step lists in docs/TRIG.md", over lib.Ieee, each operation rounded once. Assumes nothing.
-use mathlib.Core.Bool.{Bool, true, false, cond}
+use mathlib.Core.Bool.{cond}
 use lib.Ieee.{Float, binary64, neg, lt, le, eq}
 use lib.Ieee as Ieee
 use Rattle.trig.specs.Coefficients.{twoOverPi, magic, piHalfA, piHalfB, s0, s1, s2, s3, s4, s5, c0, c1, c2, c3, c4, c5, a0, a1, a2, a3, a4, a5, a6, a7, a8, a9, edge, pi, piLow, piHalf, piHalfLow, piFourth, piFourthLow, piThreeFourths, piThreeFourthsLow}

@@ -1,17 +1,17 @@
 -- What the code of `half_up_count` finds by tests on floats is `halfUpOf`. Assumes nothing.
 use mathlib.Core.Path.{_≡_, refl, sym, ap, _∙_, subst}
 use mathlib.Core.Bool.{Bool, true, false, cond, true≢false, false≢true}
-use Prim.Native.Nat.{ℕ, zero, suc, _+_, _-_, _*_, _/_, _%_, _^_, _≤_, _<_, min}
-use native.Mathlib.Nat.{div-eq-of-lt-le, div-mul-le-self, lt-div-mul-add, div-lt-iff-lt-mul, add-mul, mul-add, one-mul, mul-one, mul-comm, mul-assoc, mul-left-comm, mul-right-comm, mul-le-mul-right, lt-of-lt-of-le, zero-lt-suc, mul-pos, mul-lt-mul-of-pos-right}
+use Prim.Native.Nat.{ℕ, _+_, _-_, _*_, _/_, _^_, _≤_, _<_}
+use native.Mathlib.Nat.{div-eq-of-lt-le, div-mul-le-self, lt-div-mul-add, div-lt-iff-lt-mul, add-mul, one-mul, mul-one, mul-assoc, mul-left-comm, mul-right-comm, lt-of-lt-of-le, zero-lt-suc, mul-pos, mul-lt-mul-of-pos-right}
 use native.Mathlib.Omega.{arith}
-use lib.IntN.{ℤ, pos, negsuc}
-use lib.Dec.{T, ltb, ltb→lt, lt→ltb, lit<, lit≤}
+use lib.IntN.{ℤ, pos}
+use lib.Dec.{ltb, lit<, lit≤}
 use lib.Ieee.{Float, nan, inf, fin, binary64, up, down, lt, add, ofBits, ofInt, toUnsigned, round}
 use lib.Ieee.Fits.{down-pos}
 use lib.Ieee.Exact.{HasValue, round-exact}
 use lib.Ieee.Scale.{round-same}
 use lib.Ieee.Back.{round-whole}
-use borrow.Author.Tests.{ltb-true, ltb-false, lt-ltb, le-ltb}
+use borrow.Author.Tests.{ltb-true, ltb-false, lt-ltb}
 use Rattle.floats.specs.Numbers.{f0, f½}
 use Rattle.whole.specs.Whole.{twoTo52, twoTo53, halfUpOf}
 use Rattle.whole.proofs.Whole.{ltb-scale, cut}

@@ -1,5 +1,4 @@
 -- `csv_out::answered` meets its contract. Assumes nothing.
-use native.Mathlib.Omega.{arith}
 use Rattle.csv_out.specs.Lengths.{rows-room}
 use borrow.Author.Needs.{needs}
 use Rattle.csv_out.proofs.answered.Statement.{statement}

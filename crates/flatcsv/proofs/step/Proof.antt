@@ -2,8 +2,6 @@
 use borrow.Author.Needs.{needs}
 use Rattle.flatcsv.proofs.step.Statement.{statement}
 use Rattle.flatcsv.proofs.step.Tie as tie
-use Rattle.flatcsv.proofs.step.Reads as reads
-use Rattle.flatcsv.proofs.step.Lts as lts
 use Rattle.csv_out.proofs.emptied.Reads as emptied-reads
 use Rattle.flatcsv.proofs.after_turn.Reads as after-turn-reads
 use Rattle.flatcsv.proofs.done.Reads as done-reads

@@ -6,8 +6,6 @@ use Rattle.floats.proofs.Nans.{not-nan, nan-bits}
 use borrow.Author.Needs.{needs}
 use Rattle.floats.proofs.bits.Statement.{statement}
 use Rattle.floats.proofs.bits.Tie as tie
-use Rattle.floats.proofs.bits.Reads as reads
-use Rattle.floats.proofs.bits.Lts as lts
 
 float-to-bits-result : tie.Need-float-to-bits-result
 float-to-bits-result c = not-nan _ (c .if1 .left)

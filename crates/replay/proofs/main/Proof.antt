@@ -1,11 +1,8 @@
 -- `replay::main` ends: a turn is used up each time round. Assumes nothing.
-use Prim.Native.Nat.{ℕ, _≤_, _<_}
-use native.Mathlib.Omega.{arith}
+use Prim.Native.Nat.{_≤_}
 use borrow.Author.Needs.{needs}
 use Rattle.replay.proofs.main.Statement.{statement}
 use Rattle.replay.proofs.main.Tie as tie
-use Rattle.replay.proofs.main.Reads as reads
-use Rattle.replay.proofs.main.Lts as lts
 use Rattle.replay_text.proofs.memory.rest.Reads as rest-reads
 use Rattle.replay.proofs.begun.Reads as begun-reads
 use Rattle.replay.proofs.flush_all.Reads as flush-all-reads

@@ -1,7 +1,7 @@
 -- `root::by_digits` meets its contract. The invariant of its loop: x₀ * 4 ^ i, where x₀ is m's 54 digits at the top of a word, is root * root + rest words and x,
 -- and rest is at most twice root, so that root is the whole part of a root. After 53 turns that is m * 2 ^ 52. Assumes nothing.
 use Prim.Native.Nat.{ℕ, _+_, _-_, _*_, _/_, _%_, _^_, _≤_, _<_}
-use mathlib.Core.Path.{_≡_, refl, sym, ap, _∙_, subst}
+use mathlib.Core.Path.{_≡_, sym, ap, _∙_}
 use mathlib.Core.Logic.{⊎-elim}
 use native.Mathlib.Nat.{mul-div-cancel, mul-assoc, mul-le-mul-left, le-of-lt}
 use native.Mathlib.Omega.{arith}
@@ -11,8 +11,6 @@ use Rattle.root.specs.Root.{Nearest}
 use Rattle.root.proofs.Squares.{square-of-next, square-of-odd, square-of-even}
 use Rattle.root.proofs.by_digits.Statement.{statement}
 use Rattle.root.proofs.by_digits.Tie as tie
-use Rattle.root.proofs.by_digits.Reads as reads
-use Rattle.root.proofs.by_digits.Lts as lts
 
 record Digits (x₀ x root rest i : ℕ) : Type 0 where
   turns : i ≤ 53

@@ -10,8 +10,6 @@ use Rattle.root.proofs.Values.{root-hi}
 use borrow.Author.Needs.{needs}
 use Rattle.root.proofs.near.Statement.{statement}
 use Rattle.root.proofs.near.Tie as tie
-use Rattle.root.proofs.near.Reads as reads
-use Rattle.root.proofs.near.Lts as lts
 use Rattle.root.proofs.by_digits.Reads as by-digits-reads
 use Rattle.root_guess.proofs.inverse.Reads as inverse-reads
 use Rattle.root_guess.proofs.lower.Reads as lower-reads

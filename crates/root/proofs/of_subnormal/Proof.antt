@@ -1,6 +1,6 @@
 -- `root::of_subnormal` meets its contract. Assumes nothing.
 use Prim.Native.Nat.{ℕ, suc, _+_, _-_, _*_, _/_, _%_, _^_, _≤_, _<_}
-use mathlib.Core.Path.{_≡_, refl, sym, ap, _∙_, subst}
+use mathlib.Core.Path.{_≡_, sym, ap, _∙_}
 use mathlib.Core.Logic.{_⊎_, inl, inr, ⊎-elim}
 use native.Mathlib.Nat.{mul-assoc, mul-le-mul-right, mul-lt-mul-of-pos-right, le-trans, le-of-eq, lt-of-lt-of-le, lt-of-le-of-lt}
 use native.Mathlib.Omega.{arith}
@@ -13,8 +13,6 @@ use Rattle.root.proofs.Values.{root-pattern, low-value, root-hi}
 use borrow.Author.Needs.{needs}
 use Rattle.root.proofs.of_subnormal.Statement.{statement}
 use Rattle.root.proofs.of_subnormal.Tie as tie
-use Rattle.root.proofs.of_subnormal.Reads as reads
-use Rattle.root.proofs.of_subnormal.Lts as lts
 use Rattle.root.proofs.by_digits.Reads as by-digits-reads
 
 -- the shift s that takes b's leading digit to the place of 2 ^ 52

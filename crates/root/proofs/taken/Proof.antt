@@ -2,8 +2,6 @@ use borrow.Author.Needs.{needs}
 use borrow.Author.Tests.{eq-eqb, ne-eqb}
 use Rattle.root.proofs.taken.Statement.{statement}
 use Rattle.root.proofs.taken.Tie as tie
-use Rattle.root.proofs.taken.Reads as reads
-use Rattle.root.proofs.taken.Lts as lts
 
 add-f : tie.Need-add-f
 add-f c = search needs

@@ -1,11 +1,8 @@
-use mathlib.Core.Path.{_≡_, refl, sym, _∙_}
 use borrow.Author.Tests.{not-true, not-false}
 use Rattle.spline_places.specs.Puts.{mark-inner, mark-end, mark-basis}
 use borrow.Author.Needs.{needs}
 use Rattle.spline_rows.proofs.is_marked.Statement.{statement}
 use Rattle.spline_rows.proofs.is_marked.Tie as tie
-use Rattle.spline_rows.proofs.is_marked.Reads as reads
-use Rattle.spline_rows.proofs.is_marked.Lts as lts
 
 add-if1 : tie.Need-add-if1
 add-if1 c = search needs

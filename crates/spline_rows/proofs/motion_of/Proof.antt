@@ -1,8 +1,6 @@
 use Rattle.spline_places.specs.Puts.{motion-first, motion-later}
 use Rattle.spline_rows.proofs.motion_of.Statement.{statement}
 use Rattle.spline_rows.proofs.motion_of.Tie as tie
-use Rattle.spline_rows.proofs.motion_of.Reads as reads
-use Rattle.spline_rows.proofs.motion_of.Lts as lts
 
 returns : tie.Need-returns
 returns c = motion-first _ (c .if1 .taken)

@@ -2,8 +2,6 @@ use Rattle.spline_places.specs.Puts.{own-none, own-both}
 use borrow.Author.Needs.{needs}
 use Rattle.spline_rows.proofs.own_mask.Statement.{statement}
 use Rattle.spline_rows.proofs.own_mask.Tie as tie
-use Rattle.spline_rows.proofs.own_mask.Reads as reads
-use Rattle.spline_rows.proofs.own_mask.Lts as lts
 use Rattle.spline_places.proofs.layout.both_masks.Reads as both-masks-reads
 
 returns : tie.Need-returns

@@ -1,13 +1,9 @@
-use mathlib.Core.Path.{_≡_, refl, sym, ap, _∙_}
+use mathlib.Core.Path.{ap, _∙_}
 use Rattle.floats.specs.Lists.{spliced}
-use native.Mathlib.Omega.{arith}
-use Rattle.rows.specs.RowLaws.{MadeOf}
 use Rattle.spline_places.specs.Puts.{bare-row, cells-of}
 use borrow.Author.Needs.{needs}
 use Rattle.spline_rows.proofs.put_bare.Statement.{statement}
 use Rattle.spline_rows.proofs.put_bare.Tie as tie
-use Rattle.spline_rows.proofs.put_bare.Reads as reads
-use Rattle.spline_rows.proofs.put_bare.Lts as lts
 use Rattle.rows.proofs.put_made.Reads as put-made-reads
 use Rattle.spline_rows.proofs.motion_of.Reads as motion-of-reads
 use Rattle.spline_rows.proofs.own_mask.Reads as own-mask-reads

@@ -1,4 +1,4 @@
-use mathlib.Core.Path.{_≡_, refl, sym, ap, _∙_}
+use mathlib.Core.Path.{ap, _∙_}
 use Rattle.spline_places.specs.Sizes.{size-least}
 use native.Mathlib.Omega.{arith}
 use Rattle.floats.specs.Lists.{spliced}
@@ -6,8 +6,6 @@ use Rattle.spline_places.specs.Puts.{block-point, block-out}
 use borrow.Author.Needs.{needs}
 use Rattle.spline_rows.proofs.put_block.Statement.{statement}
 use Rattle.spline_rows.proofs.put_block.Tie as tie
-use Rattle.spline_rows.proofs.put_block.Reads as reads
-use Rattle.spline_rows.proofs.put_block.Lts as lts
 use Rattle.rows.proofs.put_row.Reads as put-row-reads
 use Rattle.spline_rows.proofs.put_point.Reads as put-point-reads
 

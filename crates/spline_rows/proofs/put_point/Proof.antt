@@ -1,4 +1,4 @@
-use mathlib.Core.Path.{_≡_, refl, sym, ap, _∙_}
+use mathlib.Core.Path.{ap, _∙_}
 use Rattle.spline_places.specs.Sizes.{size-least}
 use native.Mathlib.Omega.{arith}
 use Rattle.floats.specs.Lists.{spliced}
@@ -6,8 +6,6 @@ use Rattle.spline_places.specs.Puts.{group-bare, group-run}
 use borrow.Author.Needs.{needs}
 use Rattle.spline_rows.proofs.put_point.Statement.{statement}
 use Rattle.spline_rows.proofs.put_point.Tie as tie
-use Rattle.spline_rows.proofs.put_point.Reads as reads
-use Rattle.spline_rows.proofs.put_point.Lts as lts
 use Rattle.spline_rows.proofs.put_bare.Reads as put-bare-reads
 use Rattle.spline_rows.proofs.put_run.Reads as put-run-reads
 

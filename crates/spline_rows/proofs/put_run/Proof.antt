@@ -1,14 +1,11 @@
-use mathlib.Core.Path.{_≡_, refl, sym, ap, _∙_}
+use mathlib.Core.Path.{refl}
 use Prim.Native.Nat.{ℕ, _+_, _*_, _≤_, _-_}
 use native.Mathlib.Omega.{arith}
-use lib.ListN.{length}
 use Rattle.spline_places.specs.Raw.{rawRow, rawAt}
 use Rattle.spline_places.specs.Puts.{Backward, backward-none, run-again, run-end, puts-same}
 use borrow.Author.Needs.{needs}
 use Rattle.spline_rows.proofs.put_run.Statement.{statement}
 use Rattle.spline_rows.proofs.put_run.Tie as tie
-use Rattle.spline_rows.proofs.put_run.Reads as reads
-use Rattle.spline_rows.proofs.put_run.Lts as lts
 use Rattle.spline_rows.proofs.put_sample.Reads as put-sample-reads
 
 abbrev Inv-loop : tie.InvT-loop

@@ -1,13 +1,10 @@
-use mathlib.Core.Path.{_≡_, refl, sym, ap, _∙_}
+use mathlib.Core.Path.{ap, _∙_}
 use Rattle.floats.specs.Lists.{spliced}
 use native.Mathlib.Omega.{arith}
-use Rattle.rows.specs.RowLaws.{MadeOf}
 use Rattle.spline_places.specs.Puts.{sample-at, sample-rows, sample-words, sample-row, words-wide}
 use borrow.Author.Needs.{needs}
 use Rattle.spline_rows.proofs.put_sample.Statement.{statement}
 use Rattle.spline_rows.proofs.put_sample.Tie as tie
-use Rattle.spline_rows.proofs.put_sample.Reads as reads
-use Rattle.spline_rows.proofs.put_sample.Lts as lts
 use Rattle.rows.proofs.put_made.Reads as put-made-reads
 use Rattle.spline_rows.proofs.is_marked.Reads as is-marked-reads
 use Rattle.spline_rows.proofs.motion_of.Reads as motion-of-reads

@@ -4,8 +4,6 @@ use Rattle.spline_places.specs.Puts.{word-yes, word-no}
 use borrow.Author.Needs.{needs}
 use Rattle.spline_rows.proofs.sample_word.Statement.{statement}
 use Rattle.spline_rows.proofs.sample_word.Tie as tie
-use Rattle.spline_rows.proofs.sample_word.Reads as reads
-use Rattle.spline_rows.proofs.sample_word.Lts as lts
 use Rattle.rows.proofs.has_bit.Reads as has-bit-reads
 
 has-bit-requires : tie.Need-has-bit-requires

@@ -1,15 +1,12 @@
-use mathlib.Core.Path.{_≡_, refl, sym, _∙_}
-use Prim.Native.Nat.{ℕ, _+_, _≤_, _-_}
+use mathlib.Core.Path.{_≡_}
+use Prim.Native.Nat.{_≤_, _-_}
 use native.Mathlib.Omega.{arith}
-use lib.ListN.{length, replicate}
-use Rattle.floats.specs.Lists.{filled}
+use lib.ListN.{replicate}
 use Rattle.floats.specs.Fill.{Filling, filling-none, filling-more}
 use Rattle.spline_places.specs.Raw.{rawWord}
 use borrow.Author.Needs.{needs}
 use Rattle.spline_rows.proofs.sample_words.Statement.{statement}
 use Rattle.spline_rows.proofs.sample_words.Tie as tie
-use Rattle.spline_rows.proofs.sample_words.Reads as reads
-use Rattle.spline_rows.proofs.sample_words.Lts as lts
 use Rattle.spline_rows.proofs.sample_word.Reads as sample-word-reads
 
 abbrev Inv-loop : tie.InvT-loop

@@ -2,8 +2,6 @@ use Rattle.spline_places.specs.Puts.{samples-point, samples-none}
 use borrow.Author.Needs.{needs}
 use Rattle.spline_rows.proofs.samples_of.Statement.{statement}
 use Rattle.spline_rows.proofs.samples_of.Tie as tie
-use Rattle.spline_rows.proofs.samples_of.Reads as reads
-use Rattle.spline_rows.proofs.samples_of.Lts as lts
 
 mul-result : tie.Need-mul-result
 mul-result c = search needs

@@ -1,5 +1,5 @@
-use mathlib.Core.Path.{_≡_, refl, sym, ap, _∙_}
-use Prim.Native.Nat.{ℕ, _+_, _*_, _≤_, _-_}
+use mathlib.Core.Path.{_≡_, refl, ap, _∙_}
+use Prim.Native.Nat.{_*_, _≤_, _-_}
 use native.Mathlib.Omega.{arith}
 use lib.ListN.{length}
 use Rattle.rows.specs.Codes.{geometricOf}
@@ -10,8 +10,6 @@ use Rattle.spline_places.specs.Puts.{Backward, backward-none, heldWords, held-a
 use borrow.Author.Needs.{needs}
 use Rattle.spline_rows.proofs.spread.Statement.{statement}
 use Rattle.spline_rows.proofs.spread.Tie as tie
-use Rattle.spline_rows.proofs.spread.Reads as reads
-use Rattle.spline_rows.proofs.spread.Lts as lts
 use Rattle.spline_points.proofs.channels.block.Reads as block-reads
 use Rattle.spline_rows.proofs.spread_block.Reads as spread-block-reads
 

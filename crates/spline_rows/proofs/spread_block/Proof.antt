@@ -1,11 +1,7 @@
-use mathlib.Core.Path.{_≡_, refl, sym, ap, _∙_}
-use native.Mathlib.Omega.{arith}
 use Rattle.spline_places.specs.Puts.{block-before, block-index, block-puts, block-done}
 use borrow.Author.Needs.{needs}
 use Rattle.spline_rows.proofs.spread_block.Statement.{statement}
 use Rattle.spline_rows.proofs.spread_block.Tie as tie
-use Rattle.spline_rows.proofs.spread_block.Reads as reads
-use Rattle.spline_rows.proofs.spread_block.Lts as lts
 use Rattle.spline_points.proofs.channels.has_point.Reads as has-point-reads
 use Rattle.spline_places.proofs.place.before_block.Reads as before-block-reads
 use Rattle.spline_rows.proofs.put_block.Reads as put-block-reads

@@ -1,11 +1,6 @@
 -- `whole::half_up_count` meets its contract. Assumes nothing.
 use borrow.Author.Needs.{needs}
 use native.Mathlib.Omega.{arith}
-use mathlib.Core.Path.{_≡_, sym, _∙_, ap}
-use mathlib.Core.Bool.{Bool, cond}
-use Prim.Native.Nat.{ℕ, _+_}
-use lib.IntN.{pos}
-use lib.Ieee.{Float, binary64, lt, ofInt}
 use Rattle.whole.specs.Whole.{halfUpCount}
 use Rattle.whole.proofs.Whole.{in-range}
 use Rattle.whole.proofs.Half.{narrower, few, half-up-is}

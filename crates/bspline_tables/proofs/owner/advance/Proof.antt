@@ -1,13 +1,11 @@
-use mathlib.Core.Path.{_≡_, refl, sym, ap, _∙_}
-use Prim.Native.Nat.{ℕ, _≤_, _-_, _<_, _+_}
+use mathlib.Core.Path.{_≡_, refl, sym, _∙_}
+use Prim.Native.Nat.{_≤_, _-_}
 use native.Mathlib.Omega.{arith}
 use Rattle.bspline_tables.specs.Tables.{advanced}
 use Rattle.bspline_tables.proofs.Steps.{advance-on, advance-here, advance-end}
 use borrow.Author.Needs.{needs}
 use Rattle.bspline_tables.proofs.owner.advance.Statement.{statement}
 use Rattle.bspline_tables.proofs.owner.advance.Tie as tie
-use Rattle.bspline_tables.proofs.owner.advance.Reads as reads
-use Rattle.bspline_tables.proofs.owner.advance.Lts as lts
 use Rattle.bspline_tables.proofs.owner.greville.Reads as greville-reads
 
 abbrev Inv-loop : tie.InvT-loop

@@ -1,12 +1,9 @@
-use mathlib.Core.Path.{_≡_, refl, sym, ap, _∙_}
 use native.Mathlib.Omega.{arith}
 use Rattle.bspline_tables.specs.Tables.{grevilleAt}
 use Rattle.bspline_tables.proofs.Steps.{whole-in}
 use borrow.Author.Needs.{needs}
 use Rattle.bspline_tables.proofs.owner.greville.Statement.{statement}
 use Rattle.bspline_tables.proofs.owner.greville.Tie as tie
-use Rattle.bspline_tables.proofs.owner.greville.Reads as reads
-use Rattle.bspline_tables.proofs.owner.greville.Lts as lts
 use Rattle.bspline_tables.proofs.owner.sum_knots.Reads as sum-knots-reads
 
 sum-knots-requires : tie.Need-sum-knots-requires

@@ -1,13 +1,11 @@
-use mathlib.Core.Path.{_≡_, refl, sym, ap, _∙_}
-use Prim.Native.Nat.{ℕ, _≤_, _-_, _<_, _+_}
+use mathlib.Core.Path.{_≡_, ap, _∙_}
+use Prim.Native.Nat.{_≤_, _-_}
 use native.Mathlib.Omega.{arith}
 use Rattle.bspline_tables.specs.Basis.{knotSum}
 use Rattle.bspline_tables.proofs.Steps.{sum-none, sum-more}
 use borrow.Author.Needs.{needs}
 use Rattle.bspline_tables.proofs.owner.sum_knots.Statement.{statement}
 use Rattle.bspline_tables.proofs.owner.sum_knots.Tie as tie
-use Rattle.bspline_tables.proofs.owner.sum_knots.Reads as reads
-use Rattle.bspline_tables.proofs.owner.sum_knots.Lts as lts
 
 abbrev Inv-loop : tie.InvT-loop
 Inv-loop ks i p sum₀ k₀ sum k = (k ≤ p) × (sum ≡ knotSum ks i k)

@@ -1,5 +1,5 @@
-use mathlib.Core.Path.{_≡_, refl, sym, ap, _∙_}
-use Prim.Native.Nat.{ℕ, _≤_, _-_, _<_, _+_, _*_}
+use mathlib.Core.Path.{_≡_, refl}
+use Prim.Native.Nat.{_≤_, _-_, _+_, _*_}
 use native.Mathlib.Omega.{arith}
 use native.Mathlib.Nat.{zero-mul}
 use lib.ListN.{length}
@@ -9,8 +9,6 @@ use Rattle.bspline_tables.proofs.Controls.{cell-in, cell-is, next-cell}
 use borrow.Author.Needs.{needs}
 use Rattle.bspline_tables.proofs.tables.channel.Statement.{statement}
 use Rattle.bspline_tables.proofs.tables.channel.Tie as tie
-use Rattle.bspline_tables.proofs.tables.channel.Reads as reads
-use Rattle.bspline_tables.proofs.tables.channel.Lts as lts
 
 abbrev Inv-loop : tie.InvT-loop
 Inv-loop pts ws ch c out₀ x₀ i₀ out x i = ((i ≤ length out₀) × ((x ≡ i * ch + c) × (length out ≡ length out₀))) × Filling (controlAt pts ws ch c) i out₀ out

@@ -1,16 +1,13 @@
-use mathlib.Core.Path.{_≡_, refl, sym, ap, _∙_}
-use Prim.Native.Nat.{ℕ, _≤_, _-_, _<_, _+_}
+use mathlib.Core.Path.{_≡_, refl}
+use Prim.Native.Nat.{_≤_, _-_}
 use native.Mathlib.Omega.{arith}
 use lib.ListN.{length}
-use Rattle.floats.specs.Numbers.{f0, at}
-use Rattle.floats.specs.Lists.{upto, filled, row}
+use Rattle.floats.specs.Numbers.{at}
 use Rattle.floats.specs.Fill.{Filling, filling-none, filling-more}
 use Rattle.bspline_tables.specs.RowLaws.{copied}
 use borrow.Author.Needs.{needs}
 use Rattle.bspline_tables.proofs.tables.copy.Statement.{statement}
 use Rattle.bspline_tables.proofs.tables.copy.Tie as tie
-use Rattle.bspline_tables.proofs.tables.copy.Reads as reads
-use Rattle.bspline_tables.proofs.tables.copy.Lts as lts
 
 abbrev Inv-loop : tie.InvT-loop
 Inv-loop src dst₀ i₀ dst i = ((i ≤ length dst₀) × (length dst ≡ length dst₀)) × Filling (at src) i dst₀ dst

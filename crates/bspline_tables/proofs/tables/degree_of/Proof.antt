@@ -3,8 +3,6 @@ use Rattle.bspline_tables.specs.Basis.{degreeOf}
 use borrow.Author.Needs.{needs}
 use Rattle.bspline_tables.proofs.tables.degree_of.Statement.{statement}
 use Rattle.bspline_tables.proofs.tables.degree_of.Tie as tie
-use Rattle.bspline_tables.proofs.tables.degree_of.Reads as reads
-use Rattle.bspline_tables.proofs.tables.degree_of.Lts as lts
 
 sub-if1 : tie.Need-sub-if1
 sub-if1 c = search needs

@@ -1,19 +1,15 @@
-use mathlib.Core.Path.{_≡_, refl, sym, ap, _∙_}
-use Prim.Native.Nat.{ℕ, _≤_, _-_, _<_, _+_, _*_}
+use mathlib.Core.Path.{_≡_, sym, ap, _∙_}
+use Prim.Native.Nat.{_≤_, _-_, _+_, _*_}
 use native.Mathlib.Omega.{arith}
 use native.Mathlib.Nat.{zero-mul}
-use lib.ListN.{length}
 use lib.Seq.{length-take-le}
-use Rattle.floats.specs.Numbers.{f0, at}
-use Rattle.floats.specs.Lists.{upto, filled, row}
+use Rattle.floats.specs.Lists.{upto}
 use Rattle.bspline_tables.specs.Tables.{controlAt}
-use Rattle.bspline_tables.specs.RowLaws.{Rowing, rowing-none, rowing-map, rowing-put, rowing-all, part-length, length-part, within, next-row}
+use Rattle.bspline_tables.specs.RowLaws.{Rowing, rowing-none, rowing-put, rowing-all, part-length, within, next-row}
 use Rattle.bspline_tables.proofs.Controls.{weights-are, lift1}
 use borrow.Author.Needs.{needs}
 use Rattle.bspline_tables.proofs.tables.fill_controls.Statement.{statement}
 use Rattle.bspline_tables.proofs.tables.fill_controls.Tie as tie
-use Rattle.bspline_tables.proofs.tables.fill_controls.Reads as reads
-use Rattle.bspline_tables.proofs.tables.fill_controls.Lts as lts
 use Rattle.bspline_tables.proofs.tables.channel.Reads as channel-reads
 use Rattle.bspline_tables.proofs.tables.copy.Reads as copy-reads
 

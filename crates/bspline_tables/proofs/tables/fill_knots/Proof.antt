@@ -1,5 +1,5 @@
-use mathlib.Core.Path.{_≡_, refl, sym, ap, _∙_}
-use Prim.Native.Nat.{ℕ, _≤_, _-_, _<_, _+_, min}
+use mathlib.Core.Path.{_≡_}
+use Prim.Native.Nat.{_≤_, _-_, min}
 use Rattle.floats.specs.Numbers.{ofNat}
 use native.Mathlib.Omega.{arith}
 use lib.ListN.{length}
@@ -7,8 +7,6 @@ use Rattle.floats.specs.Fill.{Filling, filling-none, filling-more}
 use borrow.Author.Needs.{needs}
 use Rattle.bspline_tables.proofs.tables.fill_knots.Statement.{statement}
 use Rattle.bspline_tables.proofs.tables.fill_knots.Tie as tie
-use Rattle.bspline_tables.proofs.tables.fill_knots.Reads as reads
-use Rattle.bspline_tables.proofs.tables.fill_knots.Lts as lts
 use Rattle.bspline_tables.proofs.tables.knot.Reads as knot-reads
 
 abbrev Inv-loop : tie.InvT-loop

@@ -1,11 +1,9 @@
-use mathlib.Core.Path.{_≡_, refl, sym, ap, _∙_}
-use Prim.Native.Nat.{ℕ, min, _-_}
+use mathlib.Core.Path.{_≡_}
+use Prim.Native.Nat.{min, _-_}
 use native.Mathlib.Omega.{arith}
 use Rattle.bspline_tables.proofs.Steps.{knot-low, whole-in}
 use Rattle.bspline_tables.proofs.tables.knot.Statement.{statement}
 use Rattle.bspline_tables.proofs.tables.knot.Tie as tie
-use Rattle.bspline_tables.proofs.tables.knot.Reads as reads
-use Rattle.bspline_tables.proofs.tables.knot.Lts as lts
 
 returns : tie.Need-returns
 returns c = knot-low _ _ (omega arith)

@@ -1,11 +1,8 @@
-use mathlib.Core.Path.{_≡_, refl, sym, ap, _∙_}
 use native.Mathlib.Omega.{arith}
 use Rattle.bspline_tables.proofs.Steps.{degree-in, product-in, knots-are, knot-top}
 use borrow.Author.Needs.{needs}
 use Rattle.bspline_tables.proofs.tables.prepare_basis.Statement.{statement}
 use Rattle.bspline_tables.proofs.tables.prepare_basis.Tie as tie
-use Rattle.bspline_tables.proofs.tables.prepare_basis.Reads as reads
-use Rattle.bspline_tables.proofs.tables.prepare_basis.Lts as lts
 use Rattle.bspline_tables.proofs.tables.degree_of.Reads as degree-of-reads
 use Rattle.bspline_tables.proofs.tables.fill_controls.Reads as fill-controls-reads
 use Rattle.bspline_tables.proofs.tables.fill_knots.Reads as fill-knots-reads

@@ -1,5 +1,5 @@
 -- `replay_text::ask::push_ask` meets its contract. Assumes nothing.
-use Prim.Native.Nat.{ℕ, _≤_}
+use Prim.Native.Nat.{ℕ}
 use mathlib.Core.Path.{_≡_, sym}
 use mathlib.Core.List.{List}
 use native.Mathlib.Omega.{arith}
@@ -8,8 +8,6 @@ use lib.Seq.{length-take-le}
 use borrow.Author.Needs.{needs}
 use Rattle.replay_text.proofs.ask.push_ask.Statement.{statement}
 use Rattle.replay_text.proofs.ask.push_ask.Tie as tie
-use Rattle.replay_text.proofs.ask.push_ask.Reads as reads
-use Rattle.replay_text.proofs.ask.push_ask.Lts as lts
 use Rattle.replay_text.proofs.ask.fill_row.Reads as fill-row-reads
 
 row-words : (l : List ℕ) → length l ≡ 64 → length (take 29 l) ≡ 29

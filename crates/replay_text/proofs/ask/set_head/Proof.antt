@@ -4,8 +4,6 @@ use native.Mathlib.Omega.{arith}
 use borrow.Author.Needs.{needs}
 use Rattle.replay_text.proofs.ask.set_head.Statement.{statement}
 use Rattle.replay_text.proofs.ask.set_head.Tie as tie
-use Rattle.replay_text.proofs.ask.set_head.Reads as reads
-use Rattle.replay_text.proofs.ask.set_head.Lts as lts
 
 slice-write-row : tie.Need-slice-write-row
 slice-write-row c = search needs

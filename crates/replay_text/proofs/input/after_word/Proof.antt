@@ -1,13 +1,9 @@
 -- `replay_text::input::after_word` meets its contract. Assumes nothing.
-use Prim.Native.Nat.{ℕ, _+_, _-_, _*_, _≤_, _<_}
-use mathlib.Core.Path.{_≡_}
-use native.Mathlib.Omega.{arith}
+use Prim.Native.Nat.{_-_, _≤_}
 use lib.ListN.{length}
 use borrow.Author.Needs.{needs}
 use Rattle.replay_text.proofs.input.after_word.Statement.{statement}
 use Rattle.replay_text.proofs.input.after_word.Tie as tie
-use Rattle.replay_text.proofs.input.after_word.Reads as reads
-use Rattle.replay_text.proofs.input.after_word.Lts as lts
 
 abbrev Inv-loop : tie.InvT-loop
 Inv-loop line word i₀ i = i ≤ length word

@@ -1,13 +1,11 @@
 -- `replay_text::input::axis_list` meets its contract. Assumes nothing.
-use Prim.Native.Nat.{ℕ, _+_, _-_, _*_, _≤_, _<_}
+use Prim.Native.Nat.{_-_, _≤_}
 use mathlib.Core.Path.{_≡_}
 use native.Mathlib.Omega.{arith}
 use lib.ListN.{length, length-set}
 use borrow.Author.Needs.{needs}
 use Rattle.replay_text.proofs.input.axis_list.Statement.{statement}
 use Rattle.replay_text.proofs.input.axis_list.Tie as tie
-use Rattle.replay_text.proofs.input.axis_list.Reads as reads
-use Rattle.replay_text.proofs.input.axis_list.Lts as lts
 use Rattle.replay_text.proofs.input.digits.Reads as digits-reads
 use Rattle.replay_text.proofs.input.is_dash.Reads as is-dash-reads
 use Rattle.replay_text.proofs.input.unread.Reads as unread-reads

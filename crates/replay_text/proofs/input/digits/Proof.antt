@@ -1,13 +1,9 @@
 -- `replay_text::input::digits` meets its contract. Assumes nothing.
-use Prim.Native.Nat.{ℕ, _+_, _-_, _*_, _≤_, _<_}
-use mathlib.Core.Path.{_≡_}
-use native.Mathlib.Omega.{arith}
+use Prim.Native.Nat.{_+_, _-_, _≤_}
 use lib.ListN.{length}
 use borrow.Author.Needs.{needs}
 use Rattle.replay_text.proofs.input.digits.Statement.{statement}
 use Rattle.replay_text.proofs.input.digits.Tie as tie
-use Rattle.replay_text.proofs.input.digits.Reads as reads
-use Rattle.replay_text.proofs.input.digits.Lts as lts
 use Rattle.replay_text.proofs.input.digit.Reads as digit-reads
 use Rattle.replay_text.proofs.input.unread.Reads as unread-reads
 use Rattle.replay_text.proofs.input.with_digit.Reads as with-digit-reads

@@ -1,13 +1,11 @@
 -- `replay_text::input::raw_words` meets its contract. Assumes nothing.
-use Prim.Native.Nat.{ℕ, _+_, _-_, _*_, _≤_, _<_}
+use Prim.Native.Nat.{_-_, _≤_}
 use mathlib.Core.Path.{_≡_}
 use native.Mathlib.Omega.{arith}
 use lib.ListN.{length, length-set}
 use borrow.Author.Needs.{needs}
 use Rattle.replay_text.proofs.input.raw_words.Statement.{statement}
 use Rattle.replay_text.proofs.input.raw_words.Tie as tie
-use Rattle.replay_text.proofs.input.raw_words.Reads as reads
-use Rattle.replay_text.proofs.input.raw_words.Lts as lts
 use Rattle.replay_text.proofs.input.field.Reads as field-reads
 use Rattle.replay_text.proofs.input.unread.Reads as unread-reads
 

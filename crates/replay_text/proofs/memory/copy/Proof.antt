@@ -1,13 +1,10 @@
 -- `replay_text::memory::copy` meets its contract. Assumes nothing.
-use Prim.Native.Nat.{ℕ, _+_, _-_, _*_, _≤_, _<_}
+use Prim.Native.Nat.{_-_, _≤_}
 use mathlib.Core.Path.{_≡_}
-use native.Mathlib.Omega.{arith}
 use lib.ListN.{length}
 use borrow.Author.Needs.{needs}
 use Rattle.replay_text.proofs.memory.copy.Statement.{statement}
 use Rattle.replay_text.proofs.memory.copy.Tie as tie
-use Rattle.replay_text.proofs.memory.copy.Reads as reads
-use Rattle.replay_text.proofs.memory.copy.Lts as lts
 use Rattle.replay_text.proofs.memory.least.Reads as least-reads
 
 abbrev Inv-loop : tie.InvT-loop

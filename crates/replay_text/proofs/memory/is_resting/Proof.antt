@@ -1,13 +1,8 @@
 -- `replay_text::memory::is_resting` meets its contract. Assumes nothing.
-use Prim.Native.Nat.{ℕ, _+_, _-_, _*_, _≤_, _<_}
-use mathlib.Core.Path.{_≡_}
-use native.Mathlib.Omega.{arith}
-use lib.ListN.{length}
+use Prim.Native.Nat.{_-_, _≤_}
 use borrow.Author.Needs.{needs}
 use Rattle.replay_text.proofs.memory.is_resting.Statement.{statement}
 use Rattle.replay_text.proofs.memory.is_resting.Tie as tie
-use Rattle.replay_text.proofs.memory.is_resting.Reads as reads
-use Rattle.replay_text.proofs.memory.is_resting.Lts as lts
 use Rattle.replay_text.proofs.memory.least.Reads as least-reads
 use Rattle.replay_text.proofs.memory.resting.Reads as resting-reads
 

@@ -1,13 +1,10 @@
 -- `replay_text::memory::rest` meets its contract. Assumes nothing.
-use Prim.Native.Nat.{ℕ, _+_, _-_, _*_, _≤_, _<_}
+use Prim.Native.Nat.{_-_, _≤_}
 use mathlib.Core.Path.{_≡_}
-use native.Mathlib.Omega.{arith}
 use lib.ListN.{length}
 use borrow.Author.Needs.{needs}
 use Rattle.replay_text.proofs.memory.rest.Statement.{statement}
 use Rattle.replay_text.proofs.memory.rest.Tie as tie
-use Rattle.replay_text.proofs.memory.rest.Reads as reads
-use Rattle.replay_text.proofs.memory.rest.Lts as lts
 use Rattle.replay_text.proofs.memory.least.Reads as least-reads
 use Rattle.replay_text.proofs.memory.resting.Reads as resting-reads
 

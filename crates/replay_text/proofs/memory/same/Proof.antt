@@ -1,13 +1,9 @@
 -- `replay_text::memory::same` meets its contract. Assumes nothing.
-use Prim.Native.Nat.{ℕ, _+_, _-_, _*_, _≤_, _<_}
-use mathlib.Core.Path.{_≡_}
-use native.Mathlib.Omega.{arith}
+use Prim.Native.Nat.{_-_, _≤_}
 use lib.ListN.{length}
 use borrow.Author.Needs.{needs}
 use Rattle.replay_text.proofs.memory.same.Statement.{statement}
 use Rattle.replay_text.proofs.memory.same.Tie as tie
-use Rattle.replay_text.proofs.memory.same.Reads as reads
-use Rattle.replay_text.proofs.memory.same.Lts as lts
 use Rattle.replay_text.proofs.memory.least.Reads as least-reads
 
 abbrev Inv-loop : tie.InvT-loop

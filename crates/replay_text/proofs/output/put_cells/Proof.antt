@@ -1,13 +1,10 @@
 -- `replay_text::output::put_cells` meets its contract. Assumes nothing.
-use Prim.Native.Nat.{ℕ, _+_, _-_, _*_, _≤_, _<_}
+use Prim.Native.Nat.{_-_, _≤_}
 use mathlib.Core.Path.{_≡_}
-use native.Mathlib.Omega.{arith}
 use lib.ListN.{length}
 use borrow.Author.Needs.{needs}
 use Rattle.replay_text.proofs.output.put_cells.Statement.{statement}
 use Rattle.replay_text.proofs.output.put_cells.Tie as tie
-use Rattle.replay_text.proofs.output.put_cells.Reads as reads
-use Rattle.replay_text.proofs.output.put_cells.Lts as lts
 use Rattle.replay_text.proofs.output.put_cell.Reads as put-cell-reads
 
 abbrev Inv-loop : tie.InvT-loop

@@ -1,13 +1,10 @@
 -- `replay_text::output::put_rows` meets its contract. Assumes nothing.
-use Prim.Native.Nat.{ℕ, _+_, _-_, _*_, _≤_, _<_}
+use Prim.Native.Nat.{_-_, _≤_}
 use mathlib.Core.Path.{_≡_}
-use native.Mathlib.Omega.{arith}
 use lib.ListN.{length}
 use borrow.Author.Needs.{needs}
 use Rattle.replay_text.proofs.output.put_rows.Statement.{statement}
 use Rattle.replay_text.proofs.output.put_rows.Tie as tie
-use Rattle.replay_text.proofs.output.put_rows.Reads as reads
-use Rattle.replay_text.proofs.output.put_rows.Lts as lts
 use Rattle.replay_text.proofs.output.put_row_line.Reads as put-row-line-reads
 use Rattle.replay_text.proofs.output.flushed.Reads as flushed-reads
 

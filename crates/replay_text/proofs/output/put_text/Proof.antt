@@ -1,13 +1,10 @@
 -- `replay_text::output::put_text` meets its contract. Assumes nothing.
-use Prim.Native.Nat.{ℕ, _+_, _-_, _*_, _≤_, _<_}
+use Prim.Native.Nat.{_-_, _≤_}
 use mathlib.Core.Path.{_≡_}
-use native.Mathlib.Omega.{arith}
 use lib.ListN.{length}
 use borrow.Author.Needs.{needs}
 use Rattle.replay_text.proofs.output.put_text.Statement.{statement}
 use Rattle.replay_text.proofs.output.put_text.Tie as tie
-use Rattle.replay_text.proofs.output.put_text.Reads as reads
-use Rattle.replay_text.proofs.output.put_text.Lts as lts
 use Rattle.replay_text.proofs.output.put_byte.Reads as put-byte-reads
 
 abbrev Inv-loop : tie.InvT-loop

@@ -1,11 +1,7 @@
-use mathlib.Core.Path.{_≡_, sym, ap, _∙_}
-use native.Mathlib.Omega.{arith}
 use borrow.Author.Needs.{needs}
 use Rattle.root.proofs.Bound.{Normals, by-power, by-digits}
 use Rattle.root.proofs.at_most.normal_at_most.Statement.{statement}
 use Rattle.root.proofs.at_most.normal_at_most.Tie as tie
-use Rattle.root.proofs.at_most.normal_at_most.Reads as reads
-use Rattle.root.proofs.at_most.normal_at_most.Lts as lts
 use Rattle.root.proofs.at_most.greatest.Reads as greatest-reads
 use Rattle.root.proofs.taken.Reads as taken-reads
 

@@ -1,5 +1,4 @@
-use mathlib.Core.Path.{_≡_, sym, ap, _∙_, subst}
-use mathlib.Core.Bool.{Bool}
+use mathlib.Core.Path.{sym, ap, _∙_, subst}
 use lib.Dec.{T}
 use lib.Ieee.{Float, binary64, fits, le, ofBits}
 use lib.Ieee.Bits.{ofBits-toBits}
@@ -8,8 +7,6 @@ use Rattle.root.proofs.Bound.{normal-is}
 use borrow.Author.Needs.{needs}
 use Rattle.root.proofs.at_most.root_at_most.Statement.{statement}
 use Rattle.root.proofs.at_most.root_at_most.Tie as tie
-use Rattle.root.proofs.at_most.root_at_most.Reads as reads
-use Rattle.root.proofs.at_most.root_at_most.Lts as lts
 use Rattle.floats.proofs.bits.Reads as bits-reads
 use Rattle.root.proofs.at_most.is_normal.Reads as is-normal-reads
 use Rattle.root.proofs.at_most.normal_at_most.Reads as normal-at-most-reads

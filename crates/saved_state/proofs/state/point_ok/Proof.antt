@@ -1,6 +1,5 @@
 -- `saved_state::state::point_ok` meets its contract. Assumes nothing.
 use mathlib.Core.Path.{sym, _∙_}
-use native.Mathlib.Omega.{arith}
 use borrow.Author.Tests.{lt-ltb, le-ltb}
 use Rattle.floats.specs.Truth.{and-t, and-f}
 use Rattle.saved_state.specs.State.{pointOk}

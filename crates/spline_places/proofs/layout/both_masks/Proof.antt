@@ -7,8 +7,6 @@ use Rattle.rows.specs.Masks.{maskSum, mask-more, mask-lt}
 use borrow.Author.Needs.{needs}
 use Rattle.spline_places.proofs.layout.both_masks.Statement.{statement}
 use Rattle.spline_places.proofs.layout.both_masks.Tie as tie
-use Rattle.spline_places.proofs.layout.both_masks.Reads as reads
-use Rattle.spline_places.proofs.layout.both_masks.Lts as lts
 use Rattle.spline_places.proofs.layout.in_both.Reads as in-both-reads
 use Rattle.spline_places.proofs.layout.mask_with.Reads as mask-with-reads
 

@@ -7,8 +7,6 @@ use Rattle.rows.specs.Masks.{maskSum, mask-more, mask-lt}
 use borrow.Author.Needs.{needs}
 use Rattle.spline_places.proofs.layout.mask_of.Statement.{statement}
 use Rattle.spline_places.proofs.layout.mask_of.Tie as tie
-use Rattle.spline_places.proofs.layout.mask_of.Reads as reads
-use Rattle.spline_places.proofs.layout.mask_of.Lts as lts
 use Rattle.spline_points.proofs.channels.is_listed.Reads as is-listed-reads
 use Rattle.spline_places.proofs.layout.mask_with.Reads as mask-with-reads
 

@@ -5,8 +5,6 @@ use lib.Pow.{pow-lt}
 use borrow.Author.Needs.{needs}
 use Rattle.spline_places.proofs.layout.mask_with.Statement.{statement}
 use Rattle.spline_places.proofs.layout.mask_with.Tie as tie
-use Rattle.spline_places.proofs.layout.mask_with.Reads as reads
-use Rattle.spline_places.proofs.layout.mask_with.Lts as lts
 
 shl-result : tie.Need-shl-result
 shl-result c = search needs

@@ -1,13 +1,11 @@
-use mathlib.Core.Path.{_≡_, refl, sym, _∙_}
-use Prim.Native.Nat.{ℕ, _+_, _≤_, _-_}
+use mathlib.Core.Path.{_≡_, sym, _∙_}
+use Prim.Native.Nat.{_+_, _≤_, _-_}
 use native.Mathlib.Omega.{arith}
 use lib.ListN.{length, drop}
 use Rattle.spline_places.specs.Groups.{placeOf, place-hit, place-miss, place-end}
 use borrow.Author.Needs.{needs}
 use Rattle.spline_places.proofs.layout.place_of.Statement.{statement}
 use Rattle.spline_places.proofs.layout.place_of.Tie as tie
-use Rattle.spline_places.proofs.layout.place_of.Reads as reads
-use Rattle.spline_places.proofs.layout.place_of.Lts as lts
 
 abbrev Inv-loop : tie.InvT-loop
 Inv-loop chans k i₀ i = (i ≤ length chans) × (placeOf k chans ≡ i + placeOf k (drop i chans))

@@ -1,15 +1,11 @@
-use mathlib.Core.Path.{_≡_, refl, sym, _∙_}
-use Prim.Native.Nat.{ℕ, _+_, _≤_, _-_}
+use mathlib.Core.Path.{_≡_}
+use Prim.Native.Nat.{ℕ, _≤_, _-_}
 use native.Mathlib.Omega.{arith}
-use lib.ListN.{length}
-use Rattle.floats.specs.Lists.{filled}
 use Rattle.floats.specs.Fill.{Filling, filling-none, filling-more}
 use Rattle.spline_places.specs.Groups.{placeOf}
 use borrow.Author.Needs.{needs}
 use Rattle.spline_places.proofs.layout.places_of.Statement.{statement}
 use Rattle.spline_places.proofs.layout.places_of.Tie as tie
-use Rattle.spline_places.proofs.layout.places_of.Reads as reads
-use Rattle.spline_places.proofs.layout.places_of.Lts as lts
 use Rattle.spline_places.proofs.layout.place_of.Reads as place-of-reads
 
 abbrev Inv-loop : tie.InvT-loop

@@ -5,8 +5,6 @@ use Rattle.spline_places.specs.Sizes.{moved-plain, moved-point, size-mos
 use borrow.Author.Needs.{needs}
 use Rattle.spline_places.proofs.place.after_block.Statement.{statement}
 use Rattle.spline_places.proofs.place.after_block.Tie as tie
-use Rattle.spline_places.proofs.place.after_block.Reads as reads
-use Rattle.spline_places.proofs.place.after_block.Lts as lts
 use Rattle.spline_places.proofs.place.size_of.Reads as size-of-reads
 
 add-t7 : tie.Need-add-t7

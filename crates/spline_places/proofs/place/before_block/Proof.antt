@@ -4,8 +4,6 @@ use Rattle.spline_places.specs.Sizes.{unmoved-plain, unmoved-point, behi
 use borrow.Author.Needs.{needs}
 use Rattle.spline_places.proofs.place.before_block.Statement.{statement}
 use Rattle.spline_places.proofs.place.before_block.Tie as tie
-use Rattle.spline_places.proofs.place.before_block.Reads as reads
-use Rattle.spline_places.proofs.place.before_block.Lts as lts
 use Rattle.spline_places.proofs.place.size_of.Reads as size-of-reads
 
 sub-t7 : tie.Need-sub-t7

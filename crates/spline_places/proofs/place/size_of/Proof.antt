@@ -1,8 +1,6 @@
 use Rattle.spline_places.specs.Sizes.{size-zero, size-some}
 use Rattle.spline_places.proofs.place.size_of.Statement.{statement}
 use Rattle.spline_places.proofs.place.size_of.Tie as tie
-use Rattle.spline_places.proofs.place.size_of.Reads as reads
-use Rattle.spline_places.proofs.place.size_of.Lts as lts
 
 returns : tie.Need-returns
 returns c = size-zero _ (c .if1 .taken)

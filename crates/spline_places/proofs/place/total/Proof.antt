@@ -1,5 +1,5 @@
-use mathlib.Core.Path.{_≡_, refl, sym, ap, _∙_}
-use Prim.Native.Nat.{ℕ, _+_, _≤_, _-_}
+use mathlib.Core.Path.{_≡_, refl, ap, _∙_}
+use Prim.Native.Nat.{_≤_, _-_}
 use native.Mathlib.Omega.{arith}
 use lib.ListN.{length}
 use Rattle.rows.specs.Codes.{geometricOf}
@@ -9,8 +9,6 @@ use Rattle.spline_places.specs.Sizes.{placeTo, place-step, place-room}
 use borrow.Author.Needs.{needs}
 use Rattle.spline_places.proofs.place.total.Statement.{statement}
 use Rattle.spline_places.proofs.place.total.Tie as tie
-use Rattle.spline_places.proofs.place.total.Reads as reads
-use Rattle.spline_places.proofs.place.total.Lts as lts
 use Rattle.spline_points.proofs.channels.block.Reads as block-reads
 use Rattle.spline_points.proofs.channels.has_point.Reads as has-point-reads
 use Rattle.spline_places.proofs.place.after_block.Reads as after-block-reads

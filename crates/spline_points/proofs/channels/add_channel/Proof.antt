@@ -1,19 +1,13 @@
-use mathlib.Core.Path.{_≡_, sym, ap, _∙_}
-use mathlib.Core.Bool.{true}
-use mathlib.Core.List.{[], _∷_}
-use Prim.Native.Nat.{ℕ, _+_, _<_}
+use mathlib.Core.Path.{sym, ap, _∙_}
 use native.Mathlib.Omega.{arith}
 use lib.ListN.{length, take}
 use lib.Seq.{length-take-le}
-use Rattle.floats.specs.Lists.{keep}
 use Rattle.spline_points.specs.Channels.{isNew}
 use Rattle.spline_points.specs.Keeps.{keep-yes}
 use Rattle.spline_points.specs.Append.{appended-kept, appended-left}
 use borrow.Author.Needs.{needs}
 use Rattle.spline_points.proofs.channels.add_channel.Statement.{statement}
 use Rattle.spline_points.proofs.channels.add_channel.Tie as tie
-use Rattle.spline_points.proofs.channels.add_channel.Reads as reads
-use Rattle.spline_points.proofs.channels.add_channel.Lts as lts
 use Rattle.spline_points.proofs.channels.is_new.Reads as is-new-reads
 
 slice-reshare-prefix-is-new : tie.Need-slice-reshare-prefix-is-new

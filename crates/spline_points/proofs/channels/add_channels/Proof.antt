@@ -1,16 +1,12 @@
-use mathlib.Core.Path.{_≡_, refl, sym, ap, _∙_}
-use mathlib.Core.List.{List, [], _∷_}
-use Prim.Native.Nat.{ℕ, _≤_, _-_, _+_}
+use Prim.Native.Nat.{_≤_, _-_}
 use native.Mathlib.Omega.{arith}
-use lib.ListN.{length, getD, take}
+use lib.ListN.{length, take}
 use Rattle.floats.specs.Lists.{keep}
 use Rattle.spline_points.specs.Channels.{isNew, channel-room, channel-step}
 use Rattle.spline_points.specs.Append.{Appended, appended-none, appended-all}
 use borrow.Author.Needs.{needs}
 use Rattle.spline_points.proofs.channels.add_channels.Statement.{statement}
 use Rattle.spline_points.proofs.channels.add_channels.Tie as tie
-use Rattle.spline_points.proofs.channels.add_channels.Reads as reads
-use Rattle.spline_points.proofs.channels.add_channels.Lts as lts
 use Rattle.spline_points.proofs.channels.add_channel.Reads as add-channel-reads
 
 abbrev Inv-loop : tie.InvT-loop

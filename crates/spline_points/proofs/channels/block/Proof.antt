@@ -2,8 +2,6 @@ use Rattle.spline_points.specs.Channels.{block-is}
 use borrow.Author.Needs.{needs}
 use Rattle.spline_points.proofs.channels.block.Statement.{statement}
 use Rattle.spline_points.proofs.channels.block.Tie as tie
-use Rattle.spline_points.proofs.channels.block.Reads as reads
-use Rattle.spline_points.proofs.channels.block.Lts as lts
 
 mul-a : tie.Need-mul-a
 mul-a c = search needs

@@ -1,8 +1,7 @@
-use mathlib.Core.Path.{_≡_, refl, sym, ap, _∙_}
-use mathlib.Core.List.{List, [], _∷_}
-use Prim.Native.Nat.{ℕ, _≤_, _-_, _+_}
+use mathlib.Core.Path.{_≡_}
+use mathlib.Core.List.{[]}
+use Prim.Native.Nat.{_≤_, _-_}
 use native.Mathlib.Omega.{arith}
-use lib.ListN.{length, getD, take}
 use Rattle.floats.specs.Lists.{upto}
 use Rattle.rows.specs.Codes.{geometricOf}
 use Rattle.spline_points.specs.Points.{channelsFrom, blockAt}
@@ -11,8 +10,6 @@ use Rattle.spline_points.specs.Append.{Appended, appended-none}
 use borrow.Author.Needs.{needs}
 use Rattle.spline_points.proofs.channels.channels_of.Statement.{statement}
 use Rattle.spline_points.proofs.channels.channels_of.Tie as tie
-use Rattle.spline_points.proofs.channels.channels_of.Reads as reads
-use Rattle.spline_points.proofs.channels.channels_of.Lts as lts
 use Rattle.spline_points.proofs.channels.add_channels.Reads as add-channels-reads
 
 abbrev Inv-loop : tie.InvT-loop

@@ -1,9 +1,9 @@
 use mathlib.Core.Path.{_≡_, sym, _∙_}
-use mathlib.Core.Bool.{Bool, _&&_}
+use mathlib.Core.Bool.{_&&_}
 use Prim.Native.Nat.{ℕ, _≤_, _-_}
 use native.Mathlib.Omega.{arith}
-use lib.Dec.{leb, ltb}
-use lib.ListN.{length, getD, drop}
+use lib.Dec.{ltb}
+use lib.ListN.{length, drop}
 use Rattle.layout.specs.Layout.{axisCodes}
 use Rattle.floats.specs.Lists.{anyOf}
 use Rattle.rows.specs.Codes.{geometricOf}
@@ -12,8 +12,6 @@ use Rattle.spline_points.specs.Keeps.{any-keep, any-hit, any-miss, any-n
 use borrow.Author.Needs.{needs}
 use Rattle.spline_points.proofs.channels.has_point.Statement.{statement}
 use Rattle.spline_points.proofs.channels.has_point.Tie as tie
-use Rattle.spline_points.proofs.channels.has_point.Reads as reads
-use Rattle.spline_points.proofs.channels.has_point.Lts as lts
 use Rattle.spline_points.proofs.channels.programs.Reads as programs-reads
 
 abbrev Inv-loop : tie.InvT-loop

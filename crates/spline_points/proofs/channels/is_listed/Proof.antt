@@ -3,14 +3,12 @@ use Prim.Native.Nat.{ℕ, _≤_, _-_}
 use native.Mathlib.Omega.{arith}
 use borrow.Author.Tests.{eq-eqb, ne-eqb}
 use lib.Dec.{eqb}
-use lib.ListN.{length, getD, drop}
+use lib.ListN.{length, drop}
 use Rattle.floats.specs.Lists.{anyOf, member}
 use Rattle.spline_points.specs.Keeps.{member-any, any-hit, any-miss, any-none}
 use borrow.Author.Needs.{needs}
 use Rattle.spline_points.proofs.channels.is_listed.Statement.{statement}
 use Rattle.spline_points.proofs.channels.is_listed.Tie as tie
-use Rattle.spline_points.proofs.channels.is_listed.Reads as reads
-use Rattle.spline_points.proofs.channels.is_listed.Lts as lts
 
 abbrev Inv-loop : tie.InvT-loop
 Inv-loop codes k i₀ i = (i ≤ length codes) × (member k codes ≡ anyOf (λ (x : ℕ). eqb x k) (drop i codes))

@@ -5,8 +5,6 @@ use Rattle.spline_points.specs.Channels.{not-new, maybe-new}
 use borrow.Author.Needs.{needs}
 use Rattle.spline_points.proofs.channels.is_new.Statement.{statement}
 use Rattle.spline_points.proofs.channels.is_new.Tie as tie
-use Rattle.spline_points.proofs.channels.is_new.Reads as reads
-use Rattle.spline_points.proofs.channels.is_new.Lts as lts
 use Rattle.spline_points.proofs.channels.is_listed.Reads as is-listed-reads
 use Rattle.spline_points.proofs.channels.programs.Reads as programs-reads
 

@@ -1,12 +1,9 @@
 use Rattle.layout.specs.Layout.{axisCodes}
-use mathlib.Core.Path.{_≡_, sym, _∙_}
-use lib.Dec.{leb}
+use mathlib.Core.Path.{_∙_}
 use borrow.Author.Tests.{lt-ltb, le-ltb}
 use borrow.Author.Needs.{needs}
 use Rattle.spline_points.proofs.channels.programs.Statement.{statement}
 use Rattle.spline_points.proofs.channels.programs.Tie as tie
-use Rattle.spline_points.proofs.channels.programs.Reads as reads
-use Rattle.spline_points.proofs.channels.programs.Lts as lts
 use Rattle.rows.proofs.has_bit.Reads as has-bit-reads
 
 returns : tie.Need-returns

@@ -3,8 +3,6 @@ use Rattle.spline_points.specs.Append.{appended-kept, appended-left}
 use borrow.Author.Needs.{needs}
 use Rattle.spline_points.proofs.metric.add_place.Statement.{statement}
 use Rattle.spline_points.proofs.metric.add_place.Tie as tie
-use Rattle.spline_points.proofs.metric.add_place.Reads as reads
-use Rattle.spline_points.proofs.metric.add_place.Lts as lts
 
 mul-if1 : tie.Need-mul-if1
 mul-if1 c = search needs

@@ -1,14 +1,11 @@
-use mathlib.Core.Path.{_≡_, sym}
+use mathlib.Core.Path.{_≡_}
 use Prim.Native.Nat.{ℕ, _≤_, _-_}
 use native.Mathlib.Omega.{arith}
-use lib.ListN.{length}
 use Rattle.floats.specs.Lists.{upto}
-use Rattle.spline_points.specs.Append.{Appended, appended-one, appended-none, appended-upto, appended-to}
+use Rattle.spline_points.specs.Append.{Appended, appended-one, appended-none, appended-upto}
 use borrow.Author.Needs.{needs}
 use Rattle.spline_points.proofs.metric.all_places.Statement.{statement}
 use Rattle.spline_points.proofs.metric.all_places.Tie as tie
-use Rattle.spline_points.proofs.metric.all_places.Reads as reads
-use Rattle.spline_points.proofs.metric.all_places.Lts as lts
 
 abbrev Inv-loop : tie.InvT-loop
 Inv-loop n places₀ i₀ places i = (i ≤ n) × Appended (upto (λ (i : ℕ). i) i) 0 places₀ places i

@@ -1,13 +1,9 @@
-use mathlib.Core.Path.{_≡_, refl, sym, ap, _∙_}
-use Prim.Native.Nat.{ℕ}
 use native.Mathlib.Omega.{arith}
 use Rattle.spline_points.specs.Channels.{metric-all, metric-xyz}
-use Rattle.spline_points.specs.Append.{Appended, appended-fresh, appended-as}
+use Rattle.spline_points.specs.Append.{appended-fresh, appended-as}
 use borrow.Author.Needs.{needs}
 use Rattle.spline_points.proofs.metric.metric_of.Statement.{statement}
 use Rattle.spline_points.proofs.metric.metric_of.Tie as tie
-use Rattle.spline_points.proofs.metric.metric_of.Reads as reads
-use Rattle.spline_points.proofs.metric.metric_of.Lts as lts
 use Rattle.spline_points.proofs.metric.all_places.Reads as all-places-reads
 use Rattle.spline_points.proofs.metric.xyz_places.Reads as xyz-places-reads
 

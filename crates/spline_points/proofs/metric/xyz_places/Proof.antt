@@ -9,8 +9,6 @@ use Rattle.spline_points.specs.Keeps.{keep-upto-most, keep-upto}
 use borrow.Author.Needs.{needs}
 use Rattle.spline_points.proofs.metric.xyz_places.Statement.{statement}
 use Rattle.spline_points.proofs.metric.xyz_places.Tie as tie
-use Rattle.spline_points.proofs.metric.xyz_places.Reads as reads
-use Rattle.spline_points.proofs.metric.xyz_places.Lts as lts
 use Rattle.spline_points.proofs.metric.add_place.Reads as add-place-reads
 
 abbrev Inv-loop : tie.InvT-loop

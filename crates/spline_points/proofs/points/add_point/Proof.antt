@@ -1,13 +1,9 @@
-use mathlib.Core.Path.{_≡_, refl, sym, ap, _∙_}
-use Prim.Native.Nat.{ℕ, _≤_, _+_, _-_}
-use native.Mathlib.Omega.{arith}
-use Rattle.spline_points.specs.Append.{Appended, appended-one, appended-as}
+use mathlib.Core.Path.{sym, _∙_}
+use Prim.Native.Nat.{_-_}
 use Rattle.spline_points.specs.Curve.{added, unadded, point-room}
 use borrow.Author.Needs.{needs}
 use Rattle.spline_points.proofs.points.add_point.Statement.{statement}
 use Rattle.spline_points.proofs.points.add_point.Tie as tie
-use Rattle.spline_points.proofs.points.add_point.Reads as reads
-use Rattle.spline_points.proofs.points.add_point.Lts as lts
 use Rattle.spline_points.proofs.channels.has_point.Reads as has-point-reads
 use Rattle.spline_points.proofs.points.next_point.Reads as next-point-reads
 use Rattle.spline_points.proofs.points.weight_of.Reads as weight-of-reads

@@ -1,7 +1,7 @@
-use mathlib.Core.Path.{_≡_, refl, sym, ap, _∙_}
-use Prim.Native.Nat.{ℕ, _≤_, _+_, _-_, _*_}
+use mathlib.Core.Path.{_≡_, ap, _∙_}
+use Prim.Native.Nat.{_≤_, _-_}
 use native.Mathlib.Omega.{arith}
-use lib.ListN.{length, take, drop}
+use lib.ListN.{length}
 use Rattle.floats.specs.Lists.{upto, keep}
 use Rattle.rows.specs.Codes.{geometricOf}
 use Rattle.rows.specs.Row.{hasPoint}
@@ -12,8 +12,6 @@ use Rattle.spline_points.specs.Keeps.{keep-upto-most}
 use borrow.Author.Needs.{needs}
 use Rattle.spline_points.proofs.points.add_points.Statement.{statement}
 use Rattle.spline_points.proofs.points.add_points.Tie as tie
-use Rattle.spline_points.proofs.points.add_points.Reads as reads
-use Rattle.spline_points.proofs.points.add_points.Lts as lts
 use Rattle.spline_points.proofs.channels.block.Reads as block-reads
 use Rattle.spline_points.proofs.points.add_point.Reads as add-point-reads
 

@@ -1,18 +1,14 @@
-use mathlib.Core.Path.{_≡_, refl, sym, ap, _∙_}
-use Prim.Native.Nat.{ℕ, _≤_, _+_}
+use mathlib.Core.Path.{_≡_, sym, ap, _∙_}
+use Prim.Native.Nat.{_≤_}
 use native.Mathlib.Omega.{arith}
 use lib.ListN.{length}
 use Rattle.floats.specs.Lists.{upto}
-use mathlib.Core.Option.{Option·getD}
-use Rattle.rows.specs.Row.{cell}
 use Rattle.spline_points.specs.Points.{firstCell, blockAt}
 use Rattle.spline_points.specs.Channels.{block-length}
 use Rattle.spline_points.specs.Curve.{firstOr, first-is, first-step, first-end}
 use borrow.Author.Needs.{needs}
 use Rattle.spline_points.proofs.points.first_word.Statement.{statement}
 use Rattle.spline_points.proofs.points.first_word.Tie as tie
-use Rattle.spline_points.proofs.points.first_word.Reads as reads
-use Rattle.spline_points.proofs.points.first_word.Lts as lts
 use Rattle.spline_points.proofs.channels.block.Reads as block-reads
 use Rattle.spline_points.proofs.points.cell_or.Reads as cell-or-reads
 

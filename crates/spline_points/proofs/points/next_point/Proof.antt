@@ -1,5 +1,5 @@
-use mathlib.Core.Path.{_≡_, refl, sym, ap, _∙_}
-use Prim.Native.Nat.{ℕ, _≤_, _+_, _-_}
+use mathlib.Core.Path.{_≡_, refl}
+use Prim.Native.Nat.{_≤_, _+_, _-_}
 use native.Mathlib.Omega.{arith}
 use lib.ListN.{length, take, drop}
 use Rattle.floats.specs.Lists.{upto}
@@ -8,8 +8,6 @@ use Rattle.spline_points.specs.Curve.{nextAt, next-is, next-step}
 use borrow.Author.Needs.{needs}
 use Rattle.spline_points.proofs.points.next_point.Statement.{statement}
 use Rattle.spline_points.proofs.points.next_point.Tie as tie
-use Rattle.spline_points.proofs.points.next_point.Reads as reads
-use Rattle.spline_points.proofs.points.next_point.Lts as lts
 use Rattle.spline_points.proofs.points.next_value.Reads as next-value-reads
 
 abbrev Inv-loop : tie.InvT-loop

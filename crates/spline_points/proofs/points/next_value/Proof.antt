@@ -3,8 +3,6 @@ use Rattle.spline_points.specs.Curve.{number-yes, number-no}
 use borrow.Author.Needs.{needs}
 use Rattle.spline_points.proofs.points.next_value.Statement.{statement}
 use Rattle.spline_points.proofs.points.next_value.Tie as tie
-use Rattle.spline_points.proofs.points.next_value.Reads as reads
-use Rattle.spline_points.proofs.points.next_value.Lts as lts
 use Rattle.floats.proofs.of_bits.Reads as of-bits-reads
 use Rattle.rows.proofs.has_bit.Reads as has-bit-reads
 

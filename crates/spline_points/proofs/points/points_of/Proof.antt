@@ -1,12 +1,10 @@
-use mathlib.Core.Path.{_≡_, refl, sym, ap, _∙_}
+use mathlib.Core.Path.{_∙_}
 use native.Mathlib.Omega.{arith}
 use borrow.Author.Needs.{needs}
 use lib.ListN.{length-set}
 use Rattle.spline_points.specs.Curve.{points-are}
 use Rattle.spline_points.proofs.points.points_of.Statement.{statement}
 use Rattle.spline_points.proofs.points.points_of.Tie as tie
-use Rattle.spline_points.proofs.points.points_of.Reads as reads
-use Rattle.spline_points.proofs.points.points_of.Lts as lts
 use Rattle.spline_points.proofs.points.add_points.Reads as add-points-reads
 use Rattle.spline_points.proofs.points.start_point.Reads as start-point-reads
 

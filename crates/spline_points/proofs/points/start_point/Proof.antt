@@ -1,6 +1,6 @@
-use mathlib.Core.Path.{_≡_, refl, sym, ap, _∙_}
+use mathlib.Core.Path.{ap}
 use mathlib.Core.List.{map}
-use Prim.Native.Nat.{ℕ, _≤_, _+_, _-_}
+use Prim.Native.Nat.{_≤_, _-_}
 use native.Mathlib.Omega.{arith}
 use lib.ListN.{length, take}
 use lib.Seq.{take-all}
@@ -12,8 +12,6 @@ use Rattle.spline_points.specs.Curve.{start-step}
 use borrow.Author.Needs.{needs}
 use Rattle.spline_points.proofs.points.start_point.Statement.{statement}
 use Rattle.spline_points.proofs.points.start_point.Tie as tie
-use Rattle.spline_points.proofs.points.start_point.Reads as reads
-use Rattle.spline_points.proofs.points.start_point.Lts as lts
 use Rattle.spline_points.proofs.points.start_value.Reads as start-value-reads
 
 abbrev Inv-loop : tie.InvT-loop

@@ -4,8 +4,6 @@ use Rattle.spline_points.specs.Curve.{start-yes, start-no}
 use borrow.Author.Needs.{needs}
 use Rattle.spline_points.proofs.points.start_value.Statement.{statement}
 use Rattle.spline_points.proofs.points.start_value.Tie as tie
-use Rattle.spline_points.proofs.points.start_value.Reads as reads
-use Rattle.spline_points.proofs.points.start_value.Lts as lts
 use Rattle.floats.proofs.of_bits.Reads as of-bits-reads
 use Rattle.spline_points.proofs.points.first_word.Reads as first-word-reads
 use Rattle.rows.proofs.has_bit.Reads as has-bit-reads

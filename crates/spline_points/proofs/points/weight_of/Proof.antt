@@ -1,10 +1,7 @@
-use mathlib.Core.Path.{sym, _∙_}
 use Rattle.spline_points.specs.Curve.{weight-low, weight-high}
 use borrow.Author.Needs.{needs}
 use Rattle.spline_points.proofs.points.weight_of.Statement.{statement}
 use Rattle.spline_points.proofs.points.weight_of.Tie as tie
-use Rattle.spline_points.proofs.points.weight_of.Reads as reads
-use Rattle.spline_points.proofs.points.weight_of.Lts as lts
 use Rattle.spline_points.proofs.points.next_value.Reads as next-value-reads
 
 next-value-requires : tie.Need-next-value-requires
