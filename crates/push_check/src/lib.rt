@@ -9,6 +9,7 @@ use layout::W_PLANE;
 use layout::W_WARNED;
 use motion::is_other;
 use motion::is_spline;
+use motion::kind_of;
 use rows::check_row;
 use rows::has_bit;
 use saved_state::state::saved_check;
@@ -84,7 +85,7 @@ pub fn is_full(state: &[u64], store: &[u64], row: &[u64]) -> bool
     requires { ⌜ Block (now state) (now row) ⌝ }
     ensures { λ r. ⌜ r ≡ isFull (now (state .entry)) (now (store .entry)) (now (row .entry)) ⌝ }
 {
-    if !is_spline(motion_then(state, row)) {
+    if !is_spline(kind_of(motion_then(state, row))) {
         return false;
     }
     block_room(store) <= kept(state, row)
@@ -113,7 +114,7 @@ pub fn is_news(state: &[u64], row: &[u64]) -> bool
     requires { ⌜ Block (now state) (now row) ⌝ }
     ensures { λ r. ⌜ r ≡ news (now (state .entry)) (now (row .entry)) ⌝ }
 {
-    if is_other(row[R_MOTION]) {
+    if is_other(kind_of(row[R_MOTION])) {
         return !has_bit(state[W_WARNED], row[R_MOTION]);
     }
     false

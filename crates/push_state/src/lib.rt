@@ -15,6 +15,7 @@ use layout::W_PLANE;
 use layout::W_START;
 use layout::W_WARNED;
 use motion::is_spline;
+use motion::kind_of;
 use push_check::emits;
 use push_check::is_news;
 use push_check::kept;
@@ -201,7 +202,7 @@ pub fn push_state(state: &mut [u64], row: &[u64])
     let emitted = emits(state, row);
     forget_if(state, emitted);
     set_modal(state, motion, plane);
-    buffer_if(state, row, is_spline(motion));
+    buffer_if(state, row, is_spline(kind_of(motion)));
     warn_if(state, row[R_MOTION], new);
     track(state, row);
 }
@@ -211,7 +212,7 @@ pub fn push_store(state: &[u64], store: &mut [u64], row: &[u64])
     requires { ⌜ (Block (now state) (now row)) × (isFull (now state) (now store) (now row) ≡ false) ⌝ }
     ensures { λ _. ⌜ now (store .exit) ≡ pushStore (now (state .entry)) (now (store .entry)) (now (row .entry)) ⌝ }
 {
-    if is_spline(motion_then(state, row)) {
+    if is_spline(kind_of(motion_then(state, row))) {
         let at = kept(state, row) as usize * ROW_WORDS;
         put_row(store, at, row);
     }

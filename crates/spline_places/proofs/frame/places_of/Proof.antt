@@ -4,9 +4,9 @@ use native.Mathlib.Omega.{arith}
 use Rattle.floats.specs.Fill.{Filling, filling-none, filling-more}
 use Rattle.spline_places.specs.Groups.{placeOf}
 use borrow.Author.Needs.{needs}
-use Rattle.spline_places.proofs.layout.places_of.Statement.{statement}
-use Rattle.spline_places.proofs.layout.places_of.Tie as tie
-use Rattle.spline_places.proofs.layout.place_of.Reads as place-of-reads
+use Rattle.spline_places.proofs.frame.places_of.Statement.{statement}
+use Rattle.spline_places.proofs.frame.places_of.Tie as tie
+use Rattle.spline_places.proofs.frame.place_of.Reads as place-of-reads
 
 abbrev Inv-loop : tie.InvT-loop
 Inv-loop chans places₀ k₀ places k = (k ≤ 10) × Filling (λ (k : ℕ). placeOf k chans) k places₀ places

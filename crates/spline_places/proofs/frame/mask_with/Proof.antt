@@ -3,8 +3,8 @@ use native.Mathlib.Omega.{arith}
 use Prim.Native.Nat.{ℕ, _*_, _%_, _^_}
 use lib.Pow.{pow-lt}
 use borrow.Author.Needs.{needs}
-use Rattle.spline_places.proofs.layout.mask_with.Statement.{statement}
-use Rattle.spline_places.proofs.layout.mask_with.Tie as tie
+use Rattle.spline_places.proofs.frame.mask_with.Statement.{statement}
+use Rattle.spline_places.proofs.frame.mask_with.Tie as tie
 
 shl-result : tie.Need-shl-result
 shl-result c = search needs

@@ -4,8 +4,8 @@ use native.Mathlib.Omega.{arith}
 use lib.ListN.{length, drop}
 use Rattle.spline_places.specs.Groups.{placeOf, place-hit, place-miss, place-end}
 use borrow.Author.Needs.{needs}
-use Rattle.spline_places.proofs.layout.place_of.Statement.{statement}
-use Rattle.spline_places.proofs.layout.place_of.Tie as tie
+use Rattle.spline_places.proofs.frame.place_of.Statement.{statement}
+use Rattle.spline_places.proofs.frame.place_of.Tie as tie
 
 abbrev Inv-loop : tie.InvT-loop
 Inv-loop chans k i₀ i = (i ≤ length chans) × (placeOf k chans ≡ i + placeOf k (drop i chans))

@@ -12,7 +12,7 @@ ghost use Rattle.rows.specs.Row.{has};
 ghost use Rattle.rows.specs.Masks.{maskSum};
 ghost use Rattle.spline_places.specs.Groups.{placeOf};
 
-pub struct Layout {
+pub struct Frame {
     // masks of the geometric axes and of the channels
     pub axes: u64,
     pub mask: u64,
