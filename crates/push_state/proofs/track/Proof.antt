@@ -1,26 +1,23 @@
 -- `push_state::track` meets its contract. Assumes nothing.
 use mathlib.Core.Path.{_∙_}
 use native.Mathlib.Omega.{arith}
-use Rattle.push_check.specs.BlockLaws.{Block, block-listed}
+use Rattle.push_check.specs.BlockLaws.{Block}
 use Rattle.push_state.proofs.Tracks.{Tracked, tracked-long, tracked-none, tracked-axis, tracked-fewer, tracked-more, tracked}
 use borrow.Author.Needs.{needs}
 use Rattle.push_state.proofs.track.Statement.{statement}
 use Rattle.push_state.proofs.track.Tie as tie
 
 abbrev Inv-loop : tie.InvT-loop
-Inv-loop state₀ row rest₀ state rest = Tracked state₀ row rest state × Block state₀ row
+Inv-loop state₀ row axes rest₀ state rest = Tracked state₀ row rest state × Block state₀ row
 
 abbrev μ-loop : tie.MeasureT-loop
-μ-loop state₀ row rest₀ state rest = rest
+μ-loop state₀ row axes rest₀ state rest = rest
 
 shared-slice-read-rest : tie.Need-shared-slice-read-rest Inv-loop μ-loop
 shared-slice-read-rest c = search needs
 
-geometric-mask-requires : tie.Need-geometric-mask-requires Inv-loop μ-loop
-geometric-mask-requires c κs = block-listed (c .before .before .before .before .pre)
-
 loop-holds : tie.Need-loop-holds Inv-loop μ-loop
-loop-holds c = (tracked-none _ _ (c .geometric-mask .ensures), c .before .before .before .before .before .pre)
+loop-holds c = let p = c .before .before .before .pre in (tracked-none _ _ (p .1), p .0)
 
 lowest-bit-requires : tie.Need-lowest-bit-requires Inv-loop μ-loop
 lowest-bit-requires c κs = search needs
@@ -59,7 +56,6 @@ track-spec =
     Inv-loop
     μ-loop
     shared-slice-read-rest
-    geometric-mask-requires
     loop-holds
     lowest-bit-requires
     add-place
