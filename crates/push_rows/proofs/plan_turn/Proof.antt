@@ -1,52 +1,52 @@
--- `push_rows::plan_turn` meets its contract. Assumes nothing.
-use mathlib.Core.Path.{sym, subst}
 use native.Mathlib.Omega.{arith}
-use Prim.Native.Nat.{ℕ, _<_, _^_}
 use lib.ListN.{length-take, length-drop}
-use Rattle.layout.specs.Layout.{axisCodes}
-use Rattle.push_check.specs.BlockLaws.{block-listed}
-use Rattle.saved_state.specs.Axes.{geometric-mask-small}
-use Rattle.push_rows.specs.Own.{place-is, turn-planned}
+use Rattle.push_rows.specs.Own.{place-is, turn-planned, ready-axes, ready-plane, ready-small}
+
 use borrow.Author.Needs.{needs}
 use Rattle.push_rows.proofs.plan_turn.Statement.{statement}
 use Rattle.push_rows.proofs.plan_turn.Tie as tie
+use Rattle.push_rows.proofs.plan_turn.Reads as reads
+use Rattle.push_rows.proofs.plan_turn.Lts as lts
+use Rattle.arc_rows.proofs.plan_arc.Reads as plan-arc-reads
+use Rattle.floats.proofs.of_bits.Reads as of-bits-reads
 
-geometric-mask-requires : tie.Need-geometric-mask-requires
-geometric-mask-requires c κs = block-listed ((c .before .before .pre) .block)
-
-plane-then-requires : tie.Need-plane-then-requires
-plane-then-requires c κs = (c .before .before .before .pre) .block
-
+-- src/lib.rt:54:23
 shared-slice-read-of-bits : tie.Need-shared-slice-read-of-bits
 shared-slice-read-of-bits c = search needs
 
+-- src/lib.rt:54:9
 of-bits-requires : tie.Need-of-bits-requires
 of-bits-requires c κs = search needs
 
+-- src/lib.rt:60:9
 shared-slice-read-plan-arc : tie.Need-shared-slice-read-plan-arc
 shared-slice-read-plan-arc c = search needs
 
+-- src/lib.rt:61:9
 sub-plan-arc : tie.Need-sub-plan-arc
 sub-plan-arc c = search needs
 
+-- src/lib.rt:61:9
 part-plan-arc-start : tie.Need-part-plan-arc-start
 part-plan-arc-start c = search needs
 
+-- src/lib.rt:61:9
 part-plan-arc-end : tie.Need-part-plan-arc-end
 part-plan-arc-end c = search needs
 
+-- src/lib.rt:55:5
 plan-arc-requires : tie.Need-plan-arc-requires
-plan-arc-requires c κs = record { long = (c .before .before .before .before .before .before .before .before .pre) .block .wide; axes = subst (λ (n : ℕ). n < 2 ^ axisCodes) (sym (c .before .before .before .before .before .geometric-mask .ensures)) (geometric-mask-small _); wide = simp (length-take, length-drop) (omega arith) }
+plan-arc-requires c κs = record { long = (c .before .before .before .before .before .before .pre) .block .wide; axes = ready-small (c .before .before .before .before .before .before .pre); wide = simp (length-take, length-drop) (omega arith) }
 
+-- src/lib.rt:50:1
 returns : tie.Need-returns
-returns c = turn-planned _ _ _ _ _ _ _ _ (c .before .before .before .before .before .before .geometric-mask .ensures) (c .before .before .before .before .before .plane-then .ensures) (c .before .before .before .of-bits .ensures) (place-is _ ((c .before .before .before .before .before .before .before .before .before .pre) .known)) (c .plan-arc .ensures)
+returns c = let y = (c .before .before .before .before .before .before .before .pre) in
+    turn-planned _ _ _ _ _ _ _ _ (ready-axes y) (ready-plane y) (c .before .before .before .of-bits .ensures) (place-is _ (y .known)) (c .plan-arc .ensures)
 
 pub plan-turn-spec : {M : Type 1} → statement M
 plan-turn-spec =
     tie.close
     (tie.spec
-    geometric-mask-requires
-    plane-then-requires
     shared-slice-read-of-bits
     of-bits-requires
     shared-slice-read-plan-arc
