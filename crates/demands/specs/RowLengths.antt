@@ -20,7 +20,7 @@ use Rattle.saved_state.specs.State.{held}
 use Rattle.push_rows.specs.Answer.{answerAs, ownAnswer}
 use Rattle.push_check.specs.Blocks.{emits}
 use Rattle.call_close.specs.Held.{emission}
-use Rattle.flattener.specs.Push.{pushRows}
+use Rattle.call_push.specs.Push.{pushRows}
 use Rattle.call_close.specs.Close.{closeRows}
 use Rattle.demands.specs.Laws.{cond-both, Every, nil, more, every-append, every-upto, every-flatten}
 

@@ -13,11 +13,11 @@ use Rattle.saved_state.specs.State as State
 use Rattle.call_start.specs.Start as Start
 use Rattle.call_reply.specs.Replies.{After}
 use Rattle.call_start.specs.Start.{fresh}
-use Rattle.flattener.specs.Push as Push
+use Rattle.call_push.specs.Push as Push
 use Rattle.push_check.specs.Blocks as Blocks
 use Rattle.push_state.specs.Pushed as Pushed
 use Rattle.push_rows.specs.Answer as Own
-use Rattle.flattener.specs.Push.{pushRows, pushSpec}
+use Rattle.call_push.specs.Push.{pushRows, pushSpec}
 use Rattle.demands.specs.Answers.{push-count}
 
 -- a program's push

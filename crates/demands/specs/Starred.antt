@@ -20,7 +20,7 @@ use Rattle.saved_state.specs.State as State
 use Rattle.call_start.specs.Start as Start
 use Rattle.call_close.specs.Held as Held
 use Rattle.call_reply.specs.Replies as Replies
-use Rattle.flattener.specs.Push as Push
+use Rattle.call_push.specs.Push as Push
 use Rattle.push_check.specs.Blocks as Blocks
 use Rattle.push_state.specs.Pushed as Pushed
 use Rattle.push_rows.specs.Answer as Own

@@ -25,7 +25,7 @@ use Rattle.call_reply.specs.Replies.{After, AfterState, plain}
 use Rattle.call_start.specs.Seed.{seeded, seedSpec}
 use Rattle.push_check.specs.Blocks.{orNow, motionThen, emits, pushCheck}
 use Rattle.push_rows.specs.Answer.{answerAs, ownAnswer}
-use Rattle.flattener.specs.Push.{pushRows, pushDone, pushSpec}
+use Rattle.call_push.specs.Push.{pushRows, pushDone, pushSpec}
 use Rattle.call_close.specs.Close.{closeRows, closeState, closeSpec}
 use Rattle.demands.specs.Laws.{Every, every-imp, flatten-append, length-flatten}
 use Rattle.demands.specs.Groups.{Event, seed, block, closed, Standing, motionWith, withBlock, withSeed, withClose, splineWith}

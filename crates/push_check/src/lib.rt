@@ -1,8 +1,8 @@
 // A block at a state: what it comes to, resolved once, and what it is refused for.
 use layout::MOST_HELD;
-use layout::ROW_WORDS;
 use layout::R_MOTION;
 use layout::R_PLANE;
+use layout::ROW_WORDS;
 use layout::W_HELD;
 use layout::W_MOTION;
 use layout::W_PLANE;

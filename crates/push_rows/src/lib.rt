@@ -82,14 +82,7 @@ pub fn plan_own(state: &[u64], row: &[u64], b: Resolved) -> Plan
     }
 }
 
-fn write_turn(
-    rows: &mut [u64],
-    from: usize,
-    state: &[u64],
-    row: &[u64],
-    b: Resolved,
-    plan: Plan,
-)
+fn write_turn(rows: &mut [u64], from: usize, state: &[u64], row: &[u64], b: Resolved, plan: Plan)
     requires { ⌜ (Writes (now state) (now row) b plan (now rows) from) × (0 < plan .count) ⌝ }
     ensures { λ _. ⌜ now (rows .exit) ≡ spliced (now (rows .entry)) from (flatten (ownRows (now (state .entry)) (now (row .entry)) plan)) ⌝ }
 {
@@ -106,14 +99,7 @@ fn write_turn(
 }
 
 // A row that passes is written without asking what an arc needs.
-fn write_some(
-    rows: &mut [u64],
-    from: usize,
-    state: &[u64],
-    row: &[u64],
-    b: Resolved,
-    plan: Plan,
-)
+fn write_some(rows: &mut [u64], from: usize, state: &[u64], row: &[u64], b: Resolved, plan: Plan)
     requires { ⌜ (Writes (now state) (now row) b plan (now rows) from) × (0 < plan .count) ⌝ }
     ensures { λ _. ⌜ now (rows .exit) ≡ spliced (now (rows .entry)) from (flatten (ownRows (now (state .entry)) (now (row .entry)) plan)) ⌝ }
 {
@@ -125,14 +111,7 @@ fn write_some(
 }
 
 // Writes a planned block's rows from word `from` on.
-pub fn write_own(
-    rows: &mut [u64],
-    from: usize,
-    state: &[u64],
-    row: &[u64],
-    b: Resolved,
-    plan: Plan,
-)
+pub fn write_own(rows: &mut [u64], from: usize, state: &[u64], row: &[u64], b: Resolved, plan: Plan)
     requires { ⌜ Writes (now state) (now row) b plan (now rows) from ⌝ }
     ensures { λ _. ⌜ now (rows .exit) ≡ spliced (now (rows .entry)) from (flatten (ownRows (now (state .entry)) (now (row .entry)) plan)) ⌝ }
 {

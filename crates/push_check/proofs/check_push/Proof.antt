@@ -1,7 +1,6 @@
 use mathlib.Core.Path.{sym, _∙_}
 use Rattle.push_check.specs.BlockLaws.{block, due-saved, due-row, due-full, due-block}
 use Rattle.saved_state.specs.Checked.{saved-ok}
-
 use borrow.Author.Needs.{needs}
 use Rattle.push_check.proofs.check_push.Statement.{statement}
 use Rattle.push_check.proofs.check_push.Tie as tie

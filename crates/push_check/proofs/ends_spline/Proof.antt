@@ -2,7 +2,6 @@ use mathlib.Core.Path.{sym, ap, _∙_}
 use mathlib.Core.Bool.{not}
 use borrow.Author.Tests.{eq-eqb, ne-eqb}
 use Rattle.floats.specs.Truth.{and-t, and-f}
-
 use Rattle.push_check.proofs.ends_spline.Statement.{statement}
 use Rattle.push_check.proofs.ends_spline.Tie as tie
 use Rattle.push_check.proofs.ends_spline.Reads as reads

@@ -1,7 +1,6 @@
 use mathlib.Core.Path.{sym, refl, ap₂, _∙_}
 use lib.Dec.{leb}
 use Rattle.floats.specs.Truth.{and-t, and-f}
-
 use borrow.Author.Needs.{needs}
 use Rattle.push_check.proofs.is_full.Statement.{statement}
 use Rattle.push_check.proofs.is_full.Tie as tie

@@ -1,6 +1,5 @@
 use mathlib.Core.Path.{refl}
 use Rattle.push_check.specs.BlockLaws.{block-listed, resolved-is}
-
 use borrow.Author.Needs.{needs}
 use Rattle.push_check.proofs.resolve.Statement.{statement}
 use Rattle.push_check.proofs.resolve.Tie as tie

@@ -1,6 +1,5 @@
 use native.Mathlib.Omega.{arith}
 use Rattle.push_rows.proofs.Writing.{unwritten}
-
 use borrow.Author.Needs.{needs}
 use Rattle.push_rows.proofs.write_own.Statement.{statement}
 use Rattle.push_rows.proofs.write_own.Tie as tie

@@ -1,6 +1,5 @@
 use native.Mathlib.Omega.{arith}
 use Rattle.push_rows.proofs.Writing.{passed-on}
-
 use borrow.Author.Needs.{needs}
 use Rattle.push_rows.proofs.write_some.Statement.{statement}
 use Rattle.push_rows.proofs.write_some.Tie as tie

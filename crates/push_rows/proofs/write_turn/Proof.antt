@@ -2,7 +2,6 @@ use native.Mathlib.Omega.{arith}
 use lib.ListN.{length-take, length-drop}
 use Rattle.push_rows.specs.Own.{place-is, ready-axes, ready-plane, ready-small}
 use Rattle.push_rows.proofs.Writing.{write-at, written}
-
 use borrow.Author.Needs.{needs}
 use Rattle.push_rows.proofs.write_turn.Statement.{statement}
 use Rattle.push_rows.proofs.write_turn.Tie as tie
@@ -29,9 +28,10 @@ part-write-arc-end c = search needs
 -- src/lib.rt:96:5
 write-arc-requires : tie.Need-write-arc-requires
 write-arc-requires c κs = let w = (c .before .before .before .before .before .before .pre) .0 in
-    let y = w .ready in
-    (record { long = y .block .wide; axes = ready-small y; wide = simp (length-take, length-drop) (omega arith) },
-    write-at _ _ _ _ _ _ (ready-axes y) (ready-plane y) (place-is _ (y .known)) _ _ (w .planned) ((c .before .before .before .before .before .before .pre) .1) (w .room))
+    let y = w .ready in (
+      record { long = y .block .wide; axes = ready-small y; wide = simp (length-take, length-drop) (omega arith) },
+      write-at _ _ _ _ _ _ (ready-axes y) (ready-plane y) (place-is _ (y .known)) _ _ (w .planned) ((c .before .before .before .before .before .before .pre) .1) (w .room),
+    )
 
 -- src/lib.rt:85:1
 same-length : tie.Need-same-length

@@ -1,6 +1,5 @@
 use native.Mathlib.Omega.{arith}
 use Rattle.push_state.proofs.Steps.{step-1, block-2, held-2, long-3, block-4, axes-4, state-done}
-
 use borrow.Author.Needs.{needs}
 use Rattle.push_state.proofs.push_state.Statement.{statement}
 use Rattle.push_state.proofs.push_state.Tie as tie

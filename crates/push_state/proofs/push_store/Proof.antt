@@ -1,7 +1,6 @@
 use mathlib.Core.Path.{sym, _∙_}
 use native.Mathlib.Omega.{arith}
 use Rattle.floats.specs.Truth.{cond-t, cond-f}
-
 use borrow.Author.Needs.{needs}
 use Rattle.push_state.proofs.push_store.Statement.{statement}
 use Rattle.push_state.proofs.push_store.Tie as tie
