@@ -2,23 +2,16 @@ use Rattle.call_push.proofs.Calls.{put-before-some, put-before-none}
 use borrow.Author.Needs.{needs}
 use Rattle.call_push.proofs.put_before.Statement.{statement}
 use Rattle.call_push.proofs.put_before.Tie as tie
-use Rattle.call_push.proofs.put_before.Reads as reads
-use Rattle.call_push.proofs.put_before.Lts as lts
-use Rattle.call_close.proofs.put_emission.Reads as put-emission-reads
 
--- src/lib.rt:34:9
 put-emission-requires : tie.Need-put-emission-requires
 put-emission-requires c κs = search needs
 
--- src/lib.rt:34:9
 same-length : tie.Need-same-length
 same-length c = search needs
 
--- src/lib.rt:34:9
 returns : tie.Need-returns
 returns c = put-before-some _ _ (c .before .before .before .before .if1 .taken) (c .before .before .put-emission .ensures)
 
--- src/lib.rt:29:1
 returns-2 : tie.Need-returns-2
 returns-2 c = put-before-none _ _ _ _ (c .if1 .left)
 

@@ -2,117 +2,85 @@ use Rattle.push_rows.specs.Own.{ready-kind, own-same, own-linear, own-cl
 use borrow.Author.Needs.{needs}
 use Rattle.push_rows.proofs.plan_own.Statement.{statement}
 use Rattle.push_rows.proofs.plan_own.Tie as tie
-use Rattle.push_rows.proofs.plan_own.Reads as reads
-use Rattle.push_rows.proofs.plan_own.Lts as lts
-use Rattle.push_rows.proofs.none_plan.Reads as none-plan-reads
-use Rattle.push_rows.proofs.pass_plan.Reads as pass-plan-reads
-use Rattle.push_rows.proofs.plan_turn.Reads as plan-turn-reads
 
--- src/lib.rt:73:23
 enum-told : tie.Need-enum-told
 enum-told c = search needs
 
--- src/lib.rt:73:23
 pass-plan-requires : tie.Need-pass-plan-requires
 pass-plan-requires c κs = search needs
 
--- src/lib.rt:74:25
 enum-told-2 : tie.Need-enum-told-2
 enum-told-2 c = search needs
 
--- src/lib.rt:74:25
 pass-plan-requires-2 : tie.Need-pass-plan-requires-2
 pass-plan-requires-2 c κs = search needs
 
--- src/lib.rt:75:28
 enum-told-3 : tie.Need-enum-told-3
 enum-told-3 c = search needs
 
--- src/lib.rt:75:28
 plan-turn-requires : tie.Need-plan-turn-requires
 plan-turn-requires c κs = search needs
 
--- src/lib.rt:76:26
 enum-told-4 : tie.Need-enum-told-4
 enum-told-4 c = search needs
 
--- src/lib.rt:76:26
 plan-turn-requires-2 : tie.Need-plan-turn-requires-2
 plan-turn-requires-2 c κs = search needs
 
--- src/lib.rt:77:24
 enum-told-5 : tie.Need-enum-told-5
 enum-told-5 c = search needs
 
--- src/lib.rt:77:24
 none-plan-requires : tie.Need-none-plan-requires
 none-plan-requires c κs = search needs
 
--- src/lib.rt:78:24
 enum-told-6 : tie.Need-enum-told-6
 enum-told-6 c = search needs
 
--- src/lib.rt:78:24
 none-plan-requires-2 : tie.Need-none-plan-requires-2
 none-plan-requires-2 c κs = search needs
 
--- src/lib.rt:79:24
 enum-told-7 : tie.Need-enum-told-7
 enum-told-7 c = search needs
 
--- src/lib.rt:79:24
 none-plan-requires-3 : tie.Need-none-plan-requires-3
 none-plan-requires-3 c κs = search needs
 
--- src/lib.rt:80:24
 enum-told-8 : tie.Need-enum-told-8
 enum-told-8 c = search needs
 
--- src/lib.rt:80:24
 pass-plan-requires-3 : tie.Need-pass-plan-requires-3
 pass-plan-requires-3 c κs = search needs
 
--- src/lib.rt:81:26
 enum-told-9 : tie.Need-enum-told-9
 enum-told-9 c = search needs
 
--- src/lib.rt:81:26
 pass-plan-requires-4 : tie.Need-pass-plan-requires-4
 pass-plan-requires-4 c κs = search needs
 
--- src/lib.rt:67:1
 returns : tie.Need-returns
 returns c = own-same _ _ _ (ready-kind (c .before .before .before .before .before .pre) ((c .before .enum-told .given) .1)) (c .pass-plan .ensures)
 
--- src/lib.rt:67:1
 returns-2 : tie.Need-returns-2
 returns-2 c = own-linear _ _ _ (ready-kind (c .before .before .before .before .before .pre) ((c .before .enum-told2 .given) .1)) (c .pass-plan2 .ensures)
 
--- src/lib.rt:67:1
 returns-3 : tie.Need-returns-3
 returns-3 c = own-clockwise _ _ _ (ready-kind (c .before .before .before .before .before .pre) ((c .before .enum-told3 .given) .1)) (c .plan-turn .ensures)
 
--- src/lib.rt:67:1
 returns-4 : tie.Need-returns-4
 returns-4 c = own-counter _ _ _ (ready-kind (c .before .before .before .before .before .pre) ((c .before .enum-told4 .given) .1)) (c .plan-turn2 .ensures)
 
--- src/lib.rt:67:1
 returns-5 : tie.Need-returns-5
 returns-5 c = own-akima _ _ _ (ready-kind (c .before .before .before .before .before .pre) ((c .before .enum-told5 .given) .1)) (c .none-plan .ensures)
 
--- src/lib.rt:67:1
 returns-6 : tie.Need-returns-6
 returns-6 c = own-basis _ _ _ (ready-kind (c .before .before .before .before .before .pre) ((c .before .enum-told6 .given) .1)) (c .none-plan2 .ensures)
 
--- src/lib.rt:67:1
 returns-7 : tie.Need-returns-7
 returns-7 c = own-cubic _ _ _ (ready-kind (c .before .before .before .before .before .pre) ((c .before .enum-told7 .given) .1)) (c .none-plan3 .ensures)
 
--- src/lib.rt:67:1
 returns-8 : tie.Need-returns-8
 returns-8 c = own-other _ _ _ (ready-kind (c .before .before .before .before .before .pre) ((c .before .enum-told8 .given) .1)) (c .pass-plan3 .ensures)
 
--- src/lib.rt:67:1
 returns-9 : tie.Need-returns-9
 returns-9 c = own-refused _ _ _ (ready-kind (c .before .before .before .before .before .pre) ((c .before .enum-told9 .given) .1)) (c .pass-plan4 .ensures)
 

@@ -4,40 +4,30 @@ use Rattle.push_rows.specs.Own.{place-is, turn-planned, ready-axes, read
 use borrow.Author.Needs.{needs}
 use Rattle.push_rows.proofs.plan_turn.Statement.{statement}
 use Rattle.push_rows.proofs.plan_turn.Tie as tie
-use Rattle.push_rows.proofs.plan_turn.Reads as reads
-use Rattle.push_rows.proofs.plan_turn.Lts as lts
-use Rattle.arc_rows.proofs.plan_arc.Reads as plan-arc-reads
-use Rattle.floats.proofs.of_bits.Reads as of-bits-reads
 
--- src/lib.rt:54:23
 shared-slice-read-of-bits : tie.Need-shared-slice-read-of-bits
 shared-slice-read-of-bits c = search needs
 
--- src/lib.rt:54:9
 of-bits-requires : tie.Need-of-bits-requires
 of-bits-requires c κs = search needs
 
--- src/lib.rt:60:9
 shared-slice-read-plan-arc : tie.Need-shared-slice-read-plan-arc
 shared-slice-read-plan-arc c = search needs
 
--- src/lib.rt:61:9
 sub-plan-arc : tie.Need-sub-plan-arc
 sub-plan-arc c = search needs
 
--- src/lib.rt:61:9
 part-plan-arc-start : tie.Need-part-plan-arc-start
 part-plan-arc-start c = search needs
 
--- src/lib.rt:61:9
 part-plan-arc-end : tie.Need-part-plan-arc-end
 part-plan-arc-end c = search needs
 
--- src/lib.rt:55:5
 plan-arc-requires : tie.Need-plan-arc-requires
-plan-arc-requires c κs = record { long = (c .before .before .before .before .before .before .pre) .block .wide; axes = ready-small (c .before .before .before .before .before .before .pre); wide = simp (length-take, length-drop) (omega arith) }
+plan-arc-requires c κs =
+    let b6 = c .before .before .before .before .before .before in
+    record { long = (b6 .pre) .block .wide; axes = ready-small (b6 .pre); wide = simp (length-take, length-drop) (omega arith) }
 
--- src/lib.rt:50:1
 returns : tie.Need-returns
 returns c = let y = (c .before .before .before .before .before .before .before .pre) in
     turn-planned _ _ _ _ _ _ _ _ (ready-axes y) (ready-plane y) (c .before .before .before .of-bits .ensures) (place-is _ (y .known)) (c .plan-arc .ensures)

@@ -3,23 +3,16 @@ use Rattle.push_rows.proofs.Writing.{unwritten}
 use borrow.Author.Needs.{needs}
 use Rattle.push_rows.proofs.write_own.Statement.{statement}
 use Rattle.push_rows.proofs.write_own.Tie as tie
-use Rattle.push_rows.proofs.write_own.Reads as reads
-use Rattle.push_rows.proofs.write_own.Lts as lts
-use Rattle.push_rows.proofs.write_some.Reads as write-some-reads
 
--- src/lib.rt:140:9
 write-some-requires : tie.Need-write-some-requires
 write-some-requires c κs = search needs
 
--- src/lib.rt:128:1
 same-length : tie.Need-same-length
 same-length c = search needs
 
--- src/lib.rt:128:1
 returns : tie.Need-returns
 returns c = search needs
 
--- src/lib.rt:128:1
 returns-2 : tie.Need-returns-2
 returns-2 c = unwritten _ _ _ _ _ (omega arith)
 

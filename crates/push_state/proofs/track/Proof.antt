@@ -29,19 +29,32 @@ mul-place : tie.Need-mul-place Inv-loop μ-loop
 mul-place c = omega (arith, tracked-axis _ _ ((c .before .before .before .loop .inv) .0) (omega arith) (c .before .lowest-bit .ensures))
 
 shared-slice-read-place : tie.Need-shared-slice-read-place Inv-loop μ-loop
-shared-slice-read-place c = omega (arith, tracked-axis _ _ ((c .before .before .before .before .loop .inv) .0) (omega arith) (c .before .before .lowest-bit .ensures), (c .before .before .before .before .loop .inv) .1 .wide)
+shared-slice-read-place c =
+    let b2 = c .before .before in
+    let b4 = b2 .before .before in
+    omega (arith, tracked-axis _ _ ((b4 .loop .inv) .0) (omega arith) (b2 .lowest-bit .ensures), (b4 .loop .inv) .1 .wide)
 
 place-requires : tie.Need-place-requires Inv-loop μ-loop
-place-requires c κs = (tracked-long _ _ ((c .before .before .before .before .loop .inv) .0) ∙ (c .before .before .before .before .loop .inv) .1 .long, tracked-axis _ _ ((c .before .before .before .before .loop .inv) .0) (omega arith) (c .before .before .lowest-bit .ensures))
+place-requires c κs =
+    let b2 = c .before .before in
+    let b4 = b2 .before .before in
+    (tracked-long _ _ ((b4 .loop .inv) .0) ∙ (b4 .loop .inv) .1 .long, tracked-axis _ _ ((b4 .loop .inv) .0) (omega arith) (b2 .lowest-bit .ensures))
 
 other-bits-requires : tie.Need-other-bits-requires Inv-loop μ-loop
 other-bits-requires c κs = search needs
 
 loop-less : tie.Need-loop-less Inv-loop μ-loop
-loop-less c = omega (arith, tracked-fewer _ _ ((c .before .before .before .before .before .before .before .before .loop .inv) .0) (omega arith) (c .before .before .before .before .before .before .lowest-bit .ensures))
+loop-less c =
+    let b6 = c .before .before .before .before .before .before in
+    let b8 = b6 .before .before in
+    omega (arith, tracked-fewer _ _ ((b8 .loop .inv) .0) (omega arith) (b6 .lowest-bit .ensures))
 
 loop-again : tie.Need-loop-again Inv-loop μ-loop
-loop-again c = (tracked-more _ _ ((c .before .before .before .before .before .before .before .before .loop .inv) .0) (omega arith) (c .before .before .before .before .before .before .lowest-bit .ensures) (c .other-bits .ensures) (c .before .before .before .place .ensures), (c .before .before .before .before .before .before .before .before .loop .inv) .1)
+loop-again c =
+    let b3 = c .before .before .before in
+    let b6 = b3 .before .before .before in
+    let b8 = b6 .before .before in
+    (tracked-more _ _ ((b8 .loop .inv) .0) (omega arith) (b6 .lowest-bit .ensures) (c .other-bits .ensures) (b3 .place .ensures), (b8 .loop .inv) .1)
 
 same-length : tie.Need-same-length Inv-loop μ-loop
 same-length c = tracked-long _ _ ((c .before .loop .inv) .0)
