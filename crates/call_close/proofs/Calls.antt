@@ -36,13 +36,15 @@ module _ (st store rows : List ℕ) (pass : savedCheck st store ≡ 0) where
       cond-t _ _ (eq-eqb (savedCheck st store) 0 pass)
       ∙ rw (eq-eqb (held st) 0 e, le-leb 0 (length rows / rowWords) (omega arith))
 
-  pub close-few-is : (held st ≡ 0 → ⊥) → length rows / rowWords < length (emission st store) → closeSpec st store rows ≡ untouched (tooFew (length (emission st store))) st store rows
+  pub close-few-is : (held st ≡ 0 → ⊥) → length rows / rowWords < length (emission st store)
+      → closeSpec st store rows ≡ untouched (tooFew (length (emission st store))) st store rows
   unfolding closeSpec closeRows
   close-few-is d l =
       cond-t _ _ (eq-eqb (savedCheck st store) 0 pass)
       ∙ rw (ne-eqb (held st) 0 d, lt-leb (length (emission st store)) (length rows / rowWords) l)
 
-  pub close-done-is : (held st ≡ 0 → ⊥) → length (emission st store) ≤ length rows / rowWords → closeSpec st store rows ≡ closed st store rows (emission st store)
+  pub close-done-is : (held st ≡ 0 → ⊥) → length (emission st store) ≤ length rows / rowWords
+      → closeSpec st store rows ≡ closed st store rows (emission st store)
   unfolding closeSpec closeRows
   close-done-is d l =
       cond-t _ _ (eq-eqb (savedCheck st store) 0 pass)
@@ -66,7 +68,8 @@ module _ (st store : List ℕ) (saved : savedCheck st store ≡ 0) (axes : List 
   rows-of : flatten (splineGroups (splineOf (motionNow st) (degree st) tol axes (getD st wStart 0) (startOf st) store (held st))) ≡ emission st store
   rows-of = rw (ea, et) (emission-is st store (saved-ok st store saved))
 
-  pub put-at : (own : ℕ) (rows : List ℕ) (n : ℕ) (u : List ℕ) → n ≡ length (flatten (splineGroups (splineOf (motionNow st) (degree st) tol axes (getD st wStart 0) (startOf st) store (held st))))
+  pub put-at : (own : ℕ) (rows : List ℕ) (n : ℕ) (u : List ℕ)
+      → n ≡ length (flatten (splineGroups (splineOf (motionNow st) (degree st) tol axes (getD st wStart 0) (startOf st) store (held st))))
       → u ≡ putWithin own (flatten (splineGroups (splineOf (motionNow st) (degree st) tol axes (getD st wStart 0) (startOf st) store (held st)))) rows
       → Put own (emission st store) rows n u
   put-at own rows n u e eu =

@@ -25,7 +25,8 @@ use Rattle.spline_emission.specs.Emission.{runsOf, splineGroups, putWithin}
 use Rattle.spline_emission.specs.Emits.{Holds}
 use Rattle.spline_emission.specs.Laws.{shown-part, blocks-are}
 use Rattle.spline_emission.specs.Widths.{runs-few}
-use Rattle.saved_state.specs.State.{axisCount, motionNow, degree, held, tolerance, geometric, pointWord, curveStart, heldRows, codeOk, codesOk, axesOk, stateOk, savedCheck}
+use Rattle.saved_state.specs.State.{axisCount, motionNow, degree, held, tolerance, geometric, pointWord, curveStart, heldRows, codeOk, codesOk, axesOk}
+use Rattle.saved_state.specs.State.{stateOk, savedCheck}
 use Rattle.saved_state.specs.StateLaws.{Good, good, good-few, point-small}
 use Rattle.call_close.specs.Held.{heldSpline, emission}
 use Rattle.saved_state.specs.Checked.{saved-ok, saved-store}
@@ -65,8 +66,11 @@ unfolding codesOk codeOk
 once-codes axes p =
     record {
       once = λ i j l m e.
-          let c : (leb (getD axes j 0) lastCode && all j (λ (n : ℕ). not (eqb (getD axes n 0) (getD axes j 0)))) ≡ true = all-at (length axes) (codeOk axes) j (and-right (leb (length axes) 15) (all (length axes) (codeOk axes)) p) m in
-          let d : not (eqb (getD axes i 0) (getD axes j 0)) ≡ true = all-at j (λ (n : ℕ). not (eqb (getD axes n 0) (getD axes j 0))) i (and-right (leb (getD axes j 0) lastCode) (all j (λ (n : ℕ). not (eqb (getD axes n 0) (getD axes j 0)))) c) l in
+          let c : (leb (getD axes j 0) lastCode && all j (λ (n : ℕ). not (eqb (getD axes n 0) (getD axes j 0)))) ≡ true =
+          all-at (length axes) (codeOk axes) j (and-right (leb (length axes) 15) (all (length axes) (codeOk axes)) p) m in
+          let d : not (eqb (getD axes i 0) (getD axes j 0)) ≡ true =
+          all-at j (λ (n : ℕ). not (eqb (getD axes n 0) (getD axes j 0))) i
+          (and-right (leb (getD axes j 0) lastCode) (all j (λ (n : ℕ). not (eqb (getD axes n 0) (getD axes j 0)))) c) l in
           false≢true (sym (not-true (eqb (getD axes i 0) (getD axes j 0)) d) ∙ eq-eqb (getD axes i 0) (getD axes j 0) e);
     }
 
@@ -117,7 +121,8 @@ pub emission-words : (st store : List ℕ) → length (flatten (emission st stor
 unfolding emission splineGroups
 emission-words st store =
     length-flatten rowWords (flatten (splineGroups (heldSpline st store)))
-    (sized-groups (heldGroup (heldSpline st store) (runsOf (heldSpline st store))) (sized-group (heldSpline st store) (runsOf (heldSpline st store))) (length (heldSpline st store .blocks)))
+    (sized-groups (heldGroup (heldSpline st store) (runsOf (heldSpline st store))) (sized-group (heldSpline st store) (runsOf (heldSpline st store)))
+    (length (heldSpline st store .blocks)))
 
 -- ---- and there are not too many
 abbrev most : ℕ

@@ -83,7 +83,8 @@ doneOf st store rows r count warning wanted held out =
       rows = spliced rows 0 (flatten out);
     }
 
-module _ (st store rows r : List ℕ) (pass : pushCheck st store r ≡ 0) (p : Plan) (h : OwnPlanned st r p) (n : ℕ) (hn : n ≡ length (before (emits st r) st store)) where
+module _ (st store rows r : List ℕ) (pass : pushCheck st store r ≡ 0) (p : Plan) (h : OwnPlanned st r p) (n : ℕ)
+    (hn : n ≡ length (before (emits st r) st store)) where
   count-is : length (pushRows st store r) ≡ n + p .count
   count-is =
       ap length (rows-are st store r) ∙ length-append (before (emits st r) st store) (ownAnswer st r .rows)
@@ -106,15 +107,20 @@ module _ (st store rows r : List ℕ) (pass : pushCheck st store r ≡ 0) (p : P
       ∙ ap (λ (w : ℕ). doneOf st store rows r (n + p .count) w (ownAnswer st r .wanted) (ownAnswer st r .held) (pushRows st store r)) (sym (h .warning))
       ∙ ap (λ (k : ℕ). doneOf st store rows r (n + p .count) (p .warning) k (ownAnswer st r .held) (pushRows st store r)) (sym (h .wanted))
       ∙ ap (λ (k : ℕ). doneOf st store rows r (n + p .count) (p .warning) (p .wanted) k (pushRows st store r)) (sym (h .held))
-      ∙ ap (doneOf st store rows r (n + p .count) (p .warning) (p .wanted) (p .held)) (rows-are st store r ∙ ap (λ (o : List (List ℕ)). before (emits st r) st store ++ o) (sym (h .rows)))
+      ∙ ap (doneOf st store rows r (n + p .count) (p .warning) (p .wanted) (p .held))
+      (rows-are st store r ∙ ap (λ (o : List (List ℕ)). before (emits st r) st store ++ o) (sym (h .rows)))
 
   -- both writings, one after the other
-  pub both-written : n + p .count ≤ length rows / rowWords → (t u : List ℕ) → t ≡ spliced rows 0 (flatten (before (emits st r) st store)) → u ≡ spliced t (n * rowWords) (flatten (ownRows st r p))
+  pub both-written : n + p .count ≤ length rows / rowWords → (t u : List ℕ) → t ≡ spliced rows 0 (flatten (before (emits st r) st store))
+      → u ≡ spliced t (n * rowWords) (flatten (ownRows st r p))
       → u ≡ spliced rows 0 (flatten (before (emits st r) st store ++ ownRows st r p))
   both-written l t u et eu =
       let w : length (flatten (before (emits st r) st store)) ≡ length (before (emits st r) st store) * rowWords = before-words (emits st r) st store in
       let d : length rows / rowWords * rowWords + length rows % rowWords ≡ length rows = div-add-mod' (length rows) rowWords in
-      let i : 0 + length (flatten (before (emits st r) st store)) ≡ n * rowWords = (let z : 0 + length (flatten (before (emits st r) st store)) ≡ length (flatten (before (emits st r) st store)) = omega arith in z ∙ w ∙ ap (λ (k : ℕ). k * rowWords) (sym hn)) in
+      let i : 0 + length (flatten (before (emits st r) st store)) ≡ n * rowWords =
+      (let z : 0 + length (flatten (before (emits st r) st store)) ≡ length (flatten (before (emits st r) st store)) = omega arith in z
+      ∙ w
+      ∙ ap (λ (k : ℕ). k * rowWords) (sym hn)) in
       eu ∙ ap (λ (q : List ℕ). spliced q (n * rowWords) (flatten (ownRows st r p))) et
       ∙ ap (λ (k : ℕ). spliced (spliced rows 0 (flatten (before (emits st r) st store))) k (flatten (ownRows st r p))) (sym i)
       ∙ spliced-spliced rows 0 (flatten (before (emits st r) st store)) (flatten (ownRows st r p)) (omega arith)
@@ -179,7 +185,8 @@ module _ (st store rows r : List ℕ) (b : Resolved) (pass : Passed st store r b
         (both-written st store rows r (pass .check) p h n (put-is .count) left _ _ first (w .rows))
 
 -- a push that is turned down
-pub turned-answer : (st store rows r : List ℕ) (n : ℕ) {a : Reply} → due st store r ≡ Refused n → a ≡ plain n → PushIs (pushSpec st store rows r) a st store rows
+pub turned-answer : (st store rows r : List ℕ) (n : ℕ) {a : Reply} → due st store r ≡ Refused n → a ≡ plain n
+    → PushIs (pushSpec st store rows r) a st store rows
 unfolding untouched
 turned-answer st store rows r n d e =
     let t = due-refused st store r n d in

@@ -14,7 +14,8 @@ use Rattle.floats.specs.Lists.{all}
 use Rattle.rows.specs.Row.{shapeOk, numbersOk, turnOk, rowCheck}
 use Rattle.rows.specs.Masks.{has-past}
 use Rattle.floats.specs.Truth.{by-bit, cond-t, cond-f, and-left, and-right}
-use Rattle.saved_state.specs.State.{tolOk, axisCount, axesOk, motionNow, planeNow, degree, pointAtOk, pointOk, pointWord, position, curveStart, heldOk, stateOk, storeOk, savedCheck, held, heldRowOk}
+use Rattle.saved_state.specs.State.{tolOk, axisCount, axesOk, motionNow, planeNow, degree, pointAtOk, pointOk, pointWord, position, curveStart, heldOk}
+use Rattle.saved_state.specs.State.{stateOk, storeOk, savedCheck, held, heldRowOk}
 use Rattle.push_check.specs.Blocks.{kept, motionThen, isFull, pushCheck}
 
 -- a chain of tests answers 0 only where every one passes
@@ -71,7 +72,8 @@ few-axes st h = leb-true (axisCount st) 15 (and-left (leb (axisCount st) 15) _ (
 past-point : (st : List ℕ) (w : ℕ) → pointOk st w ≡ true → (k : ℕ) → axisCodes ≤ k → pointWord st w k ≡ none
 unfolding pointOk pointWord
 past-point st w h k l =
-    let small : getD st w 0 < 2 ^ axisCodes = ltb-true (getD st w 0) (2 ^ axisCodes) (and-left (ltb (getD st w 0) (2 ^ axisCodes)) (all axisCodes (pointAtOk st w)) h) in
+    let small : getD st w 0 < 2 ^ axisCodes =
+    ltb-true (getD st w 0) (2 ^ axisCodes) (and-left (ltb (getD st w 0) (2 ^ axisCodes)) (all axisCodes (pointAtOk st w)) h) in
     cond-f _ none (has-past (getD st w 0) axisCodes k small l)
 
 pub past-place : (st : List ℕ) → stateOk st ≡ true → (k : ℕ) → axisCodes ≤ k → position st k ≡ none
@@ -138,7 +140,10 @@ pushed st store r e =
       saved = saved st store (eqb-true _ 0 a);
       row = fine r (eqb-true _ 0 b);
       space = f;
-      room = λ h. leb-false (min mostHeld (length store / rowWords)) (kept st r) (sym (ap (λ (t : Bool). t && leb (min mostHeld (length store / rowWords)) (kept st r)) h) ∙ f);
+      room =
+          λ h.
+          leb-false (min mostHeld (length store / rowWords)) (kept st r)
+          (sym (ap (λ (t : Bool). t && leb (min mostHeld (length store / rowWords)) (kept st r)) h) ∙ f);
     })
     (λ b. absurd (eqb-false _ 0 b (sym (cond-t _ _ a ∙ cond-f _ _ b) ∙ e))))
     (λ a. absurd (eqb-false _ 0 a (sym (cond-f _ _ a) ∙ e)))

@@ -31,7 +31,8 @@ not-seven-saved : (st store : List ℕ) → savedCheck st store ≡ 7 → ⊥
 unfolding savedCheck
 not-seven-saved st store =
     cond-both (λ (n : ℕ). n ≡ 7 → ⊥) (stateOk st)
-    (cond-both (λ (n : ℕ). n ≡ 7 → ⊥) (storeOk st store) (cond-both (λ (n : ℕ). n ≡ 7 → ⊥) (all (held st) (heldRowOk st store)) (λ e. omega arith) (λ e. omega arith)) (λ e. omega arith))
+    (cond-both (λ (n : ℕ). n ≡ 7 → ⊥) (storeOk st store)
+    (cond-both (λ (n : ℕ). n ≡ 7 → ⊥) (all (held st) (heldRowOk st store)) (λ e. omega arith) (λ e. omega arith)) (λ e. omega arith))
     (λ e. omega arith)
 
 not-seven-row : (r : List ℕ) → rowCheck r ≡ 7 → ⊥
@@ -45,7 +46,8 @@ not-seven : (st store r : List ℕ) → pushCheck st store r ≡ 7 → ⊥
 unfolding pushCheck
 not-seven st store r =
     cond-both (λ (n : ℕ). n ≡ 7 → ⊥) (eqb (savedCheck st store) 0)
-    (cond-both (λ (n : ℕ). n ≡ 7 → ⊥) (eqb (rowCheck r) 0) (cond-both (λ (n : ℕ). n ≡ 7 → ⊥) (isFull st store r) (λ e. omega arith) (λ e. omega arith)) (not-seven-row r))
+    (cond-both (λ (n : ℕ). n ≡ 7 → ⊥) (eqb (rowCheck r) 0) (cond-both (λ (n : ℕ). n ≡ 7 → ⊥) (isFull st store r) (λ e. omega arith) (λ e. omega arith))
+    (not-seven-row r))
     (not-seven-saved st store)
 
 -- ---- how a push answers, and then a close: done, too few places, or refused by a check
@@ -111,7 +113,8 @@ module _ (st store r : List ℕ) where
   push-seven rows (turned d) z = absurd (not-seven st store r (sym (ap (λ (a : After). a .reply .code) (push-turned rows d)) ∙ z))
 
   -- "the reply has the needed count"
-  pub push-count : (rows : List ℕ) → pushSpec st store rows r .reply .code ≡ 7 → (pushCheck st store r ≡ 0) × (pushSpec st store rows r .reply .count ≡ length (pushRows st store r))
+  pub push-count : (rows : List ℕ) → pushSpec st store rows r .reply .code ≡ 7
+      → (pushCheck st store r ≡ 0) × (pushSpec st store rows r .reply .count ≡ length (pushRows st store r))
   push-count rows = push-seven rows (outcome _ _ _)
 
   -- "it is the rows the same call writes given room"
@@ -155,7 +158,8 @@ module _ (st store : List ℕ) where
   close-seven rows (few e f) z = (e, ap (λ (a : After). a .reply .count) (close-few rows e f))
   close-seven rows (turned d) z = absurd (not-seven-saved st store (sym (ap (λ (a : After). a .reply .code) (close-turned rows d)) ∙ z))
 
-  pub close-count : (rows : List ℕ) → closeSpec st store rows .reply .code ≡ 7 → (savedCheck st store ≡ 0) × (closeSpec st store rows .reply .count ≡ length (closeRows st store))
+  pub close-count : (rows : List ℕ) → closeSpec st store rows .reply .code ≡ 7
+      → (savedCheck st store ≡ 0) × (closeSpec st store rows .reply .count ≡ length (closeRows st store))
   close-count rows = close-seven rows (outcome _ _ _)
 
   pub close-needs : (rows : List ℕ) → closeSpec st store rows .reply .code ≡ 7 → (lent : List ℕ) → closeSpec st store rows .reply .count ≤ places lent

@@ -17,7 +17,8 @@ use Rattle.motion.specs.declared.Kind.the-variants.{Same, Linear, Clockwise, Co
 use Rattle.rows.specs.Codes.{planeU, planeV}
 use Rattle.rows.specs.Row.{cell, lineOf, markOf, madeRow}
 use Rattle.floats.specs.Truth.{by-bit, cond-t, cond-f}
-use Rattle.arc_rows.specs.Arc.{Answer, passed, silent, Centre, centred, warned, Ends, Arc, wantedOf, countOf, lastCell, midCell, arcRow, arcRows, fromCentre, fromStart, arcAnswer}
+use Rattle.arc_rows.specs.Arc.{Answer, passed, silent, Centre, centred, warned, Ends, Arc, wantedOf, countOf, lastCell, midCell, arcRow, arcRows, fromCentre}
+use Rattle.arc_rows.specs.Arc.{fromStart, arcAnswer}
 use Rattle.push_rows.specs.Answer.{answerAs}
 use Rattle.demands.specs.Demands.{Bare, Carries}
 use Rattle.demands.specs.Laws.{none-some, cond-both}
@@ -42,7 +43,8 @@ module _ (gs r : List ℕ) (fine : Fine r) (small : (k : ℕ) → member k gs �
     mid-off f k b = cond-f _ _ (not-plane k (planeU plane) onU b) ∙ cond-f _ _ (not-plane k (planeV plane) onV b) ∙ cond-f _ none b
 
     -- the end of a plane axis: the programmed number
-    plane-end : (k v w : ℕ) (x : Float) (start : ℕ) → x ≡ num (Option·getD (cell r k) start) → member k gs ≡ true → cell r k ≡ some v → some (bits x) ≡ some w → eq (num w) (num v) ≡ true
+    plane-end : (k v w : ℕ) (x : Float) (start : ℕ) → x ≡ num (Option·getD (cell r k) start) → member k gs ≡ true → cell r k ≡ some v → some (bits x) ≡ some w
+        → eq (num w) (num v) ≡ true
     plane-end k v w x start ex m pv cw =
         let y : x ≡ num v = ex ∙ ap (λ (o : Option ℕ). num (Option·getD o start)) pv in
         let z : w ≡ bits (num v) = sym (let q : bits x ≡ w = cc in q) ∙ ap bits y in
@@ -81,8 +83,13 @@ module _ (gs r : List ℕ) (fine : Fine r) (small : (k : ℕ) → member k gs �
       row-bare i p =
           let f : eqb (i + 1) 1 ≡ false = ne-eqb (i + 1) 1 (λ q. omega arith) in
           by-bit (eqb (i + 1) n)
-          (λ a. subst (λ (l : List ℕ). Bare gs l) (sym (row-last i (eqb-true _ _ a) ∙ ap (λ (b : Bool). madeRow gs r b gOne false (lastCell gs plane e r)) f)) (made-bare gs r gOne false _ last-off))
-          (λ a. subst (λ (l : List ℕ). Bare gs l) (sym (row-mid i (eqb-false _ _ a) ∙ ap (λ (b : Bool). madeRow gs r b gOne true (midCell gs plane pos r c (ofNat (i + 1) ⊘ ofNat n))) f)) (made-bare gs r gOne true _ (mid-off _)))
+          (λ a.
+          subst (λ (l : List ℕ). Bare gs l) (sym (row-last i (eqb-true _ _ a) ∙ ap (λ (b : Bool). madeRow gs r b gOne false (lastCell gs plane e r)) f))
+          (made-bare gs r gOne false _ last-off))
+          (λ a.
+          subst (λ (l : List ℕ). Bare gs l)
+          (sym (row-mid i (eqb-false _ _ a) ∙ ap (λ (b : Bool). madeRow gs r b gOne true (midCell gs plane pos r c (ofNat (i + 1) ⊘ ofNat n))) f))
+          (made-bare gs r gOne true _ (mid-off _)))
 
       first-carries : Carries gs r (row 0)
       first-carries =
@@ -97,7 +104,8 @@ module _ (gs r : List ℕ) (fine : Fine r) (small : (k : ℕ) → member k gs �
       rows-shaped p = upto-shaped row n p (λ i h. row-line i) first-carries (λ i q h. row-bare i q) row-marked
           (λ u a k v w h pv cw.
           let z : n - 1 + 1 ≡ n = omega arith in
-          made-shows gs r fine _ gOne false (lastCell gs plane e r) last-off last-ends k v w h pv (ap (λ (l : List ℕ). cell l k) (sym (row-last (n - 1) z)) ∙ cw))
+          made-shows gs r fine _ gOne false (lastCell gs plane e r) last-off last-ends k v w h pv
+          (ap (λ (l : List ℕ). cell l k) (sym (row-last (n - 1) z)) ∙ cw))
 
     some-rows : (wanted : ℕ) → 0 < countOf wanted
     unfolding countOf
@@ -137,7 +145,8 @@ module _ (gs r : List ℕ) (fine : Fine r) (small : (k : ℕ) → member k gs �
         (pass-shaped 0)
         (start-shaped (pos (planeU plane)) (pos (planeV plane)) refl refl)
 
-kind-shaped : (gs r : List ℕ) → Fine r → ((k : ℕ) → member k gs ≡ true → k < axisCodes) → (plane : ℕ) (pos : ℕ → Option ℕ) → ((k : ℕ) → member k gs ≡ false → pos k ≡ none)
+kind-shaped : (gs r : List ℕ) → Fine r → ((k : ℕ) → member k gs ≡ true → k < axisCodes) → (plane : ℕ) (pos : ℕ → Option ℕ)
+    → ((k : ℕ) → member k gs ≡ false → pos k ≡ none)
     → (tol : Float) (m : Kind) → splineKind m ≡ false → {asks : Type 0} → Shaped gs r asks (answerAs m tol gs plane pos r .rows)
 unfolding answerAs
 kind-shaped gs r fine small plane pos off tol Same f = pass-shaped gs r fine small plane pos 0
@@ -151,7 +160,8 @@ kind-shaped gs r fine small plane pos off tol Other f = pass-shaped gs r fine sm
 kind-shaped gs r fine small plane pos off tol Refused f = pass-shaped gs r fine small plane pos 0
 
 -- the group of a block of no spline
-pub own-shaped : (gs r : List ℕ) → Fine r → ((k : ℕ) → member k gs ≡ true → k < axisCodes) → (plane : ℕ) (pos : ℕ → Option ℕ) → ((k : ℕ) → member k gs ≡ false → pos k ≡ none)
+pub own-shaped : (gs r : List ℕ) → Fine r → ((k : ℕ) → member k gs ≡ true → k < axisCodes) → (plane : ℕ) (pos : ℕ → Option ℕ)
+    → ((k : ℕ) → member k gs ≡ false → pos k ≡ none)
     → (tol : Float) (m : ℕ) → isSpline m ≡ false → {asks : Type 0} → Shaped gs r asks (answerAs (kindOf m) tol gs plane pos r .rows)
 unfolding isSpline
 own-shaped gs r fine small plane pos off tol m f = kind-shaped gs r fine small plane pos off tol (kindOf m) f

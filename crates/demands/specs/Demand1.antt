@@ -41,7 +41,8 @@ saved-nine : (st store : List ℕ) → savedCheck st store ≤ 9
 unfolding savedCheck
 saved-nine st store =
     cond-both (λ (n : ℕ). n ≤ 9) (stateOk st)
-    (cond-both (λ (n : ℕ). n ≤ 9) (storeOk st store) (cond-both (λ (n : ℕ). n ≤ 9) (all (held st) (heldRowOk st store)) (omega arith) (omega arith)) (omega arith))
+    (cond-both (λ (n : ℕ). n ≤ 9) (storeOk st store) (cond-both (λ (n : ℕ). n ≤ 9) (all (held st) (heldRowOk st store)) (omega arith) (omega arith))
+    (omega arith))
     (omega arith)
 
 row-nine : (r : List ℕ) → rowCheck r ≤ 9
@@ -103,7 +104,11 @@ push-done st store rows r e f =
     record {
       turned = done-turned _ refl;
       same = λ d. absurd (d refl);
-      long = (pushState-length st r (p .saved .words) ∙ sym (p .saved .words), pushStore-length st store r p, spliced-rows (pushRows st store r) rows (pushRows-long st store r) f);
+      long = (
+        pushState-length st r (p .saved .words) ∙ sym (p .saved .words),
+        pushStore-length st store r p,
+        spliced-rows (pushRows st store r) rows (pushRows-long st store r) f,
+      );
     }
 
 push-safe : (st store rows r : List ℕ) → Safe (pushSpec st store rows r) st store rows

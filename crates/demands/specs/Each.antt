@@ -19,7 +19,8 @@ use Rattle.floats.specs.Truth.{by-bit, and-left, cond-t, cond-f}
 use Rattle.rows.specs.RowLaws.{out-line, out-plane, out-carry, out-cell, out-point, out-check, check-cell-within, shape-present}
 use Rattle.spline_emission.specs.Emission.{Spline, splineGroups, heldGroup, runsOf, weightOf}
 use Rattle.demands.specs.Laws.{some-same, none-some, cond-both, Every, nil, more, every-append}
-use Rattle.demands.specs.Groups.{Event, block, Standing, atFirst, movedByBlock, movedBySeed, motionWith, goesOn, withBlock, withSeed, withClose, together, splineWith, Piece, pieceOf, piecesFrom}
+use Rattle.demands.specs.Groups.{Event, block, Standing, atFirst, movedByBlock, movedBySeed, motionWith, goesOn, withBlock, withSeed, withClose}
+use Rattle.demands.specs.Groups.{together, splineWith, Piece, pieceOf, piecesFrom}
 use Rattle.demands.specs.Demands.{Group}
 use Rattle.demands.specs.Accepted.{Fine, fine, fine-check}
 use Rattle.demands.specs.Stands.{map-append}
@@ -85,18 +86,28 @@ unfolding keep anyOf
 no-points gs [] nil e = refl
 no-points gs (r ∷ rs) (more f fs) e = by-point (hasPoint gs r) refl (no-points gs rs fs)
   where
-    by-point : (b : Bool) → hasPoint gs r ≡ b → (length (keep (hasPoint gs) (map outRow rs)) ≡ 0 → anyOf (hasPoint gs) rs ≡ false) → (hasPoint gs r || anyOf (hasPoint gs) rs) ≡ false
+    by-point : (b : Bool) → hasPoint gs r ≡ b → (length (keep (hasPoint gs) (map outRow rs)) ≡ 0 → anyOf (hasPoint gs) rs ≡ false)
+        → (hasPoint gs r || anyOf (hasPoint gs) rs) ≡ false
     by-point true y rest =
-        let z : suc (length (keep (hasPoint gs) (map outRow rs))) ≡ 0 = sym (ap length (cond-t (outRow r ∷ keep (hasPoint gs) (map outRow rs)) (keep (hasPoint gs) (map outRow rs)) (out-point gs r (shape-present r (f .shape)) ∙ y))) ∙ e in
+        let z : suc (length (keep (hasPoint gs) (map outRow rs))) ≡ 0 =
+        sym
+        (ap length
+        (cond-t (outRow r ∷ keep (hasPoint gs) (map outRow rs)) (keep (hasPoint gs) (map outRow rs)) (out-point gs r (shape-present r (f .shape)) ∙ y)))
+        ∙ e in
         absurd (omega arith)
     by-point false y rest =
         ap (λ (b : Bool). b || anyOf (hasPoint gs) rs) y
-        ∙ rest (sym (ap length (cond-f (outRow r ∷ keep (hasPoint gs) (map outRow rs)) (keep (hasPoint gs) (map outRow rs)) (out-point gs r (shape-present r (f .shape)) ∙ y))) ∙ e)
+        ∙ rest
+        (sym
+        (ap length
+        (cond-f (outRow r ∷ keep (hasPoint gs) (map outRow rs)) (keep (hasPoint gs) (map outRow rs)) (out-point gs r (shape-present r (f .shape)) ∙ y)))
+        ∙ e)
 
 -- ---- one piece
 module _ (tol : ℕ) (gs : List ℕ) (small : (k : ℕ) → member k gs ≡ true → k < axisCodes) where
   shaped-group : (p : Piece) → Shaped gs (p .block) (p .last ≡ true → eq (weightOf (p .block)) f1 ≡ true) (p .rows) → Group gs p
-  shaped-group p h = record { filled = h .filled; lines = h .lines; carries = h .carries; bare = h .bare; marked = h .marked; ends = λ u a. record { equal = h .ends u a } }
+  shaped-group p h =
+      record { filled = h .filled; lines = h .lines; carries = h .carries; bare = h .bare; marked = h .marked; ends = λ u a. record { equal = h .ends u a } }
 
   -- the shape of the row that came, by that of the row that the store holds
   came-shaped : (r : List ℕ) {asks : Type 0} {g : List (List ℕ)} → Shaped gs (outRow r) asks g → Shaped gs r asks g
@@ -116,7 +127,8 @@ module _ (tol : ℕ) (gs : List ℕ) (small : (k : ℕ) → member k gs ≡ true
   module _ (s : Standing) (r : List ℕ) (es : List Event) (q : Keeps gs s) (f : Fine r) where
     own-group : isSpline (withBlock gs s r .motion) ≡ false → Group gs (pieceOf tol gs s r es)
     unfolding pieceOf
-    own-group n = shaped-group _ (subst (Shaped gs r _) (sym (cond-f _ _ n)) (own-shaped gs r f small _ (s .place) (q .off) (num tol) (withBlock gs s r .motion) n))
+    own-group n =
+        shaped-group _ (subst (Shaped gs r _) (sym (cond-f _ _ n)) (own-shaped gs r f small _ (s .place) (q .off) (num tol) (withBlock gs s r .motion) n))
 
     -- a block of a spline, with the blocks of it that come after
     module _ (y : isSpline (withBlock gs s r .motion) ≡ true) (rest : Every Fine (together (withBlock gs s r .motion) es))
@@ -174,7 +186,9 @@ module _ (tol : ℕ) (gs : List ℕ) (small : (k : ℕ) → member k gs ≡ true
       spline-group =
           shaped-group _
           (subst (Shaped gs r _) (sym (cond-t _ _ y ∙ group-is))
-          (came-shaped r (held-shaped whole (map outRow (goesOn s r)) (outRow r) (map outRow later) blocks-are all-fine (keeps-block gs small s r f q .start) small few-blocks weight)))
+          (came-shaped r
+          (held-shaped whole (map outRow (goesOn s r)) (outRow r) (map outRow later) blocks-are all-fine (keeps-block gs small s r f q .start) small few-blocks
+          weight)))
 
   -- every piece
   pub each-group : {s : Standing} {es : List Event} → Keeps gs s → Sound gs s es → Every (Group gs) (piecesFrom tol gs s es)

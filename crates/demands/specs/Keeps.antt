@@ -21,13 +21,16 @@ use Rattle.rows.specs.Row.{has, within, number, motionOf, planeOf, presentOf, r
 use Rattle.rows.specs.RowLaws.{check-motion, check-plane, check-shape, check-within, out-check, out-motion, length-out}
 use Rattle.floats.specs.Truth.{or-t, or-f, and-i, and-left, and-right, cond-t, cond-f, all-at, all-more, all-intro, by-bit}
 use Rattle.rows.specs.Masks.{has-none}
-use Rattle.saved_state.specs.State.{axisCount, motionNow, planeNow, degree, held, geometric, tolOk, codesOk, axesOk, pointAtOk, pointOk, heldOk, stateOk, storeOk, heldRow, heldRowOk, savedCheck, pointWord, position, withBit, placed}
+use Rattle.saved_state.specs.State.{axisCount, motionNow, planeNow, degree, held, geometric, tolOk, codesOk, axesOk, pointAtOk, pointOk, heldOk, stateOk}
+use Rattle.saved_state.specs.State.{storeOk, heldRow, heldRowOk, savedCheck, pointWord, position, withBit, placed}
 use Rattle.saved_state.specs.StateLaws.{Good, good, good-ok, good-few, axes-few, point-small, geometric-small, with-other, with-lt}
 use Rattle.call_start.specs.Seed.{seeded}
 use Rattle.push_check.specs.Blocks.{orNow, motionThen, planeThen, emits, kept, isFull, news}
 use Rattle.push_state.specs.Pushed.{forgotten, opened, degreeWith, buffered, pushState, pushStore, trackTo}
 use Rattle.call_close.specs.Close.{closeState}
-use Rattle.push_state.specs.PushLaws.{SameAxes, same-trans, same-set, same-placed, same-to, same-forgotten, same-opened, same-codes, same-geometric, placed-keeps, to-keeps, forgotten-keeps, held-forgotten, below-spliced, in-spliced, past-spliced, startWords, length-startWords, noWords, none-at}
+use Rattle.push_state.specs.PushLaws.{SameAxes, same-trans, same-set, same-placed, same-to, same-forgotten, same-opened, same-codes, same-geometric}
+use Rattle.push_state.specs.PushLaws.{placed-keeps, to-keeps, forgotten-keeps, held-forgotten, below-spliced, in-spliced, past-spliced, startWords}
+use Rattle.push_state.specs.PushLaws.{length-startWords, noWords, none-at}
 use Rattle.push_check.specs.BlockLaws.{full-room}
 use Rattle.saved_state.specs.Checked.{saved-ok, saved-rows}
 
@@ -150,7 +153,8 @@ module _ (st : List ℕ) (k x : ℕ) (g : Good st) (on : member k (geometric st)
   placed-point : pointOk (placed st k x) wKnown ≡ true
   unfolding pointOk
   placed-point =
-      and-i (lt-ltb _ _ (subst (λ (n : ℕ). n < 2 ^ axisCodes) (sym placed-mask) (with-lt (getD st wKnown 0) k axisCodes (point-small st wKnown (g .known)) small)))
+      and-i
+      (lt-ltb _ _ (subst (λ (n : ℕ). n < 2 ^ axisCodes) (sym placed-mask) (with-lt (getD st wKnown 0) k axisCodes (point-small st wKnown (g .known)) small)))
       (all-intro axisCodes (pointAtOk (placed st k x) wKnown) placed-at)
 
   pub good-placed : Good (placed st k x)
@@ -234,7 +238,9 @@ good-to (suc n) st r g p h =
     let gs : geometric (trackTo n st r) ≡ geometric st = same-geometric st (trackTo n st r) (same-to n st r) (axes-few st (g .axes)) (g .long) in
     by-bit (has (presentOf r) n)
     (λ a. by-bit (member n (geometric st))
-    (λ b. rw (a, b) (good-placed (trackTo n st r) n (getD r (rCells + n) 0) (good-to n st r g p (omega arith)) (ap (member n) gs ∙ b) (check-within r p n (omega arith) a)))
+    (λ b.
+    rw (a, b)
+    (good-placed (trackTo n st r) n (getD r (rCells + n) 0) (good-to n st r g p (omega arith)) (ap (member n) gs ∙ b) (check-within r p n (omega arith) a)))
     (λ b. rw (a, b) (good-to n st r g p (omega arith))))
     (λ a. rw a (good-to n st r g p (omega arith)))
 
@@ -245,7 +251,8 @@ pub record Four (st : List ℕ) : Type 0 where
   pub power : (leb 1 (degree st) && leb (degree st) mostDegree) ≡ true
   pub count : heldOk st ≡ true
 
-good-set : (st : List ℕ) (i v : ℕ) → Good st → wMotion ≤ i → ((j : ℕ) → j < axisCodes + 1 → wKnown + j ≡ i → ⊥) → ((j : ℕ) → j < axisCodes + 1 → wStart + j ≡ i → ⊥)
+good-set : (st : List ℕ) (i v : ℕ) → Good st → wMotion ≤ i → ((j : ℕ) → j < axisCodes + 1 → wKnown + j ≡ i → ⊥)
+    → ((j : ℕ) → j < axisCodes + 1 → wStart + j ≡ i → ⊥)
     → Four (set st i v) → Good (set st i v)
 good-set st i v g h a b f =
     good-from st (set st i v) g (same-set st i v h)
@@ -366,7 +373,8 @@ module _ (st r : List ℕ) (g : Good st) (curve : isSpline (motionNow st) ≡ tr
   pub good-buffered : Good (buffered st r)
   unfolding heldOk
   good-buffered =
-      let w : (j : ℕ) → (j ≡ wHeld → ⊥) → getD (set powered wHeld (held st + 1)) j 0 ≡ getD powered j 0 = λ j d. getD-set-other powered wHeld j (held st + 1) 0 d in
+      let w : (j : ℕ) → (j ≡ wHeld → ⊥) → getD (set powered wHeld (held st + 1)) j 0 ≡ getD powered j 0 =
+      λ j d. getD-set-other powered wHeld j (held st + 1) 0 d in
       let m : motionNow (set powered wHeld (held st + 1)) ≡ motionNow st = ap motionNow (sym buffered-is) ∙ buffered-motion in
       let c : held (set powered wHeld (held st + 1)) ≡ held st + 1 = ap held (sym buffered-is) ∙ buffered-held in
       subst Good (sym buffered-is)
@@ -377,7 +385,8 @@ module _ (st r : List ℕ) (g : Good st) (curve : isSpline (motionNow st) ≡ tr
         power = word-power powered (set powered wHeld (held st + 1)) (w wDegree (λ e. omega arith)) good-powered;
         count =
             and-i (ap (λ (n : ℕ). leb n mostHeld) c ∙ le-leb (held st + 1) mostHeld (omega arith))
-            (ap (λ (b : Bool). eqb (held (set powered wHeld (held st + 1))) 0 || b) (ap isSpline m ∙ curve) ∙ or-true (eqb (held (set powered wHeld (held st + 1))) 0));
+            (ap (λ (b : Bool). eqb (held (set powered wHeld (held st + 1))) 0 || b) (ap isSpline m ∙ curve)
+            ∙ or-true (eqb (held (set powered wHeld (held st + 1))) 0));
       }))
 
 -- ---- a whole block
@@ -589,7 +598,8 @@ module _ (st store r : List ℕ) (saved : savedCheck st store ≡ 0) (pass : row
   old-row now m i l =
       let some-kept : kept st r ≡ 0 → ⊥ = λ e. omega arith in
       let i-held : i < held st = by-bit (emits st r) (λ b. let z : i < 0 = rw b at l in absurd (omega arith)) (λ b. rw b at l) in
-      ap₂ (λ (w : List ℕ) (k : ℕ). eqb (rowCheck w) 0 && (eqb (motionOf w) 0 || eqb (motionOf w) k)) (held-old store r (kept st r) fit i l) (m ∙ kept-motion st r some-kept)
+      ap₂ (λ (w : List ℕ) (k : ℕ). eqb (rowCheck w) 0 && (eqb (motionOf w) 0 || eqb (motionOf w) k)) (held-old store r (kept st r) fit i l)
+      (m ∙ kept-motion st r some-kept)
       ∙ all-at (held st) (heldRowOk st store) i (saved-rows st store saved) i-held
 
   -- the new one
@@ -625,6 +635,8 @@ push-saved st store r saved pass space =
     curve-saved st store r saved pass (room .1) c (room .0))
     (λ c.
     let q : isSpline (motionThen st r) ≡ true → kept st r < mostHeld = λ z. absurd (false≢true (sym c ∙ z)) in
-    let none-kept : kept st r ≡ 0 = by-bit (eqb (kept st r) 0) (λ b. eqb-true (kept st r) 0 b) (λ b. absurd (false≢true (sym c ∙ kept-curve st r (good st (saved-ok st store saved)) (eqb-false (kept st r) 0 b)))) in
+    let none-kept : kept st r ≡ 0 =
+    by-bit (eqb (kept st r) 0) (λ b. eqb-true (kept st r) 0 b)
+    (λ b. absurd (false≢true (sym c ∙ kept-curve st r (good st (saved-ok st store saved)) (eqb-false (kept st r) 0 b)))) in
     nothing-saved (pushState st r) (pushStore st store r) (push-ok st r (saved-ok st store saved) pass q)
     (push-held st r (saved-ok st store saved) pass q ∙ cond-f (kept st r + 1) (kept st r) c ∙ none-kept))

@@ -81,7 +81,8 @@ module _ (st r : List ℕ) (e : length st ≡ stateWords) where
 
   pub worded-length : length (worded st r) ≡ stateWords
   unfolding worded
-  worded-length = length-set (set (emptied st r) wMotion (motionThen st r)) wPlane (planeThen st r) ∙ length-set (emptied st r) wMotion (motionThen st r) ∙ emptied-length
+  worded-length =
+      length-set (set (emptied st r) wMotion (motionThen st r)) wPlane (planeThen st r) ∙ length-set (emptied st r) wMotion (motionThen st r) ∙ emptied-length
 
   pub laid-length : length (laid st r) ≡ stateWords
   unfolding laid
@@ -89,7 +90,9 @@ module _ (st r : List ℕ) (e : length st ≡ stateWords) where
 
   pub told-length : length (told st r) ≡ stateWords
   unfolding told
-  told-length = cond-both (λ (s : List ℕ). length s ≡ stateWords) (news st r) (length-set (laid st r) wWarned (withBit (getD (laid st r) wWarned 0) (motionOf r)) ∙ laid-length) laid-length
+  told-length =
+      cond-both (λ (s : List ℕ). length s ≡ stateWords) (news st r)
+      (length-set (laid st r) wWarned (withBit (getD (laid st r) wWarned 0) (motionOf r)) ∙ laid-length) laid-length
 
   pub pushState-length : length (pushState st r) ≡ stateWords
   pushState-length = ap length (pushState-steps st r) ∙ track-length axisCodes (told st r) r ∙ told-length

@@ -41,7 +41,8 @@ unfolding seedSpec
 seed-done st code x s c w = cond-t _ _ s ∙ cond-t _ _ c ∙ cond-t _ _ w
 
 -- ---- the row places: the rows, then what stood there
-drop-written : (rows : List ℕ) (out : List (List ℕ)) → Every Long out → drop (length out * rowWords) (spliced rows 0 (flatten out)) ≡ drop (length out * rowWords) rows
+drop-written : (rows : List ℕ) (out : List (List ℕ)) → Every Long out
+    → drop (length out * rowWords) (spliced rows 0 (flatten out)) ≡ drop (length out * rowWords) rows
 unfolding spliced
 drop-written rows out l =
     let n : length (flatten out) ≡ length out * rowWords = length-flatten rowWords out (every-imp (λ x q. q .words) l) in

@@ -30,7 +30,9 @@ pub record Long (row : List ℕ) : Type 0 where
 
 rowOf-long : (line motion plane mark carry : ℕ) (f : ℕ → Option ℕ) → Long (rowOf line motion plane mark carry (upto f cells))
 unfolding rowOf
-rowOf-long line motion plane mark carry f = let e : length (map (λ (c : Option ℕ). Option·getD c 0) (upto f cells)) ≡ cells = length-map (upto f cells) _ ∙ length-upto f cells in record { words = omega arith }
+rowOf-long line motion plane mark carry f =
+    let e : length (map (λ (c : Option ℕ). Option·getD c 0) (upto f cells)) ≡ cells = length-map (upto f cells) _
+    ∙ length-upto f cells in record { words = omega arith }
 
 pub outRow-long : (r : List ℕ) → Long (outRow r)
 unfolding outRow
@@ -81,7 +83,8 @@ own-long Refused tol gs plane pos r = passed-long 0 r
 -- ---- the rows of a spline
 point-long : (s : Spline) (cs : List ℕ) (n j : ℕ) (run : List (List Float)) (r : List ℕ) → Every Long (pointGroup s cs n j run r)
 unfolding pointGroup
-point-long s cs n j run r = cond-both (Every Long) (eqb (length run) 0) (more (madeRow-long (s .axes) r _ _ _ _) nil) (every-upto _ _ (λ i l. madeRow-long (s .axes) r _ _ _ _))
+point-long s cs n j run r =
+    cond-both (Every Long) (eqb (length run) 0) (more (madeRow-long (s .axes) r _ _ _ _) nil) (every-upto _ _ (λ i l. madeRow-long (s .axes) r _ _ _ _))
 
 held-long : (s : Spline) (runs : List (List (List Float))) (i : ℕ) → Every Long (heldGroup s runs i)
 unfolding heldGroup
@@ -106,7 +109,8 @@ unfolding closeRows
 closeRows-long st store = cond-both (Every Long) (eqb (held st) 0) nil (emission-long st store)
 
 -- ---- a block of a spline has no row of its own
-pub spline-as : (k : Kind) → splineKind k ≡ true → (tol : Float) (gs : List ℕ) (plane : ℕ) (pos : ℕ → Option ℕ) (r : List ℕ) → answerAs k tol gs plane pos r .rows ≡ []
+pub spline-as : (k : Kind) → splineKind k ≡ true → (tol : Float) (gs : List ℕ) (plane : ℕ) (pos : ℕ → Option ℕ) (r : List ℕ)
+    → answerAs k tol gs plane pos r .rows ≡ []
 unfolding answerAs
 spline-as Same y tol gs plane pos r = absurd (false≢true y)
 spline-as Linear y tol gs plane pos r = absurd (false≢true y)

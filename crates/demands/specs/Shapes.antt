@@ -85,7 +85,8 @@ module _ (gs r : List ℕ) (first : Bool) (motion : ℕ) (marked : Bool) (f : �
   unfolding cell
   made-past k l =
       let e : presentOf (madeRow gs r first motion marked f) ≡ maskSum (λ (k : ℕ). isSome (madeCell gs r first f k)) cells =
-      ap presentOf (made-is gs r first motion marked f) ∙ row-present (lineOf r) (cond first motion 0) (cond first (planeOf r) 0) (cond marked 1 0) (cond first (carryOf r) 0) (madeCell gs r first f) cells in
+      ap presentOf (made-is gs r first motion marked f)
+      ∙ row-present (lineOf r) (cond first motion 0) (cond first (planeOf r) 0) (cond marked 1 0) (cond first (carryOf r) 0) (madeCell gs r first f) cells in
       cond-f _ none (ap (λ (p : ℕ). has p k) e ∙ has-past (maskSum (λ (k : ℕ). isSome (madeCell gs r first f k)) cells) cells k (mask-lt _ cells) l)
 
   -- a listed axis shows its own number
@@ -97,7 +98,8 @@ module _ (gs r : List ℕ) (first : Bool) (motion : ℕ) (marked : Bool) (f : �
       (λ a. rw (a, m) (by-bit (leb k lastCode) (λ b. rw b) (λ b. rw b)))
       (λ a. rw a)
 
-pub made-bare : (gs r : List ℕ) (motion : ℕ) (marked : Bool) (f : ℕ → Option ℕ) → ((k : ℕ) → member k gs ≡ false → f k ≡ none) → Bare gs (madeRow gs r false motion marked f)
+pub made-bare : (gs r : List ℕ) (motion : ℕ) (marked : Bool) (f : ℕ → Option ℕ) → ((k : ℕ) → member k gs ≡ false → f k ≡ none)
+    → Bare gs (madeRow gs r false motion marked f)
 unfolding madeRow rowOf madeCell
 made-bare gs r motion marked f off = record {
   motion = refl;

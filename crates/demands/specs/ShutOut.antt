@@ -47,11 +47,17 @@ pushedNext = pushSpec (pushedLine 1 .state) (pushedLine 1 .store) room (line 2)
 -- each of them is accepted, and writes itself
 computed : (pushedLine 1 .reply .code ∷ []) ∷ pushedLine 1 .rows ∷ pushedLine 2 .rows ∷ pushedNext .rows ∷ (pushedLine 2 .reply .code ∷ []) ∷ []
     ≡ (0 ∷ []) ∷ line 1 ∷ line 2 ∷ line 2 ∷ (0 ∷ []) ∷ []
-unfolding fresh Start.freshWord Lists.upto Lists.keep Lists.member Lists.flatten Lists.spliced Motion.kindOf Motion.isSpline Motion.isOther Motion.isBasis Motion.isCubic Codes.planeOk Codes.geometricOf Row.has Lists.all Row.cell Row.maskOf Row.rowOf Row.outRow Row.shapeOk Row.within Row.cellOk Row.numbersOk Row.above1000 Row.turnOk Row.rowCheck passed State.geometric State.pointWord State.tolOk State.codeOk State.codesOk State.axesOk State.pointAtOk State.pointOk State.heldOk State.stateOk State.storeOk State.heldRows State.heldRowOk State.savedCheck State.withBit State.placed Blocks.orNow Blocks.emits Blocks.kept Own.answerAs Own.ownAnswer Blocks.news Pushed.trackTo Pushed.pushState Pushed.pushStore Push.pushRows Blocks.isFull Blocks.pushCheck Push.pushDone Push.pushSpec
+unfolding fresh Start.freshWord Lists.upto Lists.keep Lists.member Lists.flatten Lists.spliced Motion.kindOf Motion.isSpline Motion.isOther Motion.isBasis
+    Motion.isCubic Codes.planeOk Codes.geometricOf Row.has Lists.all Row.cell Row.maskOf Row.rowOf Row.outRow Row.shapeOk Row.within Row.cellOk
+    Row.numbersOk Row.above1000 Row.turnOk Row.rowCheck passed State.geometric State.pointWord State.tolOk State.codeOk State.codesOk State.axesOk
+    State.pointAtOk State.pointOk State.heldOk State.stateOk State.storeOk State.heldRows State.heldRowOk State.savedCheck State.withBit State.placed
+    Blocks.orNow Blocks.emits Blocks.kept Own.answerAs Own.ownAnswer Blocks.news Pushed.trackTo Pushed.pushState Pushed.pushStore Push.pushRows
+    Blocks.isFull Blocks.pushCheck Push.pushDone Push.pushSpec
 computed = refl
 
 -- the first word of answer i
-word : (i : ℕ) → getD (getD ((pushedLine 1 .reply .code ∷ []) ∷ pushedLine 1 .rows ∷ pushedLine 2 .rows ∷ pushedNext .rows ∷ (pushedLine 2 .reply .code ∷ []) ∷ []) i []) 0 0
+word : (i : ℕ)
+    → getD (getD ((pushedLine 1 .reply .code ∷ []) ∷ pushedLine 1 .rows ∷ pushedLine 2 .rows ∷ pushedNext .rows ∷ (pushedLine 2 .reply .code ∷ []) ∷ []) i []) 0 0
     ≡ getD (getD ((0 ∷ []) ∷ line 1 ∷ line 2 ∷ line 2 ∷ (0 ∷ []) ∷ []) i []) 0 0
 word i = ap (λ (l : List (List ℕ)). getD (getD l i []) 0 0) computed
 
@@ -74,7 +80,11 @@ module _ (f : Program) (m : Meets f) where
   one-fixed-row row h =
       let e : _≡_ {A = ℕ} 1 2 =
       sym (word 1)
-      ∙ ap (λ (l : List ℕ). getD l 0 0) (sym (rowsOf begun [] room (line 1)) ∙ h begun [] room (line 1) (code 1 (word 0)) ∙ sym (h begun [] room (line 2) (code 2 (word 4))) ∙ rowsOf begun [] room (line 2))
+      ∙ ap (λ (l : List ℕ). getD l 0 0)
+      (sym (rowsOf begun [] room (line 1))
+      ∙ h begun [] room (line 1) (code 1 (word 0))
+      ∙ sym (h begun [] room (line 2) (code 2 (word 4)))
+      ∙ rowsOf begun [] room (line 2))
       ∙ word 2 in
       omega arith
     where

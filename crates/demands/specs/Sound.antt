@@ -88,7 +88,8 @@ unfolding run together
 few-run {st = st} {store = store} [] rows t z y = omega (arith, few-open t (saved st store (close-accepted st store rows z .0)))
 few-run {st = st} {store = store} (c ∷ cs) rows t z y =
     let w = step t c in
-    few-step t (run (answer st store c .state) (answer st store c .store) cs .events) (taken (answer st store c) c) (w .next) (w .how) (few-run cs rows (w .stands) z) y
+    few-step t (run (answer st store c .state) (answer st store c .store) cs .events) (taken (answer st store c) c) (w .next) (w .how)
+    (few-run cs rows (w .stands) z) y
 
 -- ---- the accepted events
 sound-step : {gs : List ℕ} {s : Standing} {st store : List ℕ} (es l : List Event) (n : Standing) → How gs s st store l n

@@ -31,12 +31,14 @@ use Rattle.bspline_tables.specs.BasisLaws.{runs-length}
 use Rattle.bspline_tables.specs.LastRun.{last-run}
 use Rattle.bspline_tables.specs.EndPoint.{end-point}
 use Rattle.curve_runs.specs.Runs.{curveRuns}
-use Rattle.spline_emission.specs.Emission.{Spline, isBasis, pointRows, channels, startPoint, pointsFrom, metricOf, weightOf, runsOf, placeOf, sampleCell, ownCell, isMarked, pointGroup, heldGroup}
+use Rattle.spline_emission.specs.Emission.{Spline, isBasis, pointRows, channels, startPoint, pointsFrom, metricOf, weightOf, runsOf, placeOf, sampleCell}
+use Rattle.spline_emission.specs.Emission.{ownCell, isMarked, pointGroup, heldGroup}
 use Rattle.demands.specs.Demands.{Bare}
 use Rattle.demands.specs.Laws.{some-same, none-some, Every, every-head, every-tail, every-keep}
 use Rattle.demands.specs.Accepted.{Fine}
 use Rattle.demands.specs.InRange.{in-range, tidy-eq, num-bits, shown-bits}
-use Rattle.demands.specs.Shapes.{Shaped, one-shaped, upto-shaped, made-line, made-mark, made-shows, made-bare, made-carries, out-shaped, programmed, same-number}
+use Rattle.demands.specs.Shapes.{Shaped, one-shaped, upto-shaped, made-line, made-mark, made-shows, made-bare, made-carries, out-shaped, programmed}
+use Rattle.demands.specs.Shapes.{same-number}
 use Rattle.demands.specs.SplineRuns.{fit-length, fit-ends, points-length, PointOf, point-of, place-of, Placed, point-number}
 use Rattle.demands.specs.SplinePoints.{channels-listed, Word, word-modest, word-fits, Words, start-words, all-words, all-weights}
 
@@ -95,7 +97,10 @@ module _ (sp : Spline) (B : List (List ℕ)) (r : List ℕ) (M : List (List ℕ)
   module _ (y : hasPoint (sp .axes) r ≡ true) where
     point-rows : pointRows sp ≡ X ++ (r ∷ Y)
     unfolding pointRows X Y P
-    point-rows = ap (keep (hasPoint (sp .axes))) is ∙ keep-append (hasPoint (sp .axes)) B (r ∷ M) ∙ ap (λ (l : List (List ℕ)). keep (hasPoint (sp .axes)) B ++ l) (keep-here (hasPoint (sp .axes)) r M y)
+    point-rows =
+        ap (keep (hasPoint (sp .axes))) is
+        ∙ keep-append (hasPoint (sp .axes)) B (r ∷ M)
+        ∙ ap (λ (l : List (List ℕ)). keep (hasPoint (sp .axes)) B ++ l) (keep-here (hasPoint (sp .axes)) r M y)
 
     rows-length : length (pointRows sp) ≡ length X + suc (length Y)
     rows-length = ap length point-rows ∙ length-append X (r ∷ Y)
@@ -126,8 +131,16 @@ module _ (sp : Spline) (B : List (List ℕ)) (r : List ℕ) (M : List (List ℕ)
   runs-size =
       ap length runs-is
       ∙ by-bit (isBasis sp)
-      (λ b. ap length (cond-t bas fit b) ∙ runs-length (sp .power) (metricOf (channels sp)) (sp .tol) pts ws ∙ ap (λ (n : ℕ). n - 1) pts-length ∙ less-one (length (pointRows sp)))
-      (λ b. ap length (cond-f bas fit b) ∙ fit-length (eqb (sp .motion) 7) (metricOf (channels sp)) (sp .tol) pts ∙ ap (λ (n : ℕ). n - 1) pts-length ∙ less-one (length (pointRows sp)))
+      (λ b.
+      ap length (cond-t bas fit b)
+      ∙ runs-length (sp .power) (metricOf (channels sp)) (sp .tol) pts ws
+      ∙ ap (λ (n : ℕ). n - 1) pts-length
+      ∙ less-one (length (pointRows sp)))
+      (λ b.
+      ap length (cond-f bas fit b)
+      ∙ fit-length (eqb (sp .motion) 7) (metricOf (channels sp)) (sp .tol) pts
+      ∙ ap (λ (n : ℕ). n - 1) pts-length
+      ∙ less-one (length (pointRows sp)))
     where
       less-one : (n : ℕ) → suc n - 1 ≡ n
       less-one n = omega arith
@@ -161,7 +174,8 @@ module _ (sp : Spline) (B : List (List ℕ)) (r : List ℕ) (M : List (List ℕ)
       own-point k v m e =
           let q : PointOf (channels sp) (startPoint sp (channels sp)) X r Y = point-of (channels sp) (startPoint sp (channels sp)) X r Y in
           ap (λ (i : ℕ). at (pointOf pts i) (placeOf k (channels sp))) (add-one (length X))
-          ∙ ap (λ (l : List (List ℕ)). at (getD (pointsFrom (channels sp) (startPoint sp (channels sp)) l) (length X) []) (placeOf k (channels sp))) (point-rows y)
+          ∙ ap (λ (l : List (List ℕ)). at (getD (pointsFrom (channels sp) (startPoint sp (channels sp)) l) (length X) []) (placeOf k (channels sp)))
+          (point-rows y)
           ∙ ap (λ (p : List Float). at p (placeOf k (channels sp))) (q .is)
           ∙ point-number (channels sp) (q .from) r k v m e
 
@@ -195,7 +209,8 @@ module _ (sp : Spline) (B : List (List ℕ)) (r : List ℕ) (M : List (List ℕ)
       point-words : (i : ℕ) → i < length pts → Words (length (channels sp)) (pointOf pts i)
       unfolding pts startPoint
       point-words i h =
-          all-words (channels sp) low (startPoint sp (channels sp)) (pointRows sp) (start-words (channels sp) low (sp .start) start (sp .blocks) fs) row-fine i (subst (λ (n : ℕ). i < n) pts-length h)
+          all-words (channels sp) low (startPoint sp (channels sp)) (pointRows sp) (start-words (channels sp) low (sp .start) start (sp .blocks) fs) row-fine i
+          (subst (λ (n : ℕ). i < n) pts-length h)
 
       weight-words : (i : ℕ) → i < length pts → Word (at ws i)
       unfolding ws
@@ -227,7 +242,8 @@ module _ (sp : Spline) (B : List (List ℕ)) (r : List ℕ) (M : List (List ℕ)
           (λ i h. word-modest (point-words i h c (q .low)))
           (λ i h. (word-modest (weight-words i h), word-fits (weight-words i h)))
           (word-fits (point-words (length pts - 1) (omega arith) c (q .low)))
-          (own-weight z ∙ weight-one (weightOf r) (subst (λ (x : Float). T (fits binary64 x)) (own-weight z) (word-fits (weight-words (length pts - 1) (omega arith)))) one)
+          (own-weight z
+          ∙ weight-one (weightOf r) (subst (λ (x : Float). T (fits binary64 x)) (own-weight z) (word-fits (weight-words (length pts - 1) (omega arith)))) one)
           ∙ ap tidy (ap (λ (i : ℕ). at (pointOf pts i) c) last ∙ own-point k v m e)
 
       basis-fits : isBasis sp ≡ true → length Y ≡ 0 → (k : ℕ) → member k (channels sp) ≡ true → T (fits binary64 (at end (placeOf k (channels sp))))
@@ -235,7 +251,9 @@ module _ (sp : Spline) (B : List (List ℕ)) (r : List ℕ) (M : List (List ℕ)
       basis-fits b z k m =
           let q : Placed k (channels sp) = place-of k (channels sp) m in
           subst (λ (x : Float). T (fits binary64 x))
-          (sym (ap (λ (p : List Float). at p (placeOf k (channels sp))) (basis-end b z) ∙ at-upto _ (length (pointOf pts 0)) (placeOf k (channels sp)) nan (omega (arith, q .low, start-length))))
+          (sym
+          (ap (λ (p : List Float). at p (placeOf k (channels sp))) (basis-end b z)
+          ∙ at-upto _ (length (pointOf pts 0)) (placeOf k (channels sp)) nan (omega (arith, q .low, start-length))))
           (div-fits binary64 _ _)
 
       -- ---- the group
@@ -246,7 +264,9 @@ module _ (sp : Spline) (B : List (List ℕ)) (r : List ℕ) (M : List (List ℕ)
             let low-code : k < axisCodes = small k g in
             let passes : within v ≡ true = programmed (sp .axes) r fine k v (omega arith) e in
             by-bit (isBasis sp)
-            (λ b. let t : eqb (length X + 1) (length (runsOf sp)) ≡ true = not-false _ (sym (ap (λ (z : Bool). z && not (eqb (length X + 1) (length (runsOf sp)))) b) ∙ f) in
+            (λ b.
+            let t : eqb (length X + 1) (length (runsOf sp)) ≡ true = not-false _
+            (sym (ap (λ (z : Bool). z && not (eqb (length X + 1) (length (runsOf sp)))) b) ∙ f) in
             let n : length X + 1 ≡ length (runsOf sp) = eqb-true (length X + 1) (length (runsOf sp)) t in
             let z : length Y ≡ 0 = omega (arith, runs-size, rows-length y) in
             ap (λ (x : Float). eq x (num v)) (num-bits (at end (placeOf k (channels sp))) (basis-fits b z k m))
@@ -277,20 +297,28 @@ module _ (sp : Spline) (B : List (List ℕ)) (r : List ℕ) (M : List (List ℕ)
         row-bare : (i : ℕ) → 0 < i → Bare (sp .axes) (row i)
         unfolding row
         row-bare i p =
-            subst (λ (b : Bool). Bare (sp .axes) (madeRow (sp .axes) r b word0 (isMarked sp (length (runsOf sp)) (length X) (length run) i) (sampleCell (channels sp) (getD run i []))))
+            subst
+            (λ (b : Bool).
+            Bare (sp .axes)
+            (madeRow (sp .axes) r b word0 (isMarked sp (length (runsOf sp)) (length X) (length run) i) (sampleCell (channels sp) (getD run i []))))
             (sym (ne-eqb i 0 (λ z. omega arith))) (made-bare (sp .axes) r word0 _ _ (off (getD run i [])))
 
         row-marked : (i : ℕ) → i + 1 < length run → markOf (row i) ≡ 1
         unfolding row isMarked
         row-marked i h =
             made-mark (sp .axes) r _ _ _ _
-            ∙ ap (λ (b : Bool). cond (not b || (isBasis sp && not (eqb (length X + 1) (length (runsOf sp))))) 1 0) (ne-eqb (i + 1) (length run) (λ z. omega arith))
+            ∙ ap (λ (b : Bool). cond (not b || (isBasis sp && not (eqb (length X + 1) (length (runsOf sp))))) 1 0)
+            (ne-eqb (i + 1) (length run) (λ z. omega arith))
 
         row-end : 0 < length run → markOf (row (length run - 1)) ≡ 0 → (isBasis sp && not (eqb (length X + 1) (length (runsOf sp)))) ≡ false
         unfolding row isMarked
         row-end p u =
             let i : length run - 1 + 1 ≡ length run = omega arith in
-            unmarked _ (sym (made-mark (sp .axes) r _ _ _ _ ∙ ap (λ (b : Bool). cond (not b || (isBasis sp && not (eqb (length X + 1) (length (runsOf sp))))) 1 0) (eq-eqb (length run - 1 + 1) (length run) i)) ∙ u)
+            unmarked _
+            (sym
+            (made-mark (sp .axes) r _ _ _ _
+            ∙ ap (λ (b : Bool). cond (not b || (isBasis sp && not (eqb (length X + 1) (length (runsOf sp))))) 1 0) (eq-eqb (length run - 1 + 1) (length run) i))
+            ∙ u)
 
         made-shaped : (length run ≡ 0 → ⊥) → Shaped (sp .axes) r asks (upto row (length run))
         unfolding row end
@@ -318,7 +346,8 @@ module _ (sp : Spline) (B : List (List ℕ)) (r : List ℕ) (M : List (List ℕ)
             (λ b. subst (Shaped (sp .axes) r asks) (sym (cond-f _ _ b)) (made-shaped (eqb-false _ 0 b)))
 
     -- a held block of a spline
-    pub held-shaped : {asks : Type 0} → (isBasis sp ≡ true → hasPoint (sp .axes) r ≡ true → length (keep (hasPoint (sp .axes)) M) ≡ 0 → asks → eq (weightOf r) f1 ≡ true)
+    pub held-shaped : {asks : Type 0}
+        → (isBasis sp ≡ true → hasPoint (sp .axes) r ≡ true → length (keep (hasPoint (sp .axes)) M) ≡ 0 → asks → eq (weightOf r) f1 ≡ true)
         → Shaped (sp .axes) r asks (heldGroup sp (runsOf sp) (length B))
     unfolding run Y P
     held-shaped {asks} ask =

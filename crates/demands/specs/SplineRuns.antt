@@ -24,7 +24,8 @@ use Rattle.fit_knots.specs.Fit.{Fit, keptTo, evalFit, fitRun, fitRuns}
 use Rattle.spline_emission.specs.Emission.{placeOf, nextPoint, pointsFrom}
 
 -- ---- a fit
-run-ends : (fit : Fit) (ms : List ℕ) (tol : Float) (pts : List (List Float)) (ts : List Float) (i : ℕ) → EndsWith (fitRun fit ms tol pts ts i) (pointOf pts (i + 1))
+run-ends : (fit : Fit) (ms : List ℕ) (tol : Float) (pts : List (List Float)) (ts : List Float) (i : ℕ)
+    → EndsWith (fitRun fit ms tol pts ts i) (pointOf pts (i + 1))
 unfolding fitRun
 run-ends fit ms tol pts ts i =
     by-bit (le (at ts (i + 1) ⊖ at ts i) 1e-12)
@@ -45,7 +46,10 @@ unfolding fitRuns
 fit-ends cubic ms tol pts j h =
     by-bit (ltb (length (keptTo (chords pts ms) (length pts - 1))) 2)
     (λ b. rw b (inl (at-upto _ (length pts - 1) j [] h)))
-    (λ b. rw b (inr (subst (λ (l : List (List Float)). EndsWith l (pointOf pts (j + 1))) (sym (at-upto _ (length pts - 1) j [] h)) (run-ends _ ms tol pts (chords pts ms) j))))
+    (λ b.
+    rw b
+    (inr
+    (subst (λ (l : List (List Float)). EndsWith l (pointOf pts (j + 1))) (sym (at-upto _ (length pts - 1) j [] h)) (run-ends _ ms tol pts (chords pts ms) j))))
 
 -- ---- the points
 pub points-length : (cs : List ℕ) (p : List Float) (rs : List (List ℕ)) → length (pointsFrom cs p rs) ≡ length rs

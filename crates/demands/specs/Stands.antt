@@ -18,7 +18,8 @@ use Rattle.rows.specs.Codes.{geometricOf}
 use Rattle.rows.specs.Row.{has, cell, number, motionOf, planeOf, presentOf, outRow}
 use Rattle.floats.specs.Truth.{by-bit, cond-t, cond-f, and-left}
 use Rattle.rows.specs.Masks.{has-none, member-keep}
-use Rattle.saved_state.specs.State.{tolerance, axisCount, geometric, codeOk, codesOk, placed, motionNow, planeNow, held, degree, pointWord, position, curveStart, heldRow, heldRows}
+use Rattle.saved_state.specs.State.{tolerance, axisCount, geometric, codeOk, codesOk, placed, motionNow, planeNow, held, degree, pointWord, position}
+use Rattle.saved_state.specs.State.{curveStart, heldRow, heldRows}
 use Rattle.call_start.specs.Start.{freshWord, fresh}
 use Rattle.call_start.specs.Seed.{seeded}
 use Rattle.push_check.specs.Blocks.{orNow, motionThen, planeThen, emits, kept}
@@ -28,7 +29,9 @@ use Rattle.demands.specs.Groups.{Standing, atFirst, movedByBlock, movedB
 use Rattle.demands.specs.Laws.{cond-both}
 use Rattle.demands.specs.Accepted.{Pushed, few-axes, held-spline}
 use Rattle.demands.specs.Lengths.{emptied, worded, laid, worded-length, placed-length, forgotten-length, pushState-length}
-use Rattle.demands.specs.StateWords.{same-axes, placed-else, placed-here, placed-there, forgotten-low, forgotten-held, push-low, push-motion, push-plane, push-place, push-else, worded-else, emptied-low, buffered-held, first-degree, first-start, later-degree, later-start}
+use Rattle.demands.specs.StateWords.{same-axes, placed-else, placed-here, placed-there, forgotten-low, forgotten-held, push-low, push-motion, push-plane}
+use Rattle.demands.specs.StateWords.{push-place, push-else, worded-else, emptied-low, buffered-held, first-degree, first-start, later-degree}
+use Rattle.demands.specs.StateWords.{later-start}
 use Rattle.demands.specs.StoreRows.{held-after}
 
 pub record Stands (tol : ℕ) (gs : List ℕ) (s : Standing) (st store : List ℕ) : Type 0 where
@@ -304,7 +307,8 @@ module _ {tol : ℕ} {gs : List ℕ} {s : Standing} {st store : List ℕ} (r : L
       })
 
 -- ---- a seed
-module _ {tol : ℕ} {gs : List ℕ} {s : Standing} {st store : List ℕ} (c x : ℕ) (t : Stands tol gs s st store) (n : length st ≡ stateWords) (few : axisCount st ≤ 15) where
+module _ {tol : ℕ} {gs : List ℕ} {s : Standing} {st store : List ℕ} (c x : ℕ) (t : Stands tol gs s st store) (n : length st ≡ stateWords)
+    (few : axisCount st ≤ 15) where
   module _ (on : member c gs ≡ true) where
     low-code : c < axisCodes
     unfolding geometric
@@ -387,7 +391,8 @@ module _ {tol : ℕ} {gs : List ℕ} {s : Standing} {st store : List ℕ} (c x :
 module _ {tol : ℕ} {gs : List ℕ} {s : Standing} {st store : List ℕ} (t : Stands tol gs s st store) (n : length st ≡ stateWords) (few : axisCount st ≤ 15) where
   forgotten-place : (k : ℕ) → k < axisCodes → position (forgotten st) k ≡ position st k
   unfolding pointWord
-  forgotten-place k h = ap₂ (λ (a b : ℕ). cond (has a k) (some b) none) (forgotten-low st n wKnown (omega arith)) (forgotten-low st n (wKnown + 1 + k) (omega arith))
+  forgotten-place k h =
+      ap₂ (λ (a b : ℕ). cond (has a k) (some b) none) (forgotten-low st n wKnown (omega arith)) (forgotten-low st n (wKnown + 1 + k) (omega arith))
 
   emptied-stands : Stands tol gs (withClose s) (forgotten st) store
   unfolding withClose
@@ -450,7 +455,8 @@ module _ (tol : ℕ) (axes : List ℕ) (ok : codesOk axes ≡ true) where
       let few : length axes ≤ 15 = few-codes in
       let n : length (fresh tol axes) ≡ stateWords = length-upto (freshWord tol axes) stateWords in
       let d : length (drop wAxes (fresh tol axes)) ≡ length (fresh tol axes) - 2 = length-drop wAxes (fresh tol axes) in
-      let m : length (take (length axes) (drop wAxes (fresh tol axes))) ≡ length axes = length-take-le (length axes) (drop wAxes (fresh tol axes)) (omega arith) in
+      let m : length (take (length axes) (drop wAxes (fresh tol axes))) ≡ length axes =
+      length-take-le (length axes) (drop wAxes (fresh tol axes)) (omega arith) in
       ext-getD 0 (take (length axes) (drop wAxes (fresh tol axes))) axes m (λ i h.
       let g : i < length axes = subst (λ (k : ℕ). i < k) m h in
       getD-take (length axes) (drop wAxes (fresh tol axes)) i 0 g ∙ getD-drop wAxes (fresh tol axes) i 0 ∙ fresh-code i g)

@@ -64,14 +64,19 @@ unfolding withBit
 with-other p k j d = by-bit (has p k) (λ b. rw b) (λ b. rw b (add-other p k j b d))
 
 -- ---- the axes stand below the motion
-pub same-axes : (st st′ : List ℕ) → length st ≡ stateWords → length st′ ≡ stateWords → axisCount st ≤ 15 → ((j : ℕ) → j < wMotion → getD st′ j 0 ≡ getD st j 0) → geometric st′ ≡ geometric st
+pub same-axes : (st st′ : List ℕ) → length st ≡ stateWords → length st′ ≡ stateWords → axisCount st ≤ 15 → ((j : ℕ) → j < wMotion → getD st′ j 0 ≡ getD st j 0)
+    → geometric st′ ≡ geometric st
 unfolding geometric
 same-axes st st′ n n′ few low =
     let c : axisCount st′ ≡ axisCount st = low 1 (omega arith) in
     let e : take (axisCount st) (drop wAxes st′) ≡ take (axisCount st) (drop wAxes st) =
     ext-getD 0 _ _ (sized st′ n′ ∙ sym (sized st n)) (λ i h.
     let g : i < axisCount st = subst (λ (m : ℕ). i < m) (sized st′ n′) h in
-    getD-take (axisCount st) (drop wAxes st′) i 0 g ∙ getD-drop wAxes st′ i 0 ∙ low (wAxes + i) (omega arith) ∙ sym (getD-drop wAxes st i 0) ∙ sym (getD-take (axisCount st) (drop wAxes st) i 0 g)) in
+    getD-take (axisCount st) (drop wAxes st′) i 0 g
+    ∙ getD-drop wAxes st′ i 0
+    ∙ low (wAxes + i) (omega arith)
+    ∙ sym (getD-drop wAxes st i 0)
+    ∙ sym (getD-take (axisCount st) (drop wAxes st) i 0 g)) in
     ap (λ (m : ℕ). geometricOf (take m (drop wAxes st′))) c ∙ ap geometricOf e
   where
     sized : (l : List ℕ) → length l ≡ stateWords → length (take (axisCount st) (drop wAxes l)) ≡ axisCount st
@@ -96,7 +101,8 @@ module _ (st : List ℕ) (n : length st ≡ stateWords) where
   unfolding forgotten zeros
   forgotten-held =
       let m : length zeros ≡ 11 = zeros-length in
-      getD-set-same (spliced st wStart zeros) wHeld 0 0 (subst (λ (k : ℕ). wHeld < k) (sym (length-spliced st wStart zeros (omega (arith, n, m)) ∙ n)) (omega arith))
+      getD-set-same (spliced st wStart zeros) wHeld 0 0
+      (subst (λ (k : ℕ). wHeld < k) (sym (length-spliced st wStart zeros (omega (arith, n, m)) ∙ n)) (omega arith))
 
   -- ---- a spline opened: the positions are its start
   known : List ℕ
@@ -115,7 +121,8 @@ module _ (st : List ℕ) (n : length st ≡ stateWords) where
   pub opened-degree : degree (opened st) ≡ 3
   unfolding opened known
   opened-degree =
-      getD-set-same (spliced st wStart known) wDegree 3 0 (subst (λ (k : ℕ). wDegree < k) (sym (length-spliced st wStart known (omega (arith, n, known-length)) ∙ n)) (omega arith))
+      getD-set-same (spliced st wStart known) wDegree 3 0
+      (subst (λ (k : ℕ). wDegree < k) (sym (length-spliced st wStart known (omega (arith, n, known-length)) ∙ n)) (omega arith))
 
   opened-in : (m : ℕ) → m < 11 → getD (opened st) (wStart + m) 0 ≡ getD known m 0
   unfolding opened known
@@ -244,7 +251,8 @@ module _ (st r : List ℕ) (n : length st ≡ stateWords) where
   track-else (suc m) h j out =
       ap (λ (s : List ℕ). getD s j 0) (track-step m)
       ∙ cond-both (λ (s : List ℕ). getD s j 0 ≡ getD st j 0) (takes m)
-      (placed-else (trackTo m st r) (long m) m (cellWord m) (omega arith) j (λ e. out (omega arith) (omega arith)) (λ e. out (omega arith) (omega arith)) ∙ track-else m (omega arith) j out)
+      (placed-else (trackTo m st r) (long m) m (cellWord m) (omega arith) j (λ e. out (omega arith) (omega arith)) (λ e. out (omega arith) (omega arith))
+      ∙ track-else m (omega arith) j out)
       (track-else m (omega arith) j out)
 
   track-past : (m : ℕ) → m ≤ axisCodes → (k : ℕ) → m ≤ k → position (trackTo m st r) k ≡ position st k
@@ -321,7 +329,9 @@ module _ (st r : List ℕ) (n : length st ≡ stateWords) where
   -- words below the curve start are those of the state with its words set
   pub laid-low : (j : ℕ) → j < wStart → getD (laid st r) j 0 ≡ getD (worded st r) j 0
   unfolding laid
-  laid-low j h = cond-both (λ (s : List ℕ). getD s j 0 ≡ getD (worded st r) j 0) (isSpline (motionThen st r)) (buffered-low (worded st r) r (worded-length st r n) j h) refl
+  laid-low j h =
+      cond-both (λ (s : List ℕ). getD s j 0 ≡ getD (worded st r) j 0) (isSpline (motionThen st r)) (buffered-low (worded st r) r (worded-length st r n) j h)
+      refl
 
   -- every word of a push but the positions
   pub push-else : (j : ℕ) → (wKnown ≤ j → j < wWarned → ⊥) → (j ≡ wWarned → ⊥) → getD (pushState st r) j 0 ≡ getD (laid st r) j 0
@@ -353,7 +363,8 @@ module _ (st r : List ℕ) (n : length st ≡ stateWords) where
 
   told-position : (k : ℕ) → k < axisCodes → position (told st r) k ≡ position st k
   unfolding pointWord
-  told-position k h = ap₂ (λ (a b : ℕ). cond (has a k) (some b) none) (told-known wKnown (omega arith) (omega arith)) (told-known (wKnown + 1 + k) (omega arith) (omega arith))
+  told-position k h =
+      ap₂ (λ (a b : ℕ). cond (has a k) (some b) none) (told-known wKnown (omega arith) (omega arith)) (told-known (wKnown + 1 + k) (omega arith) (omega arith))
 
   told-low : (j : ℕ) → j < wMotion → getD (told st r) j 0 ≡ getD st j 0
   told-low j h = told-else j (λ e. omega arith) ∙ laid-low j (omega arith) ∙ worded-else j (λ e. omega arith) (λ e. omega arith) ∙ emptied-low j (omega arith)

@@ -97,7 +97,8 @@ answer-saved st store c s =
     accepted (pushing rows r) y = unfold answer pushDone in
         let ok : (pushCheck st store r ≡ 0) × (length (pushRows st store r) ≤ places rows) = push-accepted st store r rows (eqb-true _ 0 y) in
         let p : Pushed st store r = pushed st store r (ok .0) in
-        ap (λ (a : After). savedCheck (a .state) (a .store)) (push-done st store r rows (ok .0) (ok .1)) ∙ push-saved st store r s (fine-check r (p .row)) (p .space)
+        ap (λ (a : After). savedCheck (a .state) (a .store)) (push-done st store r rows (ok .0) (ok .1))
+        ∙ push-saved st store r s (fine-check r (p .row)) (p .space)
     accepted (seeding c x) y = unfold answer in
         let l : (stateOk st ≡ true) × (seedSpec st c x ≡ record { reply = plain 0; state = seeded st c x }) × (within x ≡ true) = seed-left st c x y in
         ap (λ (a : AfterState). savedCheck (a .state) store) (l .1) ∙ seeded-saved st store c x s (l .2)
@@ -117,4 +118,5 @@ pub close-goes : (tol : ℕ) (axes store : List ℕ) (cs : List Call) (rows : Li
 unfolding closeDone
 close-goes tol axes store cs rows t ok h =
     ap (λ (a : After). a .reply .code)
-    (close-done (run (fresh tol axes) store cs .state) (run (fresh tol axes) store cs .store) rows (run-saved (fresh tol axes) store cs (fresh-saved tol axes t ok store)) h)
+    (close-done (run (fresh tol axes) store cs .state) (run (fresh tol axes) store cs .store) rows
+    (run-saved (fresh tol axes) store cs (fresh-saved tol axes t ok store)) h)

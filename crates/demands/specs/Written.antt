@@ -35,7 +35,8 @@ use Rattle.demands.specs.RowLengths.{Long, spline-as, pushRows-long, clo
 use Rattle.demands.specs.Accepted.{Saved, saved, Pushed, pushed, few-axes, past-place, past-start, state-words}
 use Rattle.demands.specs.Answers.{places, push-done, push-accepted, closeDone, close-done, close-accepted}
 use Rattle.demands.specs.Stands.{Stands, some-length, Same, Changed, same, changed, motion-is, none-kept, push-stands, seed-stands, close-stands}
-use Rattle.demands.specs.Pending.{toCome, opened, ownRows, spline-length, come-none, come-seed, come-closed, come-on, come-other, come-own, come-own-other}
+use Rattle.demands.specs.Pending.{toCome, opened, ownRows, spline-length, come-none, come-seed, come-closed, come-on, come-other, come-own}
+use Rattle.demands.specs.Pending.{come-own-other}
 
 -- the words of some groups
 abbrev pub words : List (List (List ℕ)) → List ℕ
@@ -95,7 +96,8 @@ module _ {tol : ℕ} {gs : List ℕ} {s : Standing} {st store : List ℕ} (t : S
       len (x ∷ xs) e = absurd (omega arith)
 
 -- ---- a block of a spline has no row of its own
-spline-rows : (m : ℕ) → isSpline m ≡ true → (tol : Float) (gs : List ℕ) (plane : ℕ) (pos : ℕ → Option ℕ) (r : List ℕ) → answerAs (kindOf m) tol gs plane pos r .rows ≡ []
+spline-rows : (m : ℕ) → isSpline m ≡ true → (tol : Float) (gs : List ℕ) (plane : ℕ) (pos : ℕ → Option ℕ) (r : List ℕ)
+    → answerAs (kindOf m) tol gs plane pos r .rows ≡ []
 unfolding isSpline
 spline-rows m y tol gs plane pos r = spline-as (kindOf m) y tol gs plane pos r
 
@@ -103,7 +105,9 @@ spline-rows m y tol gs plane pos r = spline-as (kindOf m) y tol gs plane pos r
 module _ {tol : ℕ} {gs : List ℕ} {s : Standing} {st store : List ℕ} (r : List ℕ) (t : Stands tol gs s st store) (p : Pushed st store r) where
   own-is : ownAnswer st r .rows ≡ ownRows tol gs s r
   unfolding ownAnswer ownRows withBlock
-  own-is = λ i. answerAs (kindOf (motion-is r t p i)) (num (t .tolerance i)) (t .axes i) (ap (orNow (planeOf r)) (t .plane) i) (all-places t (p .saved .state) i) r .rows
+  own-is =
+      λ i.
+      answerAs (kindOf (motion-is r t p i)) (num (t .tolerance i)) (t .axes i) (ap (orNow (planeOf r)) (t .plane) i) (all-places t (p .saved .state) i) r .rows
 
   own-none : isSpline (motionWith s r) ≡ true → ownRows tol gs s r ≡ []
   unfolding ownRows
@@ -171,11 +175,14 @@ refused-step {tol} {gs} {s} {st} {store} a c t f e g = record {
   next = s;
   how = subst (λ (l : List Event). How gs s st store l s) (sym (cond-f _ [] f)) stays;
   stands = subst (λ (l : List ℕ). Stands tol gs s l (a .store)) (sym e) (subst (λ (l : List ℕ). Stands tol gs s st l) (sym g) t);
-  adds = λ es. ap (λ (l : List Event). words (toCome tol gs s (l ++ es))) (cond-f _ [] f) ∙ ap (λ (l : List ℕ). l ++ words (toCome tol gs s es)) (sym (cond-f _ [] f));
+  adds =
+      λ es. ap (λ (l : List Event). words (toCome tol gs s (l ++ es))) (cond-f _ [] f)
+      ∙ ap (λ (l : List ℕ). l ++ words (toCome tol gs s es)) (sym (cond-f _ [] f));
 }
 
 -- what an accepted seed leaves
-pub seed-left : (st : List ℕ) (c x : ℕ) → eqb (seedSpec st c x .reply .code) 0 ≡ true → (stateOk st ≡ true) × (seedSpec st c x ≡ record { reply = plain 0; state = seeded st c x }) × (within x ≡ true)
+pub seed-left : (st : List ℕ) (c x : ℕ) → eqb (seedSpec st c x .reply .code) 0 ≡ true
+    → (stateOk st ≡ true) × (seedSpec st c x ≡ record { reply = plain 0; state = seeded st c x }) × (within x ≡ true)
 unfolding seedSpec
 seed-left st c x =
     by-bit (stateOk st)
@@ -253,7 +260,9 @@ module _ {tol : ℕ} {gs : List ℕ} {s : Standing} {st store : List ℕ} (t : S
   step (pushing rows r) =
       by-bit (accepts (pushSpec st store rows r))
       (push-step rows r)
-      (λ f. let k : (pushSpec st store rows r .state ≡ st) × (pushSpec st store rows r .store ≡ store) × (pushSpec st store rows r .rows ≡ rows) = demand1 .push st store rows r .same (eqb-false _ 0 f) in
+      (λ f.
+      let k : (pushSpec st store rows r .state ≡ st) × (pushSpec st store rows r .store ≡ store) × (pushSpec st store rows r .rows ≡ rows) = demand1 .push st
+      store rows r .same (eqb-false _ 0 f) in
       refused-step (pushSpec st store rows r) (pushing rows r) t f (k .0) (k .1))
   step (seeding c x) =
       by-bit (accepts (answer st store (seeding c x)))
@@ -262,7 +271,9 @@ module _ {tol : ℕ} {gs : List ℕ} {s : Standing} {st store : List ℕ} (t : S
   step (closing rows) =
       by-bit (accepts (closeSpec st store rows))
       (close-step rows)
-      (λ f. let k : (closeSpec st store rows .state ≡ st) × (closeSpec st store rows .store ≡ store) × (closeSpec st store rows .rows ≡ rows) = demand1 .close st store rows .same (eqb-false _ 0 f) in
+      (λ f.
+      let k : (closeSpec st store rows .state ≡ st) × (closeSpec st store rows .store ≡ store) × (closeSpec st store rows .rows ≡ rows) = demand1 .close st
+      store rows .same (eqb-false _ 0 f) in
       refused-step (closeSpec st store rows) (closing rows) t f (k .0) (k .1))
 
 -- ---- any calls, and then an accepted close

@@ -38,7 +38,8 @@ pub block-listed : {st r : List ℕ} → Block st r → Listed st
 block-listed b = record { long = b .long; few = b .few }
 
 -- ---- a block that is buffered has room
-pub full-room : (st store r : List ℕ) → isSpline (motionThen st r) ≡ true → isFull st store r ≡ false → (kept st r < mostHeld) × (kept st r * rowWords + rowWords ≤ length store)
+pub full-room : (st store r : List ℕ) → isSpline (motionThen st r) ≡ true → isFull st store r ≡ false
+    → (kept st r < mostHeld) × (kept st r * rowWords + rowWords ≤ length store)
 unfolding isFull
 full-room st store r a b =
     let l : kept st r < min mostHeld (length store / rowWords) = leb-false (min mostHeld (length store / rowWords)) (kept st r) (sym (and-t _ a) ∙ b) in

@@ -14,7 +14,8 @@ use Rattle.rows.specs.Codes.{planeU, planeV}
 use Rattle.rows.specs.Row.{has, presentOf, hasPoint}
 use Rattle.rows.specs.RowLaws.{made-same}
 use Rattle.floats.specs.Truth.{by-bit, or-t, or-f}
-use Rattle.arc_rows.specs.Arc.{Answer, silent, Ends, Arc, Centre, centred, warned, lastCell, midCell, arcRow, heldAxes, arcRows, wantedOf, countOf, fromCentre, fromStart, arcAnswer}
+use Rattle.arc_rows.specs.Arc.{Answer, silent, Ends, Arc, Centre, centred, warned, lastCell, midCell, arcRow, heldAxes, arcRows, wantedOf, countOf, fromCentre}
+use Rattle.arc_rows.specs.Arc.{fromStart, arcAnswer}
 
 -- ---- something holds of a member
 any-from : (p : ℕ → Bool) (gs : List ℕ) (k : ℕ) → member k gs ≡ true → p k ≡ true → anyOf p gs ≡ true
@@ -83,12 +84,14 @@ module _ (gs gs′ : List ℕ) (e : (k : ℕ) → member k gs ≡ member k gs′
       (fun-ext (λ k. row-same plane pos r d c (countOf wanted) (k + 1)))
       (held-same plane pos r axisCodes)
 
-  centre-same : (tol : Float) (plane : ℕ) (cw : Bool) (pos : ℕ → Option ℕ) (r : List ℕ) (d : Ends) (m : Centre) → fromCentre tol gs plane cw pos r d m ≡ fromCentre tol gs′ plane cw pos r d m
+  centre-same : (tol : Float) (plane : ℕ) (cw : Bool) (pos : ℕ → Option ℕ) (r : List ℕ) (d : Ends) (m : Centre)
+      → fromCentre tol gs plane cw pos r d m ≡ fromCentre tol gs′ plane cw pos r d m
   unfolding fromCentre
   centre-same tol plane cw pos r d (centred cu cv) = rows-same plane pos r d _
   centre-same tol plane cw pos r d (warned n) = refl
 
-  start-same : (tol : Float) (plane : ℕ) (cw : Bool) (pos : ℕ → Option ℕ) (r : List ℕ) (a b : Option ℕ) → fromStart tol gs plane cw pos r a b ≡ fromStart tol gs′ plane cw pos r a b
+  start-same : (tol : Float) (plane : ℕ) (cw : Bool) (pos : ℕ → Option ℕ) (r : List ℕ) (a b : Option ℕ)
+      → fromStart tol gs plane cw pos r a b ≡ fromStart tol gs′ plane cw pos r a b
   unfolding fromStart
   start-same tol plane cw pos r none b = refl
   start-same tol plane cw pos r (some x) none = refl

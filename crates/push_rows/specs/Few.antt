@@ -18,12 +18,14 @@ use Rattle.push_check.specs.Blocks.{motionThen, planeThen}
 use Rattle.push_rows.specs.Answer.{answerAs, ownAnswer}
 
 -- "held in 1..100,000"
-few-centre : (tol : Float) (gs : List ℕ) (plane : ℕ) (cw : Bool) (pos : ℕ → Option ℕ) (r : List ℕ) (d : Ends) (m : Centre) → length (fromCentre tol gs plane cw pos r d m .rows) ≤ 100000
+few-centre : (tol : Float) (gs : List ℕ) (plane : ℕ) (cw : Bool) (pos : ℕ → Option ℕ) (r : List ℕ) (d : Ends) (m : Centre)
+    → length (fromCentre tol gs plane cw pos r d m .rows) ≤ 100000
 unfolding fromCentre arcRows countOf passed
 few-centre tol gs plane cw pos r d (centred cu cv) = rw (length-upto) (omega arith)
 few-centre tol gs plane cw pos r d (warned n) = omega arith
 
-few-start : (tol : Float) (gs : List ℕ) (plane : ℕ) (cw : Bool) (pos : ℕ → Option ℕ) (r : List ℕ) (a b : Option ℕ) → length (fromStart tol gs plane cw pos r a b .rows) ≤ 100000
+few-start : (tol : Float) (gs : List ℕ) (plane : ℕ) (cw : Bool) (pos : ℕ → Option ℕ) (r : List ℕ) (a b : Option ℕ)
+    → length (fromStart tol gs plane cw pos r a b .rows) ≤ 100000
 unfolding fromStart passed
 few-start tol gs plane cw pos r none b = omega arith
 few-start tol gs plane cw pos r (some x) none = omega arith

@@ -37,7 +37,9 @@ unfolding shown pointWord
 place-is st h =
     fun-ext (λ k.
     by-bit (ltb k axisCodes)
-    (λ b. ap (λ (x : ℕ). cond (has (getD st wKnown 0) k) (some x) none) (getD-take axisCodes (drop (wKnown + 1) st) k 0 (ltb-true k axisCodes b) ∙ getD-drop (wKnown + 1) st k 0))
+    (λ b.
+    ap (λ (x : ℕ). cond (has (getD st wKnown 0) k) (some x) none)
+    (getD-take axisCodes (drop (wKnown + 1) st) k 0 (ltb-true k axisCodes b) ∙ getD-drop (wKnown + 1) st k 0))
     (λ b. rw (has-past (getD st wKnown 0) axisCodes k h (ltb-false k axisCodes b))))
 
 -- ---- a block's own plan
@@ -92,7 +94,8 @@ pub turn-planned : (st r : List ℕ) (cw : Bool) (p : Plan) (gs plane : ℕ) (po
     → gs ≡ geometricMask st → plane ≡ planeThen st r → tol ≡ tolerance st → pos ≡ position st
     → Planned (axesOf gs) plane pos r (arcAnswer tol (axesOf gs) plane cw pos r) p → TurnPlanned st r cw p
 turn-planned st r cw p gs plane pos tol eg ep et es h =
-    let q : Planned (axesOf (geometricMask st)) (planeThen st r) (position st) r (arcAnswer (tolerance st) (axesOf (geometricMask st)) (planeThen st r) cw (position st) r) p = rw (eg, ep, et, es) at h in
+    let q : Planned (axesOf (geometricMask st)) (planeThen st r) (position st) r (arcAnswer (tolerance st) (axesOf (geometricMask st)) (planeThen st r) cw (position st) r) p =
+    rw (eg, ep, et, es) at h in
     subst (λ (a : Answer). Planned (axesOf (geometricMask st)) (planeThen st r) (position st) r a p)
     (arc-same (axesOf (geometricMask st)) (geometric st) (mask-members st) (tolerance st) (planeThen st r) cw (position st) r) q
 
@@ -100,7 +103,8 @@ some-rows : {a b : List (List ℕ)} (n : ℕ) → 1 ≤ n → a ≡ b → cond (
 some-rows n h e = rw (ne-eqb n 0 (λ z. omega arith)) e
 
 module _ (st r : List ℕ) (p : Plan) where
-  own-turn : (cw : Bool) → ownAnswer st r ≡ arcAnswer (tolerance st) (geometric st) (planeThen st r) cw (position st) r → TurnPlanned st r cw p → OwnPlanned st r p
+  own-turn : (cw : Bool) → ownAnswer st r ≡ arcAnswer (tolerance st) (geometric st) (planeThen st r) cw (position st) r → TurnPlanned st r cw p
+      → OwnPlanned st r p
   unfolding ownRows
   own-turn cw e h =
       record {
@@ -174,7 +178,8 @@ module _ (st r : List ℕ) (p : Plan) where
       → WriteOf (axesOf (geometricMask st)) (planeThen st r) (position st) r rows from p
   unfolding ownRows
   own-write rows from h d room =
-      let e : planRows (axesOf (geometricMask st)) (planeThen st r) (position st) r p ≡ ownAnswer st r .rows = sym (cond-f [] _ (ne-eqb (p .count) 0 d)) ∙ h .rows in
+      let e : planRows (axesOf (geometricMask st)) (planeThen st r) (position st) r p ≡ ownAnswer st r .rows =
+      sym (cond-f [] _ (ne-eqb (p .count) 0 d)) ∙ h .rows in
       record { count = h .count ∙ ap length (sym e); least = omega (arith, d); room = room }
 
   pub own-rows : (p .count ≡ 0 → ⊥) → planRows (axesOf (geometricMask st)) (planeThen st r) (position st) r p ≡ ownRows st r p

@@ -24,10 +24,12 @@ use Rattle.push_check.specs.declared.Resolved.{Resolved}
 use Rattle.push_check.specs.Resolved.{resolved}
 use Rattle.push_state.specs.Pushed.{forgotten, opened, degreeWith, buffered, trackTo, pushState}
 use Rattle.push_check.specs.BlockLaws.{Block}
-use Rattle.push_state.specs.PushLaws.{block-same, SameAxes, same-geometric, same-refl, same-trans, same-set, same-cond, same-forgotten, same-opened, same-buffered, held-forgotten, below-spliced}
+use Rattle.push_state.specs.PushLaws.{block-same, SameAxes, same-geometric, same-refl, same-trans, same-set, same-cond, same-forgotten, same-opened}
+use Rattle.push_state.specs.PushLaws.{same-buffered, held-forgotten, below-spliced}
 
 -- ---- opening: a position is read below the words that are written
-pub position-under : (f : ℕ → ℕ) (n : ℕ) (st st′ : List ℕ) (k : ℕ) → Splicing f (wStart + 1) n st st′ → length st ≡ stateWords → k < axisCodes → position st′ k ≡ position st k
+pub position-under : (f : ℕ → ℕ) (n : ℕ) (st st′ : List ℕ) (k : ℕ) → Splicing f (wStart + 1) n st st′ → length st ≡ stateWords → k < axisCodes
+    → position st′ k ≡ position st k
 unfolding pointWord
 position-under f n st st′ k s h l =
     ap₂ (λ (p x : ℕ). cond (has p k) (some x) none)
@@ -48,8 +50,10 @@ unfolding opened
 open-done st t h e =
     ap (λ (l : List ℕ). set l wDegree 3)
     (e
-    ∙ ap (spliced (set st wStart (getD st wKnown 0)) (wStart + 1)) (upto-below _ _ axisCodes (λ k l. ap (λ (o : Option ℕ). Option·getD o 0) (position-mask st (getD st wKnown 0) k l)))
-    ∙ ap (λ (l : List ℕ). spliced l (wStart + 1) (upto (λ (k : ℕ). Option·getD (position st k) 0) axisCodes)) (set-spliced st wStart (getD st wKnown 0) (omega arith))
+    ∙ ap (spliced (set st wStart (getD st wKnown 0)) (wStart + 1))
+    (upto-below _ _ axisCodes (λ k l. ap (λ (o : Option ℕ). Option·getD o 0) (position-mask st (getD st wKnown 0) k l)))
+    ∙ ap (λ (l : List ℕ). spliced l (wStart + 1) (upto (λ (k : ℕ). Option·getD (position st k) 0) axisCodes))
+    (set-spliced st wStart (getD st wKnown 0) (omega arith))
     ∙ spliced-spliced st wStart (getD st wKnown 0 ∷ []) (upto (λ (k : ℕ). Option·getD (position st k) 0) axisCodes) (omega arith))
 
 pub open-length : (st t : List ℕ) → length st ≡ stateWords

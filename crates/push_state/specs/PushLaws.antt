@@ -76,7 +76,9 @@ same-set st i v h = record { long = length-set st i v; low = λ j l. getD-set-ot
 
 pub same-placed : (st : List ℕ) (k x : ℕ) → SameAxes st (placed st k x)
 unfolding placed
-same-placed st k x = same-trans (same-set st wKnown (withBit (getD st wKnown 0) k) (omega arith)) (same-set (set st wKnown (withBit (getD st wKnown 0) k)) (wKnown + 1 + k) x (omega arith))
+same-placed st k x =
+    same-trans (same-set st wKnown (withBit (getD st wKnown 0) k) (omega arith))
+    (same-set (set st wKnown (withBit (getD st wKnown 0) k)) (wKnown + 1 + k) x (omega arith))
 
 pub same-cond : {st a b : List ℕ} (t : Bool) → SameAxes st a → SameAxes st b → SameAxes st (cond t a b)
 same-cond true p q = p
@@ -88,12 +90,15 @@ same-spliced st i ws h l = record { long = length-spliced st i ws l; low = λ j 
 pub same-to : (k : ℕ) (st r : List ℕ) → SameAxes st (trackTo k st r)
 unfolding trackTo
 same-to zero st r = same-refl st
-same-to (suc k) st r = same-cond (has (presentOf r) k && member k (geometric st)) (same-trans (same-to k st r) (same-placed (trackTo k st r) k (getD r (rCells + k) 0))) (same-to k st r)
+same-to (suc k) st r =
+    same-cond (has (presentOf r) k && member k (geometric st)) (same-trans (same-to k st r) (same-placed (trackTo k st r) k (getD r (rCells + k) 0)))
+    (same-to k st r)
 
 -- what tracking keeps of what the next step reads: every word but the positions
 pub placed-keeps : (st : List ℕ) (k x j : ℕ) → (j ≡ wKnown → ⊥) → (j ≡ wKnown + 1 + k → ⊥) → getD (placed st k x) j 0 ≡ getD st j 0
 unfolding placed
-placed-keeps st k x j a b = getD-set-other (set st wKnown (withBit (getD st wKnown 0) k)) (wKnown + 1 + k) j x 0 b ∙ getD-set-other st wKnown j (withBit (getD st wKnown 0) k) 0 a
+placed-keeps st k x j a b =
+    getD-set-other (set st wKnown (withBit (getD st wKnown 0) k)) (wKnown + 1 + k) j x 0 b ∙ getD-set-other st wKnown j (withBit (getD st wKnown 0) k) 0 a
 
 pub to-keeps : (n : ℕ) (st r : List ℕ) (j : ℕ) → n ≤ axisCodes → (j ≡ wKnown → ⊥) → ((k : ℕ) → k < axisCodes → j ≡ wKnown + 1 + k → ⊥)
     → getD (trackTo n st r) j 0 ≡ getD st j 0

@@ -73,9 +73,13 @@ returns-3 c =
     let b10 = b9 .before in
     let b15 = b10 .before .before .before .before .before in
     answers
-    (close-few-is _ _ _ (sym (b10 .saved-check .ensures) ∙ (b9 .if1 .left)) (b7 .if2 .left) (subst (λ (n : ℕ). length ((b15 .args .rows .now)) / rowWords < n) ((b4 .put-emission .ensures) .count) (room-short _ _ _ _ _ (b4 .put-emission .ensures) (b4 .put-emission .kept .1 .1 .0) _ (let z : (b4 .put-emission .result) ≡ (b4 .put-emission .result) + 0 = omega arith in z) (c .before .if3 .taken))))
+    (close-few-is _ _ _ (sym (b10 .saved-check .ensures) ∙ (b9 .if1 .left)) (b7 .if2 .left)
+    (subst (λ (n : ℕ). length ((b15 .args .rows .now)) / rowWords < n) ((b4 .put-emission .ensures) .count)
+    (room-short _ _ _ _ _ (b4 .put-emission .ensures) (b4 .put-emission .kept .1 .1 .0) _
+    (let z : (b4 .put-emission .result) ≡ (b4 .put-emission .result) + 0 = omega arith in z) (c .before .if3 .taken))))
     ((c .too-few .ensures) ∙ ap tooFew ((b4 .put-emission .ensures) .count)) refl refl
-    (put-refused _ _ _ _ _ (b4 .put-emission .ensures) (b4 .put-emission .kept .1 .1 .0) _ (let z : (b4 .put-emission .result) ≡ (b4 .put-emission .result) + 0 = omega arith in z) (c .before .if3 .taken))
+    (put-refused _ _ _ _ _ (b4 .put-emission .ensures) (b4 .put-emission .kept .1 .1 .0) _
+    (let z : (b4 .put-emission .result) ≡ (b4 .put-emission .result) + 0 = omega arith in z) (c .before .if3 .taken))
 
 forget-requires : tie.Need-forget-requires
 forget-requires c κs =
@@ -103,10 +107,14 @@ returns-4 c =
     let b14 = b13 .before in
     let b19 = b14 .before .before .before .before .before in
     answers
-    (close-done-is _ _ _ (sym (b14 .saved-check .ensures) ∙ (b13 .if1 .left)) (b11 .if2 .left) (subst (λ (n : ℕ). n ≤ length ((b19 .args .rows .now)) / rowWords) ((b8 .put-emission .ensures) .count) (room-left _ _ _ _ _ (b8 .put-emission .ensures) (b8 .put-emission .kept .1 .1 .0) _ (let z : (b8 .put-emission .result) ≡ (b8 .put-emission .result) + 0 = omega arith in z) (b5 .if3 .left))))
+    (close-done-is _ _ _ (sym (b14 .saved-check .ensures) ∙ (b13 .if1 .left)) (b11 .if2 .left)
+    (subst (λ (n : ℕ). n ≤ length ((b19 .args .rows .now)) / rowWords) ((b8 .put-emission .ensures) .count)
+    (room-left _ _ _ _ _ (b8 .put-emission .ensures) (b8 .put-emission .kept .1 .1 .0) _
+    (let z : (b8 .put-emission .result) ≡ (b8 .put-emission .result) + 0 = omega arith in z) (b5 .if3 .left))))
     ((c .done-reply .ensures) ∙ ap (λ (n : ℕ). doneReply n 0 0 0) ((b8 .put-emission .ensures) .count))
     ((b3 .forget .ensures) ∙ sym (cond-f _ _ (ne-eqb _ _ (b11 .if2 .left)))) refl
-    (put-written _ _ _ _ _ (b8 .put-emission .ensures) (b8 .put-emission .kept .1 .1 .0) _ (let z : (b8 .put-emission .result) ≡ (b8 .put-emission .result) + 0 = omega arith in z) (b5 .if3 .left))
+    (put-written _ _ _ _ _ (b8 .put-emission .ensures) (b8 .put-emission .kept .1 .1 .0) _
+    (let z : (b8 .put-emission .result) ≡ (b8 .put-emission .result) + 0 = omega arith in z) (b5 .if3 .left))
 
 pub close-spec : {M : Type 1} → statement M
 close-spec =

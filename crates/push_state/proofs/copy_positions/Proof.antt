@@ -48,7 +48,8 @@ loop-again c =
     let b5 = b3 .before .before in (
       omega arith,
       splicing-more ((b3 .loop .inv) .1) (omega arith)
-          ((c .known-word .ensures) ∙ ap (λ (o : Option ℕ). Option·getD o 0) (position-under _ _ _ _ (b3 .loop .k) ((b3 .loop .inv) .1) (b5 .pre) (b2 .loop-test .taken))),
+          ((c .known-word .ensures)
+          ∙ ap (λ (o : Option ℕ). Option·getD o 0) (position-under _ _ _ _ (b3 .loop .k) ((b3 .loop .inv) .1) (b5 .pre) (b2 .loop-test .taken))),
     )
 
 same-length : tie.Need-same-length Inv-loop μ-loop

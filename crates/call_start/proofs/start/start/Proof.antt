@@ -23,7 +23,11 @@ plain-reply-requires-2 c κs = search needs
 
 returns-2 : tie.Need-returns-2
 unfolding startSpec
-returns-2 c = state-is (cond-t _ _ (eq-eqb _ _ (c .before .before .before .if1 .left)) ∙ cond-f _ _ (sym (c .before .before .tol-ok .ensures) ∙ not-true (c .before .before .tol-ok .result) (c .before .if2 .taken))) (c .plain-reply2 .ensures) refl
+returns-2 c =
+    state-is
+    (cond-t _ _ (eq-eqb _ _ (c .before .before .before .if1 .left))
+    ∙ cond-f _ _ (sym (c .before .before .tol-ok .ensures) ∙ not-true (c .before .before .tol-ok .result) (c .before .if2 .taken)))
+    (c .plain-reply2 .ensures) refl
 
 codes-ok-requires : tie.Need-codes-ok-requires
 codes-ok-requires c κs = search needs
@@ -33,7 +37,14 @@ plain-reply-requires-3 c κs = search needs
 
 returns-3 : tie.Need-returns-3
 unfolding startSpec
-returns-3 c = state-is (cond-t _ _ (eq-eqb _ _ (c .before .before .before .before .before .if1 .left)) ∙ cond-t _ _ (sym (c .before .before .before .before .tol-ok .ensures) ∙ not-false (c .before .before .before .before .tol-ok .result) (c .before .before .before .if2 .left)) ∙ cond-f _ _ (sym (c .before .before .codes-ok .ensures) ∙ not-true (c .before .before .codes-ok .result) (c .before .if3 .taken))) (c .plain-reply3 .ensures) refl
+returns-3 c =
+    state-is
+    (cond-t _ _ (eq-eqb _ _ (c .before .before .before .before .before .if1 .left))
+    ∙ cond-t _ _
+    (sym (c .before .before .before .before .tol-ok .ensures)
+    ∙ not-false (c .before .before .before .before .tol-ok .result) (c .before .before .before .if2 .left))
+    ∙ cond-f _ _ (sym (c .before .before .codes-ok .ensures) ∙ not-true (c .before .before .codes-ok .result) (c .before .if3 .taken)))
+    (c .plain-reply3 .ensures) refl
 
 write-fresh-requires : tie.Need-write-fresh-requires
 write-fresh-requires c κs = search needs
@@ -46,7 +57,17 @@ same-length c = search needs
 
 returns-4 : tie.Need-returns-4
 unfolding startSpec
-returns-4 c = state-is (cond-t _ _ (eq-eqb _ _ (c .before .before .before .before .before .before .before .before .before .if1 .left)) ∙ cond-t _ _ (sym (c .before .before .before .before .before .before .before .before .tol-ok .ensures) ∙ not-false (c .before .before .before .before .before .before .before .before .tol-ok .result) (c .before .before .before .before .before .before .before .if2 .left)) ∙ cond-t _ _ (sym (c .before .before .before .before .before .before .codes-ok .ensures) ∙ not-false (c .before .before .before .before .before .before .codes-ok .result) (c .before .before .before .before .before .if3 .left))) (c .plain-reply4 .ensures) (c .before .before .before .write-fresh .ensures)
+returns-4 c =
+    state-is
+    (cond-t _ _ (eq-eqb _ _ (c .before .before .before .before .before .before .before .before .before .if1 .left))
+    ∙ cond-t _ _
+    (sym (c .before .before .before .before .before .before .before .before .tol-ok .ensures)
+    ∙ not-false (c .before .before .before .before .before .before .before .before .tol-ok .result)
+    (c .before .before .before .before .before .before .before .if2 .left))
+    ∙ cond-t _ _
+    (sym (c .before .before .before .before .before .before .codes-ok .ensures)
+    ∙ not-false (c .before .before .before .before .before .before .codes-ok .result) (c .before .before .before .before .before .if3 .left)))
+    (c .plain-reply4 .ensures) (c .before .before .before .write-fresh .ensures)
 
 pub start-spec : {M : Type 1} → statement M
 start-spec =
