@@ -1,7 +1,7 @@
 /* The flattener's four calls. docs/INTERFACE.md says what the words are, docs/RULES.md what the numbers mean.
  * No value has to be vetted before a call: a refused one changes no word. What a host owes is memory: each pointer is
- * of as many 64-bit words as the length beside it, aligned as a uint64_t is, and no two of a call's slices overlap (a row inside the
- * row buffer gives wrong rows with reply 0). */
+ * of as many 64-bit words as the length beside it, aligned as a uint64_t is, and no two of a call's slices overlap
+ * (a row inside the row buffer gives wrong rows with reply 0). */
 #ifndef FLATTEN_H
 #define FLATTEN_H
 
