@@ -9,11 +9,13 @@ use lib.ListN.{length}
 use borrow.Author.Tests.{leb-false}
 use Rattle.layout.specs.Layout.{rowWords, stateWords, mostHeld}
 use Rattle.motion.specs.Motion.{isSpline}
-use Rattle.rows.specs.Row.{rowCheck, motionOf}
-use Rattle.rows.specs.RowLaws.{check-length, check-motion}
+use Rattle.row_check.specs.Check.{rowCheck}
+use Rattle.row_cells.specs.Row.{motionOf}
+use Rattle.row_check.specs.CheckLaws.{check-length, check-motion}
 use Rattle.floats.specs.Truth.{and-t}
 use Rattle.saved_state.specs.State.{axisCount, stateOk}
-use Rattle.saved_state.specs.StateLaws.{Listed, Good, good, axes-few}
+use Rattle.saved_state.specs.Asks.{Listed}
+use Rattle.saved_state.specs.StateLaws.{Good, good, axes-few}
 use Rattle.push_check.specs.Blocks.{kept, isFull, motionThen}
 
 -- what the steps of a push ask of the state and the row

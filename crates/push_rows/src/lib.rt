@@ -11,7 +11,7 @@ use motion::Kind;
 use motion::kind_of;
 use push_check::motion_then;
 use push_check::plane_then;
-use rows::put_row;
+use row_put::put_row;
 use saved_state::state::geometric_mask;
 ghost use mathlib.Core.Path.{_≡_};
 ghost use Prim.Native.Nat.{_+_, _*_, _<_, _≤_};

@@ -6,7 +6,7 @@ use Rattle.floats.specs.Lists.{spliced}
 use Rattle.floats.specs.Truth.{cond-t, cond-f}
 use Rattle.layout.specs.Layout.{rowWords}
 use Rattle.motion.specs.Motion.{isSpline}
-use Rattle.rows.specs.Row.{outRow}
+use Rattle.row_cells.specs.Row.{outRow}
 use Rattle.push_state.specs.Pushed.{pushStore}
 use Rattle.push_check.specs.BlockLaws.{full-room}
 use borrow.Author.Needs.{needs}
