@@ -34,6 +34,10 @@ held st = getD st wHeld 0
 abbrev pub tolerance : List ℕ → Float
 tolerance st = num (getD st wTolerance 0)
 
+-- the degree of a curve until SD sets it
+abbrev pub plainDegree : ℕ
+plainDegree = 3
+
 -- the geometric axes of a state, in order
 unfoldable pub geometric : List ℕ → List ℕ
 geometric st = geometricOf (take (axisCount st) (drop wAxes st))

@@ -43,6 +43,9 @@ ghost use Rattle.saved_state.specs.State.{tolOk, codesOk, axesOk, geomet
 ghost use Rattle.saved_state.specs.State.{fromMotion, stateOk, rowFits, heldRowOk, savedCheck, placed};
 ghost use Rattle.saved_state.specs.Asks.{Listed, PointOf};
 
+// The degree of a curve until SD sets it.
+pub const PLAIN_DEGREE: u64 = 3;
+
 // The bits of infinity: a number's below them are finite.
 const INFINITY: u64 = 0x7FF0_0000_0000_0000;
 
