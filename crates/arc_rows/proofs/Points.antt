@@ -6,9 +6,10 @@ use mathlib.Core.List.{List}
 use lib.Dec.{ltb}
 use borrow.Author.Tests.{ltb-true, lt-ltb}
 use Rattle.layout.specs.Layout.{axisCodes}
-use Rattle.rows.specs.Row.{has, presentOf, hasPoint, axesOf}
+use Rattle.row_cells.specs.Bits.{has}
+use Rattle.row_cells.specs.Row.{presentOf, hasPoint, axesOf}
 use Rattle.floats.specs.Truth.{and-left, and-right, and-i}
-use Rattle.rows.specs.Masks.{member-axes}
+use Rattle.row_cells.specs.Masks.{member-axes}
 use Rattle.arc_rows.specs.ArcLaws.{any-there, any-none}
 
 pub point-there : (gs : ℕ) (r : List ℕ) (k : ℕ) → k < axisCodes → (has gs k && has (presentOf r) k) ≡ true → hasPoint (axesOf gs) r ≡ true

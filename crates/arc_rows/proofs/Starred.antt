@@ -10,8 +10,10 @@ use Rattle.floats.specs.Lists.{upto, keep, member, anyOf}
 use Rattle.root.specs.Root.{floorRoot, rootUnits, sqrt}
 use Rattle.whole.specs.Whole.{ceilCount, halfUpCount}
 use Rattle.trig.specs.Trig.{sinSteps, cosSteps, atanFrom, atanRight, atanLeft, atanUp, atan2Steps, acosSteps}
-use Rattle.rows.specs.Codes.{planeU, planeV}
-use Rattle.rows.specs.Row.{has, cell, number, shown, maskOf, rowOf, outRow, hasPoint, rides, withRiders, madeRow}
+use Rattle.row_cells.specs.Codes.{planeU, planeV}
+use Rattle.row_cells.specs.Bits.{has}
+use Rattle.row_cells.specs.Row.{cell, number, shown, maskOf, rowOf, outRow, hasPoint}
+use Rattle.row_put.specs.Made.{rides, withRiders, madeRow}
 use Rattle.arc_rows.specs.Arc.{Answer, passed, silent, sideOf, crCentre, centreOf, radius, wideCentre, agree, sweepLeft, sweepOf, turned, arcOf, stepOf, wantedOf, countOf, ramp, lastCell, midCell, arcRow, heldAxes, arcRows, fromCentre, fromStart, arcAnswer}
 
 -- 10 as a word; a block with X 10, Y 0 and one cell more, after k that are absent

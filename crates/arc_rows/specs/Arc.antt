@@ -11,8 +11,9 @@ pub use Rattle.arc_numbers.specs.Arc.{Centre, centred, warned, Ends, Arc, angle
 unfoldable pub use Rattle.arc_numbers.specs.Arc.{sideOf, crCentre, centreOf, radius, wideCentre, agree, sweepLeft, sweepOf, turned, arcOf, stepOf, wantedOf, countOf}
 unfoldable pub use Rattle.arc_sample.specs.Samples.{ramp, lastCell, midCell, arcRow}
 use Rattle.layout.specs.Layout.{cCR, cTURN, axisCodes}
-use Rattle.rows.specs.Codes.{planeU, planeV, offsetOf}
-use Rattle.rows.specs.Row.{cell, number, has, presentOf, hasPoint, outRow}
+use Rattle.row_cells.specs.Codes.{planeU, planeV, offsetOf}
+use Rattle.row_cells.specs.Row.{cell, number, presentOf, hasPoint, outRow}
+use Rattle.row_cells.specs.Bits.{has}
 
 -- what a block of no spline adds to a call: its rows, the warning, with warning 6 the wanted count, the held axes
 pub record Answer : Type 0 where

@@ -14,10 +14,13 @@ use Rattle.floats.specs.Lists.{member, anyOf, flatten}
 use Rattle.floats.specs.Fill.{length-upto, upto-same}
 use Rattle.layout.specs.Layout.{axisCodes, cells, rowWords}
 use Rattle.motion.specs.Motion.{gOne}
-use Rattle.rows.specs.Codes.{planeU, planeV}
-use Rattle.rows.specs.Row.{has, cell, presentOf, hasPoint, lineOf, motionOf, planeOf, markOf, carryOf, rowOf, outRow, madeRow, rides, withRiders}
+use Rattle.row_cells.specs.Codes.{planeU, planeV}
+use Rattle.row_cells.specs.Bits.{has}
+use Rattle.row_cells.specs.Row.{cell, presentOf, hasPoint, lineOf, motionOf, planeOf, markOf, carryOf, rowOf, outRow}
+use Rattle.row_put.specs.Made.{madeRow, rides, withRiders, madeCell}
 use Rattle.floats.specs.Truth.{by-bit}
-use Rattle.rows.specs.RowLaws.{made-same, made-cell, madeCell, length-out}
+use Rattle.row_put.specs.MadeLaws.{made-same, made-cell}
+use Rattle.row_cells.specs.RowLaws.{length-out}
 use Rattle.arc_sample.specs.Rowing.{length-rows, flatten-one}
 use Rattle.arc_sample.specs.Draw.{arc-long}
 use Rattle.arc_rows.specs.Arc.{Answer, passed, silent, Ends, Arc, Centre, centred, warned, wantedOf, countOf, lastCell, midCell, arcRow, heldAxes, arcRows, fromCentre, fromStart, arcAnswer}

@@ -12,10 +12,11 @@ use Rattle.floats.specs.Numbers.{num}
 use Rattle.floats.specs.Lists.{upto}
 use Rattle.floats.specs.Fill.{length-upto}
 use Rattle.layout.specs.Layout.{axisCodes, rowWords, cCR, cTURN}
-use Rattle.rows.specs.Codes.{planeU, planeV, offsetOf}
-use Rattle.rows.specs.Row.{has, cell, number, shown, presentOf, hasPoint, axesOf, outRow}
-use Rattle.rows.specs.Masks.{maskSum, member-small}
-use Rattle.rows.specs.RowLaws.{shown-there}
+use Rattle.row_cells.specs.Codes.{planeU, planeV, offsetOf}
+use Rattle.row_cells.specs.Bits.{has, maskSum}
+use Rattle.row_cells.specs.Row.{cell, number, shown, presentOf, hasPoint, axesOf, outRow}
+use Rattle.row_cells.specs.Masks.{member-small}
+use Rattle.row_cells.specs.RowLaws.{shown-there}
 use Rattle.arc_numbers.specs.Types.{endsIs, arcIs}
 use Rattle.arc_numbers.specs.declared.Ends as EndsOf
 use Rattle.arc_numbers.specs.declared.Arc as ArcOf

@@ -7,8 +7,8 @@ ghost use lib.ListN.{length};
 ghost use Rattle.floats.specs.Numbers.{num};
 ghost use Rattle.floats.specs.Lists.{flatten, spliced};
 ghost use Rattle.layout.specs.Layout.{axisCodes, cells, rowWords};
-ghost use Rattle.rows.specs.Row.{cell, number, shown, axesOf, hasPoint, presentOf};
-ghost use Rattle.rows.specs.Masks.{maskSum};
+ghost use Rattle.row_cells.specs.Row.{cell, number, shown, axesOf, hasPoint, presentOf};
+ghost use Rattle.row_cells.specs.Bits.{maskSum};
 ghost use Rattle.arc_numbers.specs.Types.{numberIs, endsIs};
 ghost use Rattle.arc_rows.specs.Arc.{arcAnswer};
 ghost use Rattle.arc_rows.specs.Plan.{BlockOf, silentAt, holds, endsAt, passPlan, alongPlan, planRows, Planned, WriteOf};
@@ -34,7 +34,7 @@ fn cell_number(row: &[u64], k: usize) -> arc_numbers::Cell
     requires { ⌜ (length (now row) ≡ rowWords) × (k < cells) ⌝ }
     ensures { λ r. ⌜ numberIs r ≡ number (now (row .entry)) k ⌝ }
 {
-    if rows::has_bit(row[R_PRESENT], k as u64) {
+    if row_cells::has_bit(row[R_PRESENT], k as u64) {
         return arc_numbers::Cell::Number(floats::of_bits(row[layout::R_CELLS + k]));
     }
     arc_numbers::Cell::Absent
@@ -45,7 +45,7 @@ fn end_on(row: &[u64], k: usize, start: u64) -> f64
     requires { ⌜ (length (now row) ≡ rowWords) × (k < cells) ⌝ }
     ensures { λ r. ⌜ r ≡ num (Option·getD (cell (now (row .entry)) k) start) ⌝ }
 {
-    if rows::has_bit(row[R_PRESENT], k as u64) {
+    if row_cells::has_bit(row[R_PRESENT], k as u64) {
         return floats::of_bits(row[layout::R_CELLS + k]);
     }
     floats::of_bits(start)
@@ -87,13 +87,13 @@ fn is_silent(row: &[u64], gs: u64, u: usize, v: usize) -> bool
     if has_point(row, gs) {
         return false;
     }
-    if rows::has_bit(row[R_PRESENT], (FIRST_OFFSET + u) as u64) {
+    if row_cells::has_bit(row[R_PRESENT], (FIRST_OFFSET + u) as u64) {
         return false;
     }
-    if rows::has_bit(row[R_PRESENT], (FIRST_OFFSET + v) as u64) {
+    if row_cells::has_bit(row[R_PRESENT], (FIRST_OFFSET + v) as u64) {
         return false;
     }
-    !rows::has_bit(row[R_PRESENT], layout::C_CR as u64)
+    !row_cells::has_bit(row[R_PRESENT], layout::C_CR as u64)
 }
 
 // Whether axis k ramps with no start to ramp from.
@@ -104,7 +104,7 @@ fn holds_end(gs: u64, present: u64, known: u64, u: usize, v: usize, k: usize) ->
     if !arc_sample::programs(gs, present, k) {
         return false;
     }
-    if rows::has_bit(known, k as u64) {
+    if row_cells::has_bit(known, k as u64) {
         return false;
     }
     if k == u {
@@ -121,7 +121,7 @@ fn held_axes(row: &[u64], gs: u64, known: u64, u: usize, v: usize) -> u64
     let mut m: u64 = 0;
     let mut k: usize = 0;
     while k < layout::AXIS_CODES {
-        m = rows::mask_with(m, k, holds_end(gs, present, known, u, v, k));
+        m = row_cells::mask_with(m, k, holds_end(gs, present, known, u, v, k));
         k += 1;
     }
     m
@@ -181,10 +181,10 @@ pub fn plan_arc(
     if is_silent(row, gs, u, v) {
         return passing(0);
     }
-    if !rows::has_bit(known, u as u64) {
+    if !row_cells::has_bit(known, u as u64) {
         return passing(1);
     }
-    if !rows::has_bit(known, v as u64) {
+    if !row_cells::has_bit(known, v as u64) {
         return passing(1);
     }
     let e = ends(row, at, u, v);
@@ -221,7 +221,7 @@ pub fn write_arc(
     let n = plan.count;
     let way = plan.way;
     match way {
-        Way::Pass => rows::put_row(rows, from, row),
+        Way::Pass => row_put::put_row(rows, from, row),
         Way::Along(e, c) => arc_sample::draw(rows, from, row, gs, plane, known, at, e, c, n),
     }
 }

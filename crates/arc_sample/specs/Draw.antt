@@ -16,11 +16,13 @@ use Rattle.floats.specs.Fill.{at-upto, lt-or-le}
 use Rattle.trig.specs.Trig.{sinSteps, cosSteps}
 use Rattle.layout.specs.Layout.{axisCodes, rCells, rowWords}
 use Rattle.motion.specs.Motion.{gOne}
-use Rattle.rows.specs.Codes.{planeU, planeV}
-use Rattle.rows.specs.Row.{has, cell, shown, presentOf, axesOf, madeRow}
+use Rattle.row_cells.specs.Codes.{planeU, planeV}
+use Rattle.row_cells.specs.Bits.{has, maskSum}
+use Rattle.row_cells.specs.Row.{cell, shown, presentOf, axesOf}
+use Rattle.row_put.specs.Made.{madeRow}
 use Rattle.floats.specs.Truth.{by-bit}
-use Rattle.rows.specs.Masks.{maskSum, mask-lt, has-mask, has-past, member-small}
-use Rattle.rows.specs.RowLaws.{made-same, length-made}
+use Rattle.row_cells.specs.Masks.{mask-lt, has-mask, has-past, member-small}
+use Rattle.row_put.specs.MadeLaws.{made-same, length-made}
 use Rattle.arc_numbers.specs.Arc.{Ends, Arc, angleAt, radiusAt}
 use Rattle.arc_sample.specs.Rowing.{Rowing, rowing-same, rowing-more}
 use Rattle.arc_sample.specs.Samples.{ramp, lastCell, midCell, arcRow}

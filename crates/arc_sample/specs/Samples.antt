@@ -10,8 +10,9 @@ use Rattle.floats.specs.Lists.{member, opt}
 use Rattle.trig.specs.Trig.{sinSteps, cosSteps}
 use Rattle.arc_numbers.specs.Arc.{Ends, Arc, angleAt, radiusAt}
 use Rattle.motion.specs.Motion.{gOne}
-use Rattle.rows.specs.Codes.{planeU, planeV}
-use Rattle.rows.specs.Row.{cell, madeRow}
+use Rattle.row_cells.specs.Codes.{planeU, planeV}
+use Rattle.row_cells.specs.Row.{cell}
+use Rattle.row_put.specs.Made.{madeRow}
 
 -- "Other programmed axes ramp; with unknown start they hold the end"
 unfoldable pub ramp : Option ℕ → ℕ → Float → Float

@@ -6,9 +6,9 @@ ghost use Prim.Native.Nat.{ℕ, _+_, _-_, _<_, _≤_};
 ghost use lib.ListN.{length};
 ghost use Rattle.floats.specs.Lists.{upto, flatten, spliced};
 ghost use Rattle.layout.specs.Layout.{axisCodes, rowWords};
-ghost use Rattle.rows.specs.Codes.{planeU, planeV};
-ghost use Rattle.rows.specs.Row.{has, shown, axesOf, presentOf};
-ghost use Rattle.rows.specs.Masks.{maskSum};
+ghost use Rattle.row_cells.specs.Codes.{planeU, planeV};
+ghost use Rattle.row_cells.specs.Bits.{has, maskSum};
+ghost use Rattle.row_cells.specs.Row.{shown, axesOf, presentOf};
 ghost use Rattle.arc_numbers.specs.Types.{endsIs, arcIs};
 ghost use Rattle.arc_sample.specs.Samples.{arcRow};
 ghost use Rattle.arc_sample.specs.Rowing.{Rowing};
@@ -44,8 +44,8 @@ pub fn programs(gs: u64, present: u64, k: usize) -> bool
     requires { ⌜ k < axisCodes ⌝ }
     ensures { λ r. ⌜ r ≡ (has gs k && has present k) ⌝ }
 {
-    if rows::has_bit(gs, k as u64) {
-        rows::has_bit(present, k as u64)
+    if row_cells::has_bit(gs, k as u64) {
+        row_cells::has_bit(present, k as u64)
     } else {
         false
     }
@@ -73,7 +73,7 @@ fn drawn_axes(row: &[u64], gs: u64, u: usize, v: usize) -> u64
     let mut m: u64 = 0;
     let mut k: usize = 0;
     while k < layout::AXIS_CODES {
-        m = rows::mask_with(m, k, draws(gs, present, u, v, k));
+        m = row_cells::mask_with(m, k, draws(gs, present, u, v, k));
         k += 1;
     }
     m
@@ -84,7 +84,7 @@ fn start_on(row: &[u64], known: u64, at: &[u64], k: usize) -> f64
     requires { ⌜ (length (now row) ≡ rowWords) × ((axisCodes ≤ length (now at)) × (k < axisCodes)) ⌝ }
     ensures { λ r. ⌜ r ≡ startOf (now (row .entry)) (shown known (now (at .entry))) k ⌝ }
 {
-    if rows::has_bit(known, k as u64) {
+    if row_cells::has_bit(known, k as u64) {
         return floats::of_bits(at[k]);
     }
     floats::of_bits(row[layout::R_CELLS + k])
@@ -185,7 +185,19 @@ fn put_mid_row(
     let f = std::num::nearest_u64_to_f64(k as u64) / n;
     let mut words = [0u64; layout::AXIS_CODES];
     put_sample(&mut words, c, u, v, starts, spans, f);
-    rows::put_made(rows, place, row, gs, k == 1, G1, true, mask, &words);
+    row_put::put_made(
+        rows,
+        place,
+        row,
+        row_put::Made {
+            axes: gs,
+            mask: mask,
+            first: k == 1,
+            motion: G1,
+            marked: true,
+        },
+        &words,
+    );
 }
 
 // The rows before the last of n, and where they end.
@@ -246,7 +258,19 @@ fn put_last_row(
 {
     let mut words = [0u64; layout::AXIS_CODES];
     put_last(&mut words, row, e, u, v);
-    rows::put_made(rows, place, row, gs, first, G1, false, mask, &words);
+    row_put::put_made(
+        rows,
+        place,
+        row,
+        row_put::Made {
+            axes: gs,
+            mask: mask,
+            first: first,
+            motion: G1,
+            marked: false,
+        },
+        &words,
+    );
 }
 
 // The n rows of the arc c from e's start to its end.

@@ -12,8 +12,9 @@ use borrow.Author.Tests.{eq-eqb, le-leb, lt-leb, not-true}
 use Rattle.floats.specs.Lists.{upto, flatten, keep, spliced, all}
 use Rattle.floats.specs.Fill.{length-upto}
 use Rattle.layout.specs.Layout.{axisCodes, rowWords, wAxes, wStart, stateWords, mostHeld, lastCode}
-use Rattle.rows.specs.Row.{shown, hasPoint}
-use Rattle.rows.specs.RowLaws.{length-out, length-made}
+use Rattle.row_cells.specs.Row.{shown, hasPoint}
+use Rattle.row_cells.specs.RowLaws.{length-out}
+use Rattle.row_put.specs.MadeLaws.{length-made}
 use Rattle.floats.specs.Truth.{by-bit, cond-t, cond-f, all-at, and-right}
 use Rattle.spline_points.specs.Points.{Spline, channels, pointRows, startPoint, pointsFrom, metricOf, splineOf}
 use Rattle.spline_points.specs.Channels.{Once}
@@ -25,8 +26,8 @@ use Rattle.spline_emission.specs.Emission.{runsOf, splineGroups, putWithin}
 use Rattle.spline_emission.specs.Emits.{Holds}
 use Rattle.spline_emission.specs.Laws.{shown-part, blocks-are}
 use Rattle.spline_emission.specs.Widths.{runs-few}
-use Rattle.saved_state.specs.State.{axisCount, motionNow, degree, held, tolerance, geometric, pointWord, curveStart, heldRows, codeOk, codesOk, axesOk}
-use Rattle.saved_state.specs.State.{stateOk, savedCheck}
+use Rattle.saved_state.specs.State.{axisCount, motionNow, degree, held, tolerance, geometric, pointWord, curveStart, heldRows, codeOk, codesOk}
+use Rattle.saved_state.specs.State.{axesOk, stateOk, savedCheck}
 use Rattle.saved_state.specs.StateLaws.{Good, good, good-few, point-small}
 use Rattle.call_close.specs.Held.{heldSpline, emission}
 use Rattle.saved_state.specs.Checked.{saved-ok, saved-store}

@@ -11,7 +11,7 @@ use borrow.Author.Tests.{eqb-true, eqb-false, eq-eqb, ne-eqb, le-leb, lt-leb}
 use Rattle.floats.specs.Lists.{flatten, spliced}
 use Rattle.floats.specs.Splice.{spliced-none, spliced-spliced}
 use Rattle.layout.specs.Layout.{rowWords, mostHeld}
-use Rattle.rows.specs.Row.{rowCheck}
+use Rattle.row_check.specs.Check.{rowCheck}
 use Rattle.floats.specs.Truth.{by-bit, cond-t, cond-f}
 use Rattle.arc_rows.specs.declared.Plan.{Plan}
 use Rattle.saved_state.specs.State.{held, savedCheck}

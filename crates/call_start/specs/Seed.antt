@@ -1,15 +1,15 @@
--- Document 01, "Seed: 9 (state fields), 2, 3": what a seed answers and leaves. Assumes nothing.
+-- DEFINITIONS. What a seed answers and leaves: 9 for the state's fields, 2, 3. Assumes nothing.
 use Prim.Native.Nat.{ℕ}
 use mathlib.Core.Bool.{cond}
 use mathlib.Core.List.{List}
 use lib.Dec.{leb}
 use Rattle.layout.specs.Layout.{lastCode}
 use Rattle.floats.specs.Lists.{member}
-use Rattle.rows.specs.Row.{within}
+use Rattle.row_check.specs.Check.{within}
 use Rattle.saved_state.specs.State.{stateOk, geometric, placed}
 use Rattle.call_reply.specs.Replies.{plain, AfterState}
 
--- "Seeding codes 10-14 or an axis not listed replies 0 and changes nothing"
+-- a seed of a code that is no geometric axis changes nothing
 unfoldable pub seeded : List ℕ → ℕ → ℕ → List ℕ
 seeded st code x = cond (member code (geometric st)) (placed st code x) st
 

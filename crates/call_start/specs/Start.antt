@@ -1,4 +1,4 @@
--- Document 01, "Fresh state" and "Start: 9 (length only), 1, 2": what a start answers and leaves. Assumes nothing.
+-- DEFINITIONS. A fresh state, and what a start answers and leaves: 9 for the length alone, 1, 2. Assumes nothing.
 use Prim.Native.Nat.{ℕ, _-_}
 use mathlib.Core.Bool.{cond}
 use mathlib.Core.List.{List}
@@ -6,17 +6,18 @@ use lib.ListN.{length, getD}
 use lib.Dec.{ltb, eqb}
 use Rattle.call_reply.specs.Replies.{plain, AfterState}
 use Rattle.floats.specs.Lists.{upto}
-use Rattle.layout.specs.Layout.{wAxes, wMotion, wPlane, wDegree, stateWords}
+use Rattle.layout.specs.Layout.{wTolerance, wAxisCount, wAxes, wMotion, wPlane, wDegree, stateWords}
 use Rattle.motion.specs.Motion.{gOne}
-use Rattle.saved_state.specs.State.{tolOk, codesOk}
+use Rattle.row_cells.specs.Codes.{planeXY}
+use Rattle.saved_state.specs.State.{plainDegree, tolOk, codesOk}
 
--- "Fresh state: linear, plane 17, no position known": word i
+-- word i of a fresh state: a straight move, plane XY, no position known
 unfoldable pub freshWord : ℕ → List ℕ → ℕ → ℕ
 freshWord tol axes i =
-    cond (eqb i 0) tol
-    (cond (eqb i 1) (length axes)
+    cond (eqb i wTolerance) tol
+    (cond (eqb i wAxisCount) (length axes)
     (cond (ltb i wMotion) (getD axes (i - wAxes) 0)
-    (cond (eqb i wMotion) gOne (cond (eqb i wPlane) 17 (cond (eqb i wDegree) 3 0)))))
+    (cond (eqb i wMotion) gOne (cond (eqb i wPlane) planeXY (cond (eqb i wDegree) plainDegree 0)))))
 
 unfoldable pub fresh : ℕ → List ℕ → List ℕ
 fresh tol axes = upto (freshWord tol axes) stateWords

@@ -2,7 +2,7 @@
 use call_reply::Reply;
 use call_reply::plain_reply;
 use layout::LAST_CODE;
-use rows::within_range;
+use row_check::within_range;
 use saved_state::state::is_geometric;
 use saved_state::state::place;
 use saved_state::state::state_ok;

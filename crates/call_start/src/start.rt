@@ -3,9 +3,14 @@ use call_reply::Reply;
 use call_reply::plain_reply;
 use layout::STATE_WORDS;
 use layout::W_AXES;
+use layout::W_AXIS_COUNT;
 use layout::W_DEGREE;
 use layout::W_MOTION;
 use layout::W_PLANE;
+use layout::W_TOLERANCE;
+use motion::G1;
+use row_cells::PLANE_XY;
+use saved_state::state::PLAIN_DEGREE;
 use saved_state::state::codes_ok;
 use saved_state::state::tol_ok;
 ghost use mathlib.Core.Path.{_≡_};
@@ -27,23 +32,23 @@ fn code_or_0(axes: &[u64], j: usize) -> u64
 fn fresh_word(tolerance: u64, axes: &[u64], i: usize) -> u64
     ensures { λ r. ⌜ r ≡ freshWord tolerance (now (axes .entry)) i ⌝ }
 {
-    if i == 0 {
+    if i == W_TOLERANCE {
         return tolerance;
     }
-    if i == 1 {
+    if i == W_AXIS_COUNT {
         return axes.len() as u64;
     }
     if i < W_MOTION {
         return code_or_0(axes, i - W_AXES);
     }
     if i == W_MOTION {
-        return 2;
+        return G1;
     }
     if i == W_PLANE {
-        return 17;
+        return PLANE_XY;
     }
     if i == W_DEGREE {
-        return 3;
+        return PLAIN_DEGREE;
     }
     0
 }

@@ -16,8 +16,9 @@ use Rattle.floats.specs.Numbers.{num, bits}
 use Rattle.floats.specs.Lists.{upto, isSome, all}
 use Rattle.floats.specs.Fill.{length-upto}
 use Rattle.layout.specs.Layout.{rCells}
-use Rattle.rows.specs.Codes.{planeOk}
-use Rattle.rows.specs.Row.{has, maskOf, rowOf, presentOf, lineOf, motionOf, planeOf, markOf}
+use Rattle.row_cells.specs.Codes.{planeOk}
+use Rattle.row_cells.specs.Bits.{has}
+use Rattle.row_cells.specs.Row.{maskOf, rowOf, presentOf, lineOf, motionOf, planeOf, markOf}
 use Rattle.csv_decimal.specs.Decimal.{millionths, quotient, width}
 use Rattle.csv_fields.specs.declared.Number.{Number}
 use Rattle.csv_fields.specs.declared.Number.the-variants as Number

@@ -11,9 +11,9 @@ use lib.Ieee.{Float}
 use lib.Ieee.Fits.{and-i}
 use borrow.Author.Tests.{eq-eqb, ne-eqb, eqb-true}
 use Rattle.floats.specs.Numbers.{bits}
-use Rattle.rows.specs.Codes.{planeOk}
+use Rattle.row_cells.specs.Codes.{planeOk}
 use Rattle.floats.specs.Lists.{all}
-use Rattle.rows.specs.Row.{rowOf}
+use Rattle.row_cells.specs.Row.{rowOf}
 use Rattle.csv_decimal.specs.Decimal.{quotient}
 use Rattle.csv_fields.specs.declared.Number.{Number}
 use Rattle.csv_fields.specs.declared.Number.the-variants as Number

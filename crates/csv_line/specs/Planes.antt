@@ -5,7 +5,7 @@ use mathlib.Core.Bool.{Bool, true, false, _&&_}
 use native.Mathlib.Omega.{arith}
 use lib.Dec.{eqb, leb}
 use borrow.Author.Tests.{leb-true, eqb-true}
-use Rattle.rows.specs.Codes.{planeOk}
+use Rattle.row_cells.specs.Codes.{planeOk}
 
 pub plane-low : (p : ℕ) → planeOk p ≡ true → p < 20
 unfolding planeOk

@@ -10,7 +10,7 @@ use native.Mathlib.Nat.{zero-add, le-of-eq}
 use lib.ListN.{length, take, drop, set, length-drop}
 use lib.Seq.{take-all}
 use Rattle.floats.specs.Lists.{upto, isSome}
-use Rattle.rows.specs.Row.{rowOf, maskOf}
+use Rattle.row_cells.specs.Row.{rowOf, maskOf}
 use Rattle.csv_words.specs.declared.Found.{Found}
 use Rattle.csv_words.specs.declared.Found.the-variants as Found
 use Rattle.csv_words.specs.Words.{motionOf, planeOf}

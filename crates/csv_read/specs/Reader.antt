@@ -8,7 +8,7 @@ use lib.ListN.{length, getD}
 use Rattle.floats.specs.Numbers.{bits}
 use Rattle.floats.specs.Lists.{upto, all}
 use Rattle.layout.specs.Layout.{cells}
-use Rattle.rows.specs.Row.{rowOf}
+use Rattle.row_cells.specs.Row.{rowOf}
 use Rattle.csv_fields.specs.declared.Number.{Number}
 use Rattle.csv_fields.specs.declared.Number.the-variants as Number
 use Rattle.csv_fields.specs.declared.Line.{Line}

@@ -14,8 +14,9 @@ use borrow.Author.Tests.{lt-ltb, le-ltb, eq-eqb, ne-eqb}
 use Rattle.floats.specs.Numbers.{num}
 use Rattle.floats.specs.Lists.{upto, flatten, all}
 use Rattle.layout.specs.Layout.{rCells}
-use Rattle.rows.specs.Codes.{planeOk}
-use Rattle.rows.specs.Row.{has, lineOf, motionOf, planeOf, markOf, presentOf}
+use Rattle.row_cells.specs.Codes.{planeOk}
+use Rattle.row_cells.specs.Bits.{has}
+use Rattle.row_cells.specs.Row.{lineOf, motionOf, planeOf, markOf, presentOf}
 use Rattle.csv_fields.specs.declared.Placed.{Placed}
 use Rattle.csv_fields.specs.declared.Placed.the-variants as Placed
 use Rattle.csv_fields.specs.Out.{Wrote, wrote-then, wrote-length}

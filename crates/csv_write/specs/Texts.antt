@@ -12,8 +12,9 @@ use borrow.Author.Tests.{ltb-true}
 use Rattle.floats.specs.Numbers.{num}
 use Rattle.floats.specs.Lists.{upto, flatten, all}
 use Rattle.layout.specs.Layout.{rCells}
-use Rattle.rows.specs.Codes.{planeOk}
-use Rattle.rows.specs.Row.{has, lineOf, motionOf, planeOf, markOf, presentOf}
+use Rattle.row_cells.specs.Codes.{planeOk}
+use Rattle.row_cells.specs.Bits.{has}
+use Rattle.row_cells.specs.Row.{lineOf, motionOf, planeOf, markOf, presentOf}
 use Rattle.csv_decimal.specs.Decimal.{millionths}
 use Rattle.csv_fields.specs.Write.{figures, wholeText, millionthsText, numberText, shown}
 use Rattle.csv_fields.specs.Figures.{figures-length}

@@ -9,8 +9,9 @@ use lib.Seq.{sets}
 use Rattle.floats.specs.Numbers.{num}
 use Rattle.floats.specs.Lists.{upto, flatten, all}
 use Rattle.layout.specs.Layout.{rCells, rowWords}
-use Rattle.rows.specs.Codes.{planeOk}
-use Rattle.rows.specs.Row.{has, lineOf, motionOf, planeOf, markOf, presentOf}
+use Rattle.row_cells.specs.Codes.{planeOk}
+use Rattle.row_cells.specs.Bits.{has}
+use Rattle.row_cells.specs.Row.{lineOf, motionOf, planeOf, markOf, presentOf}
 use Rattle.csv_fields.specs.Write.{wholeText, numberText, shown}
 use Rattle.csv_fields.specs.declared.Placed.{Placed}
 use Rattle.csv_fields.specs.declared.Placed.the-variants as Placed

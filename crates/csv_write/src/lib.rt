@@ -16,7 +16,7 @@ ghost use mathlib.Core.List.{_∷_, _++_};
 ghost use Prim.Native.Nat.{_+_, _*_, _≤_, _<_};
 ghost use lib.ListN.{length};
 ghost use Rattle.floats.specs.Lists.{all};
-ghost use Rattle.rows.specs.Row.{motionOf, planeOf};
+ghost use Rattle.row_cells.specs.Row.{motionOf, planeOf};
 ghost use Rattle.csv_fields.specs.Out.{Wrote};
 ghost use Rattle.csv_line.specs.LineText.{comma, crlf, tailed, joined};
 ghost use Rattle.csv_write.specs.Writer.{cellText, cellShown, cellTexts, headFields, markText, rowText, writable, rowsText, rowsWritable, Tried};
@@ -32,7 +32,7 @@ fn put_cell(row: &[u64], out: &mut [u8], n: usize, i: usize) -> Placed
 {
     let at = put_byte(out, n, b',');
     let code = code_at(i);
-    if rows::has_bit(row[R_PRESENT], code as u64) {
+    if row_cells::has_bit(row[R_PRESENT], code as u64) {
         return csv_fields::put_number(out, at, floats::of_bits(row[R_CELLS + code]));
     }
     Placed::Upto(at)
@@ -90,7 +90,7 @@ pub fn write_row(row: &[u64], out: &mut [u8], n: usize) -> Placed
     if row[R_MOTION] >= MOTIONS {
         return Placed::Refused;
     }
-    if !rows::plane_ok(row[R_PLANE]) {
+    if !row_check::plane_ok(row[R_PLANE]) {
         return Placed::Refused;
     }
     let a = put_head(row, out, n);

@@ -11,11 +11,11 @@ use borrow.Author.Tests.{eqb-true, eqb-false, ne-eqb, leb-true, leb-false, ltb-t
 use Rattle.layout.specs.Layout.{axisCodes, rowWords, wKnown, wStart, stateWords, mostHeld, mostDegree}
 use Rattle.motion.specs.Motion.{isSpline}
 use Rattle.floats.specs.Lists.{all}
-use Rattle.rows.specs.Row.{shapeOk, numbersOk, turnOk, rowCheck}
-use Rattle.rows.specs.Masks.{has-past}
+use Rattle.row_check.specs.Check.{shapeOk, numbersOk, turnOk, rowCheck}
+use Rattle.row_cells.specs.Masks.{has-past}
 use Rattle.floats.specs.Truth.{by-bit, cond-t, cond-f, and-left, and-right}
-use Rattle.saved_state.specs.State.{tolOk, axisCount, axesOk, motionNow, planeNow, degree, pointAtOk, pointOk, pointWord, position, curveStart, heldOk}
-use Rattle.saved_state.specs.State.{stateOk, storeOk, savedCheck, held, heldRowOk}
+use Rattle.saved_state.specs.State.{tolOk, axisCount, axesOk, motionNow, planeNow, degree, pointAtOk, pointOk, pointWord, position, curveStart}
+use Rattle.saved_state.specs.State.{heldOk, stateOk, storeOk, savedCheck, held, heldRowOk}
 use Rattle.push_check.specs.Blocks.{kept, motionThen, isFull, pushCheck}
 
 -- a chain of tests answers 0 only where every one passes

@@ -10,7 +10,7 @@ use Rattle.floats.specs.Truth.{by-bit, cond-t, cond-f}
 use Rattle.call_reply.specs.declared.Reply.{Reply}
 use Rattle.floats.specs.Lists.{flatten, spliced, all}
 use Rattle.layout.specs.Layout.{rowWords}
-use Rattle.rows.specs.Row.{shapeOk, numbersOk, turnOk, rowCheck}
+use Rattle.row_check.specs.Check.{shapeOk, numbersOk, turnOk, rowCheck}
 use Rattle.saved_state.specs.State.{stateOk, storeOk, held, heldRowOk, savedCheck}
 use Rattle.call_reply.specs.Replies.{plain, After, AfterState, StateIs, tooFew, PushIs}
 use Rattle.push_check.specs.Blocks.{isFull, pushCheck}

@@ -14,8 +14,9 @@ use Rattle.layout.specs.Layout.{axisCodes}
 use Rattle.motion.specs.Motion.{gOne, kindOf, splineKind, isSpline}
 use Rattle.motion.specs.declared.Kind.{Kind}
 use Rattle.motion.specs.declared.Kind.the-variants.{Same, Linear, Clockwise, Counter, Akima, Basis, Cubic, Other, Refused}
-use Rattle.rows.specs.Codes.{planeU, planeV}
-use Rattle.rows.specs.Row.{cell, lineOf, markOf, madeRow}
+use Rattle.row_cells.specs.Codes.{planeU, planeV}
+use Rattle.row_cells.specs.Row.{cell, lineOf, markOf}
+use Rattle.row_put.specs.Made.{madeRow}
 use Rattle.floats.specs.Truth.{by-bit, cond-t, cond-f}
 use Rattle.arc_rows.specs.Arc.{Answer, passed, silent, Centre, centred, warned, Ends, Arc, wantedOf, countOf, lastCell, midCell, arcRow, arcRows, fromCentre}
 use Rattle.arc_rows.specs.Arc.{fromStart, arcAnswer}

@@ -12,7 +12,7 @@ use Rattle.call_reply.specs.declared.Reply.{Reply}
 use Rattle.floats.specs.Lists.{member, all}
 use Rattle.floats.specs.Fill.{length-upto}
 use Rattle.layout.specs.Layout.{stateWords, lastCode}
-use Rattle.rows.specs.Row.{within, shapeOk, numbersOk, turnOk, rowCheck}
+use Rattle.row_check.specs.Check.{within, shapeOk, numbersOk, turnOk, rowCheck}
 use Rattle.saved_state.specs.State.{stateOk, storeOk, tolOk, codesOk, geometric, held, heldRowOk, savedCheck}
 use Rattle.call_reply.specs.Replies.{plain, AfterState, tooFew}
 use Rattle.call_start.specs.Start.{freshWord, fresh, startSpec}

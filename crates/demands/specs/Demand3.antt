@@ -7,7 +7,7 @@ use native.Mathlib.Omega.{arith}
 use lib.ListN.{length}
 use lib.Dec.{eqb}
 use Rattle.layout.specs.Layout.{stateWords}
-use Rattle.rows.specs.Codes.{geometricOf}
+use Rattle.row_cells.specs.Codes.{geometricOf}
 use Rattle.floats.specs.Truth.{by-bit}
 use Rattle.saved_state.specs.State.{tolOk, codesOk}
 use Rattle.call_start.specs.Start.{fresh, startSpec}

@@ -11,8 +11,8 @@ use Rattle.call_reply.specs.declared.Reply.{Reply}
 use Rattle.floats.specs.Numbers.{num, f1}
 use Rattle.floats.specs.Lists.{member, flatten}
 use Rattle.layout.specs.Layout.{rowWords, lastCode}
-use Rattle.rows.specs.Codes.{geometricOf}
-use Rattle.rows.specs.Row.{lineOf, motionOf, planeOf, markOf, carryOf, cell}
+use Rattle.row_cells.specs.Codes.{geometricOf}
+use Rattle.row_cells.specs.Row.{lineOf, motionOf, planeOf, markOf, carryOf, cell}
 use Rattle.call_reply.specs.Replies.{After, AfterState}
 use Rattle.call_start.specs.Start.{startSpec}
 use Rattle.call_start.specs.Seed.{seedSpec}

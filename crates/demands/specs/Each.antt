@@ -14,9 +14,12 @@ use Rattle.floats.specs.Lists.{keep, member, anyOf, opt}
 use Rattle.floats.specs.Fill.{at-upto}
 use Rattle.layout.specs.Layout.{axisCodes, cPW, mostHeld}
 use Rattle.motion.specs.Motion.{isSpline}
-use Rattle.rows.specs.Row.{has, cell, number, presentOf, hasPoint, outRow, within}
+use Rattle.row_cells.specs.Bits.{has}
+use Rattle.row_cells.specs.Row.{cell, number, presentOf, hasPoint, outRow}
+use Rattle.row_check.specs.Check.{within}
 use Rattle.floats.specs.Truth.{by-bit, and-left, cond-t, cond-f}
-use Rattle.rows.specs.RowLaws.{out-line, out-plane, out-carry, out-cell, out-point, out-check, check-cell-within, shape-present}
+use Rattle.row_cells.specs.RowLaws.{out-line, out-plane, out-carry, out-cell, out-point}
+use Rattle.row_check.specs.CheckLaws.{out-check, check-cell-within, shape-present}
 use Rattle.spline_emission.specs.Emission.{Spline, splineGroups, heldGroup, runsOf, weightOf}
 use Rattle.demands.specs.Laws.{some-same, none-some, cond-both, Every, nil, more, every-append}
 use Rattle.demands.specs.Groups.{Event, block, Standing, atFirst, movedByBlock, movedBySeed, motionWith, goesOn, withBlock, withSeed, withClose}

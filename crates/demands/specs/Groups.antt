@@ -9,8 +9,9 @@ use Rattle.floats.specs.Numbers.{num}
 use Rattle.floats.specs.Lists.{member, anyOf}
 use Rattle.layout.specs.Layout.{cSD}
 use Rattle.motion.specs.Motion.{gOne, isSpline, kindOf}
-use Rattle.rows.specs.Codes.{geometricOf}
-use Rattle.rows.specs.Row.{cell, number, motionOf, planeOf, presentOf, has, hasPoint, outRow}
+use Rattle.row_cells.specs.Codes.{geometricOf}
+use Rattle.row_cells.specs.Row.{cell, number, motionOf, planeOf, presentOf, hasPoint, outRow}
+use Rattle.row_cells.specs.Bits.{has}
 use Rattle.spline_emission.specs.Emission.{Spline, splineGroups}
 use Rattle.push_check.specs.Blocks.{orNow}
 use Rattle.push_rows.specs.Answer.{answerAs}

@@ -16,14 +16,17 @@ use Rattle.floats.specs.Splice.{length-spliced}
 use Rattle.whole.specs.Whole.{truncCount}
 use Rattle.layout.specs.Layout.{axisCodes, rowWords, rCells, wMotion, wPlane, wKnown, wWarned, wStart, wDegree, wHeld, stateWords, mostHeld, mostDegree, cSD}
 use Rattle.motion.specs.Motion.{isSpline}
-use Rattle.rows.specs.Codes.{planeOk}
-use Rattle.rows.specs.Row.{has, within, number, motionOf, planeOf, presentOf, rowCheck, outRow}
-use Rattle.rows.specs.RowLaws.{check-motion, check-plane, check-shape, check-within, out-check, out-motion, length-out}
+use Rattle.row_cells.specs.Codes.{planeOk}
+use Rattle.row_cells.specs.Bits.{has, withBit}
+use Rattle.row_check.specs.Check.{within, rowCheck}
+use Rattle.row_cells.specs.Row.{number, motionOf, planeOf, presentOf, outRow}
+use Rattle.row_check.specs.CheckLaws.{check-motion, check-plane, check-shape, check-within, out-check}
+use Rattle.row_cells.specs.RowLaws.{out-motion, length-out}
 use Rattle.floats.specs.Truth.{or-t, or-f, and-i, and-left, and-right, cond-t, cond-f, all-at, all-more, all-intro, by-bit}
-use Rattle.rows.specs.Masks.{has-none}
-use Rattle.saved_state.specs.State.{axisCount, motionNow, planeNow, degree, held, geometric, tolOk, codesOk, axesOk, pointAtOk, pointOk, heldOk, stateOk}
-use Rattle.saved_state.specs.State.{storeOk, heldRow, heldRowOk, savedCheck, pointWord, position, withBit, placed}
-use Rattle.saved_state.specs.StateLaws.{Good, good, good-ok, good-few, axes-few, point-small, geometric-small, with-other, with-lt}
+use Rattle.row_cells.specs.Masks.{has-none, with-other, with-lt}
+use Rattle.saved_state.specs.State.{axisCount, motionNow, planeNow, degree, held, geometric, tolOk, codesOk, axesOk, pointAtOk, pointOk, heldOk}
+use Rattle.saved_state.specs.State.{stateOk, storeOk, heldRow, heldRowOk, savedCheck, pointWord, position, placed}
+use Rattle.saved_state.specs.StateLaws.{Good, good, good-ok, good-few, axes-few, point-small, geometric-small}
 use Rattle.call_start.specs.Seed.{seeded}
 use Rattle.push_check.specs.Blocks.{orNow, motionThen, planeThen, emits, kept, isFull, news}
 use Rattle.push_state.specs.Pushed.{forgotten, opened, degreeWith, buffered, pushState, pushStore, trackTo}

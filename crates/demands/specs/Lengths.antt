@@ -13,9 +13,10 @@ use Rattle.floats.specs.Fill.{length-upto}
 use Rattle.floats.specs.Splice.{length-spliced}
 use Rattle.layout.specs.Layout.{axisCodes, cSD, rowWords, wMotion, wPlane, wKnown, wWarned, wStart, wDegree, wHeld, stateWords, mostHeld}
 use Rattle.motion.specs.Motion.{isSpline}
-use Rattle.rows.specs.Row.{has, motionOf, presentOf, number, outRow}
+use Rattle.row_cells.specs.Bits.{has, withBit}
+use Rattle.row_cells.specs.Row.{motionOf, presentOf, number, outRow}
 use Rattle.floats.specs.Truth.{by-bit}
-use Rattle.saved_state.specs.State.{held, degree, position, geometric, withBit, placed}
+use Rattle.saved_state.specs.State.{held, degree, position, geometric, placed}
 use Rattle.push_check.specs.Blocks.{emits, kept, motionThen, planeThen, news}
 use Rattle.push_state.specs.Pushed.{forgotten, opened, degreeWith, buffered, trackTo, pushState, pushStore}
 use Rattle.call_close.specs.Close.{fits}

@@ -12,7 +12,7 @@ use borrow.Author.Tests.{eqb-true, eqb-false, ne-eqb}
 use Rattle.floats.specs.Numbers.{num}
 use Rattle.floats.specs.Fill.{length-upto}
 use Rattle.motion.specs.Motion.{isSpline, kindOf}
-use Rattle.rows.specs.Row.{motionOf, outRow}
+use Rattle.row_cells.specs.Row.{motionOf, outRow}
 use Rattle.floats.specs.Truth.{by-bit, cond-t, cond-f}
 use Rattle.spline_emission.specs.Emission.{Spline, splineGroups}
 use Rattle.push_check.specs.Blocks.{orNow}

@@ -12,7 +12,7 @@ use borrow.Author.Tests.{eqb-true, eq-eqb}
 use Rattle.floats.specs.Lists.{flatten, spliced}
 use Rattle.floats.specs.Splice.{spliced-none}
 use Rattle.layout.specs.Layout.{rowWords, stateWords, lastCode}
-use Rattle.rows.specs.Row.{within}
+use Rattle.row_check.specs.Check.{within}
 use Rattle.floats.specs.Truth.{by-bit, cond-t}
 use Rattle.saved_state.specs.State.{tolOk, codesOk, stateOk, held, savedCheck}
 use Rattle.call_reply.specs.Replies.{After, plain}

@@ -14,7 +14,8 @@ use Rattle.layout.specs.Layout.{rowWords, cells}
 use Rattle.motion.specs.Motion.{splineKind}
 use Rattle.motion.specs.declared.Kind.{Kind}
 use Rattle.motion.specs.declared.Kind.the-variants.{Same, Linear, Clockwise, Counter, Akima, Basis, Cubic, Other, Refused}
-use Rattle.rows.specs.Row.{rowOf, outRow, madeRow, cell, withRiders, lineOf, motionOf, planeOf, carryOf, hasPoint}
+use Rattle.row_cells.specs.Row.{rowOf, outRow, cell, lineOf, motionOf, planeOf, carryOf, hasPoint}
+use Rattle.row_put.specs.Made.{madeRow, withRiders}
 use Rattle.arc_rows.specs.Arc.{Answer, silent, passed, arcAnswer, fromStart, fromCentre, arcRows, arcRow, Centre, centred, warned, Ends, Arc}
 use Rattle.spline_emission.specs.Emission.{Spline, splineGroups, heldGroup, pointGroup}
 use Rattle.saved_state.specs.State.{held}

@@ -14,10 +14,15 @@ use Rattle.floats.specs.Numbers.{num}
 use Rattle.floats.specs.Lists.{upto, member, isSome}
 use Rattle.floats.specs.Fill.{length-upto, at-upto, lt-or-le}
 use Rattle.layout.specs.Layout.{cells, lastCode}
-use Rattle.rows.specs.Row.{has, cell, lineOf, planeOf, markOf, carryOf, presentOf, rowOf, outRow, rides, withRiders, madeRow, within}
+use Rattle.row_cells.specs.Bits.{has, maskSum}
+use Rattle.row_cells.specs.Row.{cell, lineOf, planeOf, markOf, carryOf, presentOf, rowOf, outRow}
+use Rattle.row_put.specs.Made.{rides, withRiders, madeRow, madeCell}
+use Rattle.row_check.specs.Check.{within}
 use Rattle.floats.specs.Truth.{by-bit, cond-t, cond-f}
-use Rattle.rows.specs.Masks.{maskSum, mask-lt, has-past}
-use Rattle.rows.specs.RowLaws.{row-present, out-line, out-plane, out-carry, out-cell, made-is, made-cell, madeCell, check-cell-within}
+use Rattle.row_cells.specs.Masks.{mask-lt, has-past}
+use Rattle.row_cells.specs.RowLaws.{row-present, out-line, out-plane, out-carry, out-cell}
+use Rattle.row_put.specs.MadeLaws.{made-is, made-cell}
+use Rattle.row_check.specs.CheckLaws.{check-cell-within}
 use Rattle.demands.specs.Demands.{Bare, Carries, rowAt, lastRow}
 use Rattle.demands.specs.Laws.{none-some}
 use Rattle.demands.specs.Accepted.{Fine, fine-check}

@@ -9,7 +9,8 @@ use lib.Dec.{eqb}
 use borrow.Author.Tests.{eqb-true}
 use Rattle.layout.specs.Layout.{mostHeld}
 use Rattle.motion.specs.Motion.{isSpline}
-use Rattle.rows.specs.Row.{motionOf, within}
+use Rattle.row_cells.specs.Row.{motionOf}
+use Rattle.row_check.specs.Check.{within}
 use Rattle.floats.specs.Truth.{by-bit, cond-t}
 use Rattle.demands.specs.Laws.{Every, nil, more}
 use Rattle.demands.specs.Groups.{Event, seed, block, closed, Standing, motionWith, goesOn, withBlock, withSeed, withClose, together}

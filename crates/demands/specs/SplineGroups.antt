@@ -20,7 +20,9 @@ use Rattle.floats.specs.Fill.{at-upto}
 use Rattle.floats.specs.FloatLaws.{one, one-is, tidy, fits-unique}
 use Rattle.layout.specs.Layout.{axisCodes}
 use Rattle.motion.specs.Motion.{gOne}
-use Rattle.rows.specs.Row.{cell, hasPoint, markOf, outRow, madeRow, within}
+use Rattle.row_cells.specs.Row.{cell, hasPoint, markOf, outRow}
+use Rattle.row_put.specs.Made.{madeRow}
+use Rattle.row_check.specs.Check.{within}
 use Rattle.floats.specs.Truth.{by-bit, and-left, and-right, cond-t, cond-f}
 use Rattle.curve_metric.specs.Metric.{pointOf}
 use Rattle.curve_metric.specs.Ends.{EndsWith, ends-last}

@@ -15,10 +15,12 @@ use Rattle.floats.specs.Lists.{keep, member, opt}
 use Rattle.floats.specs.Fill.{at-upto}
 use Rattle.floats.specs.FloatLaws.{modest}
 use Rattle.layout.specs.Layout.{axisCodes, cells, cPW}
-use Rattle.rows.specs.Row.{has, cell, number, presentOf, within}
+use Rattle.row_cells.specs.Bits.{has}
+use Rattle.row_cells.specs.Row.{cell, number, presentOf}
+use Rattle.row_check.specs.Check.{within}
 use Rattle.floats.specs.Truth.{by-bit, and-right, or-f, cond-t, cond-f}
-use Rattle.rows.specs.Masks.{member-append, member-keep}
-use Rattle.rows.specs.RowLaws.{check-cell-within}
+use Rattle.row_cells.specs.Masks.{member-append, member-keep}
+use Rattle.row_check.specs.CheckLaws.{check-cell-within}
 use Rattle.curve_metric.specs.Metric.{pointOf}
 use Rattle.spline_emission.specs.Emission.{channelsFrom, firstCell, nextPoint, pointsFrom, weightOf}
 use Rattle.demands.specs.Laws.{Every, every-head, every-tail}

@@ -14,7 +14,7 @@ use lib.Ieee.{Float, nan, le}
 use Rattle.floats.specs.Numbers.{_⊖_, 1e-12, num, at}
 use Rattle.floats.specs.Lists.{member, opt}
 use Rattle.floats.specs.Fill.{length-upto, at-upto}
-use Rattle.rows.specs.Row.{cell, number}
+use Rattle.row_cells.specs.Row.{cell, number}
 use Rattle.floats.specs.Truth.{by-bit, cond-t, cond-f}
 use Rattle.curve_metric.specs.Metric.{pointOf, chords}
 use Rattle.curve_metric.specs.Walk.{Sample}

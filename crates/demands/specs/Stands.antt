@@ -14,10 +14,11 @@ use Rattle.floats.specs.Lists.{upto, member, spliced, all}
 use Rattle.floats.specs.Fill.{length-upto, at-upto}
 use Rattle.layout.specs.Layout.{axisCodes, cSD, rowWords, wAxes, wKnown, wStart, wMotion, wPlane, wDegree, wHeld, stateWords, mostHeld}
 use Rattle.motion.specs.Motion.{isSpline}
-use Rattle.rows.specs.Codes.{geometricOf}
-use Rattle.rows.specs.Row.{has, cell, number, motionOf, planeOf, presentOf, outRow}
+use Rattle.row_cells.specs.Codes.{geometricOf}
+use Rattle.row_cells.specs.Bits.{has}
+use Rattle.row_cells.specs.Row.{cell, number, motionOf, planeOf, presentOf, outRow}
 use Rattle.floats.specs.Truth.{by-bit, cond-t, cond-f, and-left}
-use Rattle.rows.specs.Masks.{has-none, member-keep}
+use Rattle.row_cells.specs.Masks.{has-none, member-keep}
 use Rattle.saved_state.specs.State.{tolerance, axisCount, geometric, codeOk, codesOk, placed, motionNow, planeNow, held, degree, pointWord, position}
 use Rattle.saved_state.specs.State.{curveStart, heldRow, heldRows}
 use Rattle.call_start.specs.Start.{freshWord, fresh}

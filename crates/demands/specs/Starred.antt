@@ -9,8 +9,11 @@ use Rattle.root.specs.Root as Root
 use Rattle.whole.specs.Whole as Whole
 use Rattle.trig.specs.Trig as Trig
 use Rattle.motion.specs.Motion as Motion
-use Rattle.rows.specs.Codes as Codes
-use Rattle.rows.specs.Row as Row
+use Rattle.row_cells.specs.Codes as Codes
+use Rattle.row_cells.specs.Row as Row
+use Rattle.row_cells.specs.Bits as Bits
+use Rattle.row_put.specs.Made as Made
+use Rattle.row_check.specs.Check as Check
 use Rattle.arc_rows.specs.Arc as Arc
 use Rattle.curve_metric.specs.Metric as Metric
 use Rattle.curve_metric.specs.Walk as Walk
@@ -71,8 +74,8 @@ unfoldable pub asked : ℕ → List Call → List ℕ
 unfolding Lists.upto Lists.keep Lists.member Lists.anyOf Lists.flatten Lists.rowsOf Lists.spliced Lists.Agrees Root.floorRoot Root.rootUnits Root.sqrt
     Whole.ceilCount Whole.halfUpCount Whole.truncCount Trig.sinSteps Trig.cosSteps Trig.atanFrom Trig.atanRight Trig.atanLeft Trig.atanUp Trig.atan2Steps
     Trig.acosSteps Motion.kindOf Motion.isSpline Motion.isOther Motion.isBasis Motion.isCubic Codes.planeU Codes.planeV Codes.planeOk Codes.geometricOf
-    Row.has Lists.all Row.cell Row.number Row.shown Row.axesOf Row.maskOf Row.rowOf Row.outRow Row.hasPoint Row.rides Row.withRiders Row.madeRow
-    Row.shapeOk Row.within Row.cellOk Row.numbersOk Row.above1000 Row.turnOk Row.rowCheck Arc.passed Arc.silent Arc.sideOf Arc.crCentre Arc.centreOf
+    Bits.has Lists.all Row.cell Row.number Row.shown Row.axesOf Row.maskOf Row.rowOf Row.outRow Row.hasPoint Made.rides Made.withRiders Made.madeRow
+    Check.shapeOk Check.within Check.cellOk Check.numbersOk Check.above1000 Check.turnOk Check.rowCheck Arc.passed Arc.silent Arc.sideOf Arc.crCentre Arc.centreOf
     Arc.radius Arc.wideCentre Arc.agree Arc.sweepLeft Arc.sweepOf Arc.turned Arc.arcOf Arc.stepOf Arc.wantedOf Arc.countOf Arc.ramp Arc.lastCell
     Arc.midCell Arc.arcRow Arc.heldAxes Arc.arcRows Arc.fromCentre Arc.fromStart Arc.arcAnswer Metric.dotTo Metric.lenTo Metric.along Metric.distTo
     Metric.deviationOf Metric.chordTo Metric.chords Walk.near Walk.flat Walk.samples Basis.degreeOf Basis.knots Basis.share Basis.raisedAt Basis.levels
@@ -80,7 +83,7 @@ unfolding Lists.upto Lists.keep Lists.member Lists.anyOf Lists.flatten Lists.row
     Basis.basisRuns Runs.curveRuns Emission.pointRows Emission.channelsFrom Emission.channels Emission.firstCell Emission.startPoint Emission.nextPoint
     Emission.pointsFrom Emission.metricOf Emission.weightOf Emission.runsOf Emission.placeOf Emission.sampleCell Emission.ownCell Emission.isMarked
     Emission.pointGroup Emission.heldGroup Emission.splineGroups State.geometric State.pointWord State.tolOk State.codeOk State.codesOk State.axesOk
-    State.pointAtOk State.pointOk State.heldOk State.stateOk State.storeOk State.heldRows State.heldRowOk State.savedCheck State.withBit State.placed
+    State.pointAtOk State.pointOk State.heldOk State.stateOk State.storeOk State.heldRows State.heldRowOk State.savedCheck Bits.withBit State.placed
     Start.freshWord Start.fresh Start.startSpec Held.heldSpline Blocks.orNow Blocks.emits Blocks.kept Held.emission Own.answerAs Own.ownAnswer Blocks.news
     Pushed.trackTo Pushed.forgotten Pushed.opened Pushed.degreeWith Pushed.buffered Pushed.pushState Pushed.pushStore Push.pushRows Blocks.isFull
     Blocks.pushCheck Close.untouched Replies.tooFew Push.pushDone Push.pushSpec Close.closeRows Close.closeState Close.closeSpec Demands.answer

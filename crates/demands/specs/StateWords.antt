@@ -16,11 +16,12 @@ use Rattle.floats.specs.Fill.{length-upto, at-upto}
 use Rattle.floats.specs.Splice.{length-spliced}
 use Rattle.layout.specs.Layout.{axisCodes, cSD, rCells, wAxes, wMotion, wPlane, wKnown, wWarned, wStart, wDegree, wHeld, stateWords}
 use Rattle.motion.specs.Motion.{isSpline}
-use Rattle.rows.specs.Codes.{geometricOf}
-use Rattle.rows.specs.Row.{has, presentOf, motionOf, number}
+use Rattle.row_cells.specs.Codes.{geometricOf}
+use Rattle.row_cells.specs.Bits.{has, withBit}
+use Rattle.row_cells.specs.Row.{presentOf, motionOf, number}
 use Rattle.floats.specs.Truth.{by-bit, cond-t, cond-f}
-use Rattle.rows.specs.Masks.{add-same, add-other}
-use Rattle.saved_state.specs.State.{axisCount, geometric, motionNow, planeNow, held, degree, pointWord, position, curveStart, withBit, placed}
+use Rattle.row_cells.specs.Masks.{add-same, add-other}
+use Rattle.saved_state.specs.State.{axisCount, geometric, motionNow, planeNow, held, degree, pointWord, position, curveStart, placed}
 use Rattle.push_check.specs.Blocks.{emits, motionThen, planeThen, news}
 use Rattle.push_state.specs.Pushed.{forgotten, opened, degreeWith, buffered, trackTo, pushState}
 use Rattle.demands.specs.Laws.{cond-both}

@@ -10,9 +10,11 @@ use borrow.Author.Tests.{eqb-true, le-leb}
 use Rattle.floats.specs.Lists.{member, all}
 use Rattle.floats.specs.Fill.{length-upto}
 use Rattle.layout.specs.Layout.{rowWords, wAxes, wMotion, wPlane, wKnown, wStart, wDegree, wHeld, stateWords}
-use Rattle.rows.specs.Row.{within, rowCheck, motionOf}
+use Rattle.row_check.specs.Check.{within, rowCheck}
+use Rattle.row_cells.specs.Row.{motionOf}
 use Rattle.floats.specs.Truth.{by-bit, cond-t, cond-f, and-i, all-ext}
-use Rattle.saved_state.specs.State.{tolOk, codesOk, axesOk, axisCount, motionNow, held, geometric, heldRow, heldRowOk, stateOk, storeOk, savedCheck, placed}
+use Rattle.saved_state.specs.State.{tolOk, codesOk, axesOk, axisCount, motionNow, held, geometric, heldRow, heldRowOk, stateOk, storeOk, savedCheck}
+use Rattle.saved_state.specs.State.{placed}
 use Rattle.saved_state.specs.StateLaws.{Good, good-ok, geometric-small}
 use Rattle.demands.specs.Keeps.{no-point, none-held, seeded-ok, close-saved, push-saved}
 use Rattle.call_reply.specs.Replies.{After, AfterState, plain}

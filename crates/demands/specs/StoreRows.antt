@@ -9,7 +9,7 @@ use lib.Seq.{take-at, drop-at, take-take, length-take-le, drop-append-le, take-a
 use Rattle.floats.specs.Lists.{upto, spliced}
 use Rattle.floats.specs.Fill.{upto-below}
 use Rattle.layout.specs.Layout.{rowWords}
-use Rattle.rows.specs.Row.{outRow}
+use Rattle.row_cells.specs.Row.{outRow}
 use Rattle.saved_state.specs.State.{heldRow}
 use Rattle.demands.specs.RowLengths.{outRow-long}
 

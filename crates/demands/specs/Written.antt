@@ -16,7 +16,8 @@ use Rattle.floats.specs.Lists.{flatten, spliced}
 use Rattle.floats.specs.Fill.{lt-or-le}
 use Rattle.layout.specs.Layout.{axisCodes, lastCode, rowWords}
 use Rattle.motion.specs.Motion.{isSpline, kindOf}
-use Rattle.rows.specs.Row.{planeOf, within, outRow}
+use Rattle.row_cells.specs.Row.{planeOf, outRow}
+use Rattle.row_check.specs.Check.{within}
 use Rattle.floats.specs.Truth.{by-bit, cond-t, cond-f, and-left, and-right}
 use Rattle.spline_emission.specs.Emission.{Spline, splineGroups}
 use Rattle.saved_state.specs.State.{stateOk, held, position, curveStart, tolerance, motionNow, degree, savedCheck}

@@ -47,9 +47,12 @@ cPL = cSD + 1
 abbrev pub cells : ℕ
 cells = cPL + 1
 
--- Masks of cells and of axes are below these
+-- Masks of cells, of the codes of a list and of axes are below these
 abbrev pub cellMasks : ℕ
 cellMasks = 2 ^ cells
+
+abbrev pub listMasks : ℕ
+listMasks = 2 ^ listCodes
 
 abbrev pub axisMasks : ℕ
 axisMasks = 2 ^ axisCodes

@@ -31,8 +31,10 @@ pub const C_PL: usize = C_SD + 1;
 
 pub const CELLS: usize = C_PL + 1;
 
-// Masks of cells and of axes are below these.
+// Masks of cells, of the codes of a list and of axes are below these.
 pub const CELL_MASKS: u64 = 1 << CELLS as u64;
+
+pub const LIST_MASKS: u64 = 1 << LIST_CODES as u64;
 
 pub const AXIS_MASKS: u64 = 1 << AXIS_CODES as u64;
 

@@ -10,12 +10,14 @@ use lib.ListN.{length, getD}
 use borrow.Author.Tests.{leb-false, eq-eqb, ne-eqb, eqb-true, eqb-false}
 use Rattle.layout.specs.Layout.{rowWords, stateWords, listCodes, mostHeld, wWarned}
 use Rattle.motion.specs.Motion.{kindOf, splineKind, isSpline, isOther, lastMotion}
-use Rattle.rows.specs.Row.{has, rowCheck, motionOf}
-use Rattle.rows.specs.RowLaws.{check-length, check-motion}
+use Rattle.row_cells.specs.Bits.{has}
+use Rattle.row_check.specs.Check.{rowCheck}
+use Rattle.row_cells.specs.Row.{motionOf}
+use Rattle.row_check.specs.CheckLaws.{check-length, check-motion}
 use Rattle.floats.specs.Truth.{by-bit, and-t, cond-t, cond-f}
-use Rattle.saved_state.specs.State.{axisCount, held, motionNow, stateOk, savedCheck}
-use Rattle.saved_state.specs.StateLaws.{Listed, Good, good, axes-few}
-use Rattle.saved_state.specs.Axes.{geometricMask}
+use Rattle.saved_state.specs.State.{axisCount, held, motionNow, stateOk, savedCheck, geometricMask}
+use Rattle.saved_state.specs.Asks.{Listed}
+use Rattle.saved_state.specs.StateLaws.{Good, good, axes-few}
 use Rattle.push_check.specs.Blocks.{motionThen, planeThen, emits, kept, news, isFull, pushCheck}
 use Rattle.push_check.specs.Resolved.{resolved, due}
 use Rattle.push_check.specs.declared.Resolved.{Resolved}

@@ -6,7 +6,9 @@ use lib.ListN.{length, getD}
 use lib.Dec.{leb, eqb}
 use Rattle.layout.specs.Layout.{rowWords, wWarned, mostHeld}
 use Rattle.motion.specs.Motion.{isSpline, isOther}
-use Rattle.rows.specs.Row.{has, motionOf, planeOf, rowCheck}
+use Rattle.row_cells.specs.Bits.{has}
+use Rattle.row_cells.specs.Row.{motionOf, planeOf}
+use Rattle.row_check.specs.Check.{rowCheck}
 use Rattle.saved_state.specs.State.{motionNow, planeNow, held, savedCheck}
 
 -- "1. A motion cell sets the motion", "2. A plane cell sets the plane": 0 is no cell

@@ -4,7 +4,7 @@ use mathlib.Core.Bool.{cond}
 use mathlib.Core.List.{List}
 use lib.Dec.{eqb}
 use Rattle.motion.specs.Motion.{kindOf}
-use Rattle.saved_state.specs.Axes.{geometricMask}
+use Rattle.saved_state.specs.State.{geometricMask}
 use Rattle.push_check.specs.Blocks.{motionThen, planeThen, emits, kept, news, pushCheck}
 use Rattle.push_check.specs.declared.Resolved.{Resolved}
 use Rattle.push_check.specs.declared.Due.{Due}

@@ -7,15 +7,14 @@ use lib.ListN.{length}
 use Rattle.floats.specs.Lists.{flatten, spliced}
 use Rattle.floats.specs.Splice.{spliced-none}
 use Rattle.layout.specs.Layout.{rowWords}
-use Rattle.rows.specs.Row.{axesOf, outRow}
+use Rattle.row_cells.specs.Row.{axesOf, outRow}
 use Rattle.arc_rows.specs.Plan.{planRows, wayRows, WriteOf}
 use Rattle.arc_rows.specs.declared.Way.the-variants.{Pass}
 use Rattle.arc_sample.specs.Rowing.{flatten-one}
 use mathlib.Core.Option.{Option}
 use Rattle.arc_rows.specs.declared.Plan.{Plan}
-use Rattle.saved_state.specs.State.{position}
+use Rattle.saved_state.specs.State.{position, geometricMask}
 use Rattle.push_check.specs.Blocks.{planeThen}
-use Rattle.saved_state.specs.Axes.{geometricMask}
 use Rattle.push_rows.specs.Own.{OwnPlanned, ownRows, own-write, own-rows, own-no-rows}
 
 -- ---- a block's own rows, written by what the code has at hand

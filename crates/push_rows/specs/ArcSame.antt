@@ -10,9 +10,10 @@ use borrow.Author.Tests.{eqb-true, eq-eqb}
 use Rattle.floats.specs.Lists.{upto, member, anyOf}
 use Rattle.layout.specs.Layout.{axisCodes}
 use Rattle.motion.specs.Motion.{gOne}
-use Rattle.rows.specs.Codes.{planeU, planeV}
-use Rattle.rows.specs.Row.{has, presentOf, hasPoint}
-use Rattle.rows.specs.RowLaws.{made-same}
+use Rattle.row_cells.specs.Codes.{planeU, planeV}
+use Rattle.row_cells.specs.Bits.{has}
+use Rattle.row_cells.specs.Row.{presentOf, hasPoint}
+use Rattle.row_put.specs.MadeLaws.{made-same}
 use Rattle.floats.specs.Truth.{by-bit, or-t, or-f}
 use Rattle.arc_rows.specs.Arc.{Answer, silent, Ends, Arc, Centre, centred, warned, lastCell, midCell, arcRow, heldAxes, arcRows, wantedOf, countOf, fromCentre}
 use Rattle.arc_rows.specs.Arc.{fromStart, arcAnswer}

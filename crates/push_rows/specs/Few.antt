@@ -10,7 +10,7 @@ use Rattle.floats.specs.Fill.{length-upto}
 use Rattle.motion.specs.Motion.{kindOf}
 use Rattle.motion.specs.declared.Kind.{Kind}
 use Rattle.motion.specs.declared.Kind.the-variants.{Same, Linear, Clockwise, Counter, Akima, Basis, Cubic, Other, Refused}
-use Rattle.rows.specs.Codes.{planeU, planeV}
+use Rattle.row_cells.specs.Codes.{planeU, planeV}
 use Rattle.floats.specs.Truth.{by-bit}
 use Rattle.arc_rows.specs.Arc.{Ends, Centre, centred, warned, passed, silent, arcRows, countOf, fromCentre, fromStart, arcAnswer}
 use Rattle.saved_state.specs.State.{tolerance, geometric, position}

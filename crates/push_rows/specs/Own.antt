@@ -14,16 +14,18 @@ use Rattle.layout.specs.Layout.{axisCodes, axisMasks, rowWords, wKnown}
 use Rattle.motion.specs.Motion.{kindOf}
 use Rattle.motion.specs.declared.Kind.{Kind}
 use Rattle.motion.specs.declared.Kind.the-variants.{Same, Linear, Clockwise, Counter, Akima, Basis, Cubic, Other, Refused}
-use Rattle.rows.specs.Row.{has, shown, axesOf, rowCheck}
+use Rattle.row_cells.specs.Bits.{has}
+use Rattle.row_cells.specs.Row.{shown, axesOf}
+use Rattle.row_check.specs.Check.{rowCheck}
 use Rattle.floats.specs.Truth.{by-bit, cond-t, cond-f}
-use Rattle.rows.specs.Masks.{has-past}
+use Rattle.row_cells.specs.Masks.{has-past}
 use Rattle.arc_rows.specs.Arc.{Answer, passed, arcAnswer}
 use Rattle.arc_rows.specs.declared.Way.the-variants.{Pass}
 use Rattle.arc_rows.specs.declared.Plan.{Plan}
 use Rattle.arc_rows.specs.Plan.{passPlan, planRows, wayRows, Planned, WriteOf}
-use Rattle.saved_state.specs.State.{geometric, tolerance, stateOk, pointWord, position}
+use Rattle.saved_state.specs.State.{geometric, tolerance, stateOk, pointWord, position, geometricMask}
 use Rattle.saved_state.specs.StateLaws.{good, point-small}
-use Rattle.saved_state.specs.Axes.{geometricMask, geometric-mask-small, mask-members}
+use Rattle.saved_state.specs.Axes.{geometric-mask-small, mask-members}
 use Rattle.push_check.specs.Blocks.{motionThen, planeThen}
 use Rattle.push_rows.specs.Answer.{answerAs, ownAnswer}
 use Rattle.push_check.specs.BlockLaws.{Block, block}

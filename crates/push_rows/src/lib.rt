@@ -9,7 +9,7 @@ use layout::W_KNOWN;
 use layout::W_TOLERANCE;
 use motion::Kind;
 use push_check::Resolved;
-use rows::put_row;
+use row_put::put_row;
 ghost use mathlib.Core.Path.{_≡_};
 ghost use Prim.Native.Nat.{_+_, _*_, _<_, _≤_};
 ghost use lib.ListN.{length};

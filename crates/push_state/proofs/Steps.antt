@@ -15,11 +15,10 @@ use Rattle.floats.specs.Splice.{Splicing, set-spliced, spliced-spliced}
 use Rattle.whole.specs.Whole.{truncCount}
 use Rattle.layout.specs.Layout.{axisCodes, rCells, wMotion, wPlane, wKnown, wWarned, wStart, wDegree, wHeld, stateWords, mostHeld, mostDegree, cSD}
 use Rattle.motion.specs.Motion.{splineKind, isSpline}
-use Rattle.rows.specs.Masks.{maskSum}
-use Rattle.rows.specs.Row.{has, cell, number, presentOf, motionOf}
+use Rattle.row_cells.specs.Bits.{maskSum, has, withBit}
+use Rattle.row_cells.specs.Row.{cell, number, presentOf, motionOf}
 use Rattle.floats.specs.Truth.{by-bit}
-use Rattle.saved_state.specs.State.{held, degree, pointWord, position, withBit}
-use Rattle.saved_state.specs.Axes.{geometricMask}
+use Rattle.saved_state.specs.State.{held, degree, pointWord, position, geometricMask}
 use Rattle.push_check.specs.declared.Resolved.{Resolved}
 use Rattle.push_check.specs.Resolved.{resolved}
 use Rattle.push_state.specs.Pushed.{forgotten, opened, degreeWith, buffered, trackTo, pushState}

@@ -13,15 +13,16 @@ use lib.Dec.{ltb}
 use borrow.Author.Tests.{eq-eqb, ne-eqb, ltb-true, ltb-false}
 use Rattle.floats.specs.Lists.{member}
 use Rattle.layout.specs.Layout.{axisCodes, rCells}
-use Rattle.rows.specs.Row.{has, presentOf}
+use Rattle.row_cells.specs.Bits.{has, lowest, others}
+use Rattle.row_cells.specs.Row.{presentOf}
 use Rattle.floats.specs.Truth.{by-bit, cond-t, cond-f, and-right}
-use Rattle.rows.specs.Masks.{bit-0, bit-1, has-none}
-use Rattle.rows.specs.BitWalk.{Lowest, lowest, others, lowest-is, out-same, out-other}
-use Rattle.saved_state.specs.State.{geometric, placed}
+use Rattle.row_cells.specs.Masks.{bit-0, bit-1, has-none, out-same, out-other}
+use Rattle.row_cells.specs.BitWalk.{Lowest, lowest-is}
+use Rattle.saved_state.specs.State.{geometric, placed, geometricMask}
 use Rattle.saved_state.specs.StateLaws.{geometric-small}
 use Rattle.push_state.specs.Pushed.{trackTo}
 use Rattle.push_state.specs.PushLaws.{same-to}
-use Rattle.saved_state.specs.Axes.{geometricMask, geometric-mask-small, mask-has-axis}
+use Rattle.saved_state.specs.Axes.{geometric-mask-small, mask-has-axis}
 
 -- ---- the bits that two numbers share
 and-bit : (x y c d : ℕ) → x % 2 ≡ c → y % 2 ≡ d → min c d < 2 → bitAnd x y % 2 ≡ min c d

@@ -12,10 +12,11 @@ use Rattle.floats.specs.Lists.{upto, member, spliced}
 use Rattle.floats.specs.Fill.{length-upto}
 use Rattle.floats.specs.Splice.{length-spliced}
 use Rattle.layout.specs.Layout.{axisCodes, rCells, wAxes, wMotion, wKnown, wStart, wDegree, wHeld, stateWords, cSD}
-use Rattle.rows.specs.Codes.{geometricOf}
-use Rattle.rows.specs.Row.{has, presentOf, number}
+use Rattle.row_cells.specs.Codes.{geometricOf}
+use Rattle.row_cells.specs.Bits.{has, withBit}
+use Rattle.row_cells.specs.Row.{presentOf, number}
 use Rattle.floats.specs.Truth.{by-bit}
-use Rattle.saved_state.specs.State.{axisCount, held, degree, geometric, position, withBit, placed}
+use Rattle.saved_state.specs.State.{axisCount, held, degree, geometric, position, placed}
 use Rattle.push_check.specs.BlockLaws.{Block}
 use Rattle.push_state.specs.Pushed.{trackTo, forgotten, opened, buffered, degreeWith}
 

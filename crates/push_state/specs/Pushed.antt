@@ -10,8 +10,9 @@ use Rattle.floats.specs.Lists.{upto, member, spliced}
 use Rattle.whole.specs.Whole.{truncCount}
 use Rattle.layout.specs.Layout.{axisCodes, cSD, rCells, rowWords, wMotion, wPlane, wKnown, wWarned, wStart, wDegree, wHeld, mostDegree}
 use Rattle.motion.specs.Motion.{isSpline}
-use Rattle.rows.specs.Row.{has, number, motionOf, presentOf, outRow}
-use Rattle.saved_state.specs.State.{degree, held, geometric, position, withBit, placed}
+use Rattle.row_cells.specs.Bits.{has, withBit}
+use Rattle.row_cells.specs.Row.{number, motionOf, presentOf, outRow}
+use Rattle.saved_state.specs.State.{degree, held, geometric, position, placed}
 use Rattle.push_check.specs.Blocks.{motionThen, planeThen, emits, kept, news}
 
 -- ---- the state afterwards. "In every motion positions take the geometric cells present"

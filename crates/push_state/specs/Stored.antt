@@ -7,7 +7,7 @@ use lib.ListN.{length}
 use Rattle.floats.specs.Lists.{spliced}
 use Rattle.layout.specs.Layout.{rowWords, mostHeld}
 use Rattle.motion.specs.Motion.{splineKind, isSpline}
-use Rattle.rows.specs.Row.{outRow}
+use Rattle.row_cells.specs.Row.{outRow}
 use Rattle.push_check.specs.declared.Resolved.{Resolved}
 use Rattle.push_check.specs.Blocks.{isFull}
 use Rattle.push_check.specs.BlockLaws.{Block, full-room}

@@ -1,22 +1,23 @@
--- Masks of codes: those seen in a list so far, and the axes of a list. Assumes nothing.
-use Prim.Native.Nat.{ℕ, _+_, _^_, _<_, _≤_}
+-- LAWS. Masks of codes: those seen in a list so far, and the axes of a list; a point by its mask. Assumes nothing.
+use Prim.Native.Nat.{ℕ, _+_, _<_, _≤_}
 use mathlib.Core.Path.{_≡_, refl, sym, _∙_, ap}
 use mathlib.Core.Bool.{Bool, true, false, _&&_, _||_, not, cond, or-false, or-true, and-false, and-true}
 use mathlib.Core.List.{List}
 use native.Mathlib.Omega.{arith}
-use native.Mathlib.Nat.{mod-eq-of-lt}
 use native.Mathlib.Numerals.{add-one}
 use lib.ListN.{length, getD, take, drop}
 use lib.Dec.{leb, ltb, eqb}
 use borrow.Author.Tests.{eqb-true, eqb-false, ne-eqb, ltb-true, ltb-false, lt-ltb, leb-true}
 use Rattle.floats.specs.Lists.{member, all}
-use Rattle.layout.specs.Layout.{axisCodes, lastCode, wAxes}
-use Rattle.rows.specs.Row.{has, within}
+use Rattle.layout.specs.Layout.{axisCodes, axisMasks, lastCode, listCodes, listMasks, wAxes}
+use Rattle.row_cells.specs.Bits.{has, maskSum, withBit}
+use Rattle.row_check.specs.Check.{within}
 use Rattle.floats.specs.Truth.{by-bit, and-t, and-i, and-left, or-t, or-f, all-intro}
-use Rattle.rows.specs.Masks.{maskSum, mask-same, mask-has, has-none}
-use Rattle.saved_state.specs.State.{axisCount, codeOk, withBit, pointAtOk, pointOk}
-use Rattle.saved_state.specs.StateLaws.{with-same, with-other, with-lt, member-geometric}
-use Rattle.saved_state.specs.Axes.{geometricMask, PointOf, mask-has-axis}
+use Rattle.row_cells.specs.Masks.{mask-same, mask-of, has-none, with-same, with-other, with-lt}
+use Rattle.saved_state.specs.State.{axisCount, codeOk, pointAtOk, pointOk, geometricMask}
+use Rattle.saved_state.specs.StateLaws.{member-geometric}
+use Rattle.saved_state.specs.Asks.{PointOf}
+use Rattle.saved_state.specs.Axes.{mask-has-axis}
 use Rattle.saved_state.specs.Walk.{from-here, member-end}
 
 -- ---- the codes of a list's first i
@@ -24,7 +25,7 @@ abbrev unlike : List ℕ → ℕ → ℕ → Bool
 unlike axes k j = not (eqb (getD axes j 0) k)
 
 pub record Seen (axes : List ℕ) (i seen : ℕ) : Type 0 where
-  pub small : seen < 2 ^ 15
+  pub small : seen < listMasks
   pub marks : (k : ℕ) → has seen k ≡ not (all i (unlike axes k))
   pub ok : all i (codeOk axes) ≡ true
 
@@ -45,7 +46,7 @@ module _ (axes : List ℕ) (i seen : ℕ) (s : Seen axes i seen) where
   pub seen-more : {next : ℕ} → next ≡ withBit seen (getD axes i 0) → codeOk axes i ≡ true → getD axes i 0 ≤ lastCode → Seen axes (i + 1) next
   unfolding all
   seen-more f q l = rw f (record {
-    small = with-lt seen (getD axes i 0) 15 (s .small) (omega arith);
+    small = with-lt seen (getD axes i 0) listCodes (s .small) (omega arith);
     marks = λ k. by-bit (eqb (getD axes i 0) k)
         (λ b. let e : getD axes i 0 ≡ k = eqb-true _ _ b in
         ap (λ (j : ℕ). has (withBit seen (getD axes i 0)) j) (sym e) ∙ with-same seen (getD axes i 0) ∙ rw (add-one, b, and-false (all i (unlike axes k))))
@@ -58,7 +59,7 @@ new-small seen code b e t = leb-true code lastCode (and-left (leb code lastCode)
 
 -- ---- the axes of a list, from its front on
 pub record Marking (codes : List ℕ) (i m : ℕ) : Type 0 where
-  pub small : m < 2 ^ axisCodes
+  pub small : m < axisMasks
   pub marks : (k : ℕ) → k < axisCodes → (has m k || member k (drop i codes)) ≡ member k codes
 
 pub marking-none : (codes : List ℕ) → Marking codes 0 0
@@ -78,16 +79,16 @@ module _ (codes : List ℕ) (i m : ℕ) (s : Marking codes i m) where
       }))
       (λ b. rw b (record {
         small = s .small;
-        marks = λ k l. ap (λ (b : Bool). has m k || (b || member k (drop (i + 1) codes))) (sym (ne-eqb (getD codes i 0) k (λ e. omega (arith, ltb-false (getD codes i 0) axisCodes b)))) ∙ before k l;
+        marks = λ k l. let d : (getD codes i 0 ≡ k → ⊥) = λ e. omega (arith, ltb-false (getD codes i 0) axisCodes b) in
+            ap (λ (b : Bool). has m k || (b || member k (drop (i + 1) codes))) (sym (ne-eqb (getD codes i 0) k d)) ∙ before k l;
       })))
     where
       before : (k : ℕ) → k < axisCodes → (has m k || (eqb (getD codes i 0) k || member k (drop (i + 1) codes))) ≡ member k codes
       before k l = ap (λ (b : Bool). has m k || b) (sym (from-here k codes i h)) ∙ s .marks k l
 
   pub marked : length codes ≤ i → m ≡ maskSum (λ (k : ℕ). member k codes) axisCodes
-  marked h =
-      sym (mod-eq-of-lt (s .small)) ∙ sym (mask-has m axisCodes)
-      ∙ mask-same (has m) _ axisCodes (λ k l. sym (or-false (has m k)) ∙ ap (λ (b : Bool). has m k || b) (sym (member-end k codes i h)) ∙ s .marks k l)
+  marked h = mask-of m axisCodes (λ (k : ℕ). member k codes) (s .small) (λ k l.
+      sym (or-false (has m k)) ∙ ap (λ (b : Bool). has m k || b) (sym (member-end k codes i h)) ∙ s .marks k l)
 
 pub mask-of-codes : (st codes : List ℕ) → codes ≡ take (axisCount st) (drop wAxes st) → maskSum (λ (k : ℕ). member k codes) axisCodes ≡ geometricMask st
 mask-of-codes st codes e = mask-same _ _ axisCodes (λ k l. rw e (sym (member-geometric st k ∙ and-t _ (lt-ltb k axisCodes l))))
@@ -99,7 +100,9 @@ point-absent st w k h = or-t _ (ap not h)
 
 pub point-none : (st : List ℕ) (w : ℕ) → getD st w 0 ≡ 0 → pointOk st w ≡ true
 unfolding pointOk
-point-none st w e = and-i (lt-ltb (getD st w 0) (2 ^ axisCodes) (omega (arith, e))) (all-intro axisCodes (pointAtOk st w) (λ k h. point-absent st w k (rw e (has-none k))))
+point-none st w e =
+    and-i (lt-ltb (getD st w 0) axisMasks (omega (arith, e)))
+    (all-intro axisCodes (pointAtOk st w) (λ k h. point-absent st w k (rw e (has-none k))))
 
 pub point-there : (st : List ℕ) (w gs k : ℕ) → PointOf st w gs → has (getD st w 0) k ≡ true → pointAtOk st w k ≡ (has gs k && within (getD st (w + 1 + k) 0))
 unfolding pointAtOk

@@ -1,34 +1,24 @@
--- The mask of the geometric axes. Assumes nothing.
-use Prim.Native.Nat.{ℕ, _^_, _<_, _≤_}
+-- LAWS. The mask of the geometric axes. Assumes nothing.
+use Prim.Native.Nat.{ℕ, _<_, _≤_}
 use mathlib.Core.Path.{_≡_, sym, _∙_}
 use mathlib.Core.Bool.{Bool, false}
 use mathlib.Core.List.{List}
 use native.Mathlib.Omega.{arith}
-use lib.ListN.{length}
 use lib.Dec.{ltb}
 use borrow.Author.Tests.{ltb-true, ltb-false}
 use Rattle.floats.specs.Lists.{member}
-use Rattle.layout.specs.Layout.{axisCodes, wStart, stateWords}
-use Rattle.rows.specs.Row.{has, axesOf}
 use Rattle.floats.specs.Truth.{by-bit}
-use Rattle.rows.specs.Masks.{maskSum, mask-lt, has-mask, has-past, member-small}
-use Rattle.saved_state.specs.State.{geometric}
+use Rattle.layout.specs.Layout.{axisCodes, axisMasks}
+use Rattle.row_cells.specs.Bits.{has}
+use Rattle.row_cells.specs.Row.{axesOf}
+use Rattle.row_cells.specs.Masks.{mask-lt, has-mask, has-past, member-small}
+use Rattle.saved_state.specs.State.{geometric, geometricMask}
 use Rattle.saved_state.specs.StateLaws.{geometric-small}
 
--- the mask of the geometric axes
-abbrev pub geometricMask : List ℕ → ℕ
-geometricMask st = maskSum (λ (k : ℕ). member k (geometric st)) axisCodes
-
--- what reading a point asks: word w is a point's mask, gs that of the geometric axes
-pub record PointOf (st : List ℕ) (w gs : ℕ) : Type 0 where
-  pub long : length st ≡ stateWords
-  pub place : w ≤ wStart
-  pub axes : gs ≡ geometricMask st
-
-pub geometric-mask-small : (st : List ℕ) → geometricMask st < 2 ^ axisCodes
+pub geometric-mask-small : (st : List ℕ) → geometricMask st < axisMasks
 geometric-mask-small st = mask-lt (λ (k : ℕ). member k (geometric st)) axisCodes
 
-beyond : (st : List ℕ) (k : ℕ) → axisCodes ≤ k → member k (geometric st) ≡ false
+pub beyond : (st : List ℕ) (k : ℕ) → axisCodes ≤ k → member k (geometric st) ≡ false
 beyond st k h = by-bit (member k (geometric st)) (λ m. let l : k < axisCodes = geometric-small st k m in absurd (omega arith)) (λ m. m)
 
 pub mask-members : (st : List ℕ) (k : ℕ) → member k (axesOf (geometricMask st)) ≡ member k (geometric st)

@@ -1,4 +1,4 @@
--- What a state and a store that pass their check are. Assumes nothing.
+-- LAWS. What a state and a store that pass their check are. Assumes nothing.
 use Prim.Native.Nat.{ℕ, _*_, _≤_}
 use mathlib.Core.Path.{_≡_, sym, _∙_}
 use mathlib.Core.Bool.{true}

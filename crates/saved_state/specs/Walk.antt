@@ -1,16 +1,14 @@
--- A walk along a list of codes, and the parts of a state and a store that a check reads. Assumes nothing.
+-- LAWS. A walk along a list of codes, and the parts of a state and a store that a check reads. Assumes nothing.
 use Prim.Native.Nat.{ℕ, _+_, _-_, _*_, _<_, _≤_}
-use mathlib.Core.Path.{_≡_, _∙_, ap}
-use mathlib.Core.Bool.{true, false, _||_}
+use mathlib.Core.Path.{_≡_, ap}
+use mathlib.Core.Bool.{false, _||_}
 use mathlib.Core.List.{List}
 use native.Mathlib.Omega.{arith}
 use native.Mathlib.Numerals.{add-one}
 use lib.ListN.{length, getD, take, drop, drop-of-length-le}
 use lib.Seq.{drop-cons}
 use lib.Dec.{eqb}
-use borrow.Author.Tests.{eq-eqb, ne-eqb}
 use Rattle.floats.specs.Lists.{member}
-use Rattle.floats.specs.Truth.{or-t, or-f}
 use Rattle.layout.specs.Layout.{wAxes, rowWords}
 use Rattle.saved_state.specs.State.{axisCount, heldRow}
 
@@ -18,12 +16,6 @@ module _ (k : ℕ) (l : List ℕ) (i : ℕ) where
   pub from-here : i < length l → member k (drop i l) ≡ (eqb (getD l i 0) k || member k (drop (i + 1) l))
   unfolding member
   from-here h = rw (add-one, drop-cons l i 0 h)
-
-  pub member-here : i < length l → getD l i 0 ≡ k → member k (drop i l) ≡ true
-  member-here h e = from-here h ∙ or-t _ (eq-eqb _ _ e)
-
-  pub member-next : i < length l → (getD l i 0 ≡ k → ⊥) → member k (drop i l) ≡ member k (drop (i + 1) l)
-  member-next h d = from-here h ∙ or-f _ (ne-eqb _ _ d)
 
   pub member-end : length l ≤ i → member k (drop i l) ≡ false
   unfolding member

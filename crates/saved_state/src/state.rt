@@ -20,30 +20,39 @@ use layout::W_TOLERANCE;
 use motion::LAST_MOTION;
 use motion::is_spline;
 use motion::kind_of;
-use rows::has_bit;
-use rows::lowest_bit;
-use rows::numbers_ok;
-use rows::other_bits;
-use rows::shape_ok;
-use rows::turn_ok;
-use rows::within_range;
+use row_cells::PLANE_XY;
+use row_cells::PLANE_YZ;
+use row_cells::has_bit;
+use row_cells::lowest_bit;
+use row_cells::other_bits;
+use row_cells::set_bit;
+use row_check::numbers_ok;
+use row_check::shape_ok;
+use row_check::turn_ok;
+use row_check::within_range;
 ghost use mathlib.Core.Path.{_≡_};
 ghost use mathlib.Core.Bool.{true, _&&_, not, cond};
-ghost use Prim.Native.Nat.{ℕ, _+_, _*_, _^_, _<_, _≤_};
+ghost use Prim.Native.Nat.{ℕ, _+_, _*_, _<_, _≤_};
 ghost use lib.ListN.{length, getD};
 ghost use lib.Dec.{leb, ltb, eqb};
 ghost use Rattle.floats.specs.Lists.{member, all};
-ghost use Rattle.layout.specs.Layout.{axisCodes, lastCode, rowWords, wStart, stateWords};
-ghost use Rattle.rows.specs.Row.{has, rowCheck};
-ghost use Rattle.rows.specs.Masks.{maskSum};
-ghost use Rattle.saved_state.specs.State.{tolOk, codesOk, axesOk, geometric, pointAtOk, pointOk, heldOk, stateOk, heldRowOk, savedCheck, withBit, placed};
-ghost use Rattle.saved_state.specs.StateLaws.{Listed, rowFits};
-ghost use Rattle.saved_state.specs.Axes.{geometricMask, PointOf};
+ghost use Rattle.layout.specs.Layout.{axisCodes, axisMasks, lastCode, rowWords, wStart, stateWords};
+ghost use Rattle.row_cells.specs.Bits.{has, maskSum, withBit};
+ghost use Rattle.row_check.specs.Check.{rowCheck};
+ghost use Rattle.saved_state.specs.State.{tolOk, codesOk, axesOk, geometric, geometricMask, pointAtOk, pointOk, heldOk, fromDegree, fromKnown};
+ghost use Rattle.saved_state.specs.State.{fromMotion, stateOk, rowFits, heldRowOk, savedCheck, placed};
+ghost use Rattle.saved_state.specs.Asks.{Listed, PointOf};
+
+// The degree of a curve until SD sets it.
+pub const PLAIN_DEGREE: u64 = 3;
+
+// The bits of infinity: a number's below them are finite.
+const INFINITY: u64 = 0x7FF0_0000_0000_0000;
 
 pub fn tol_ok(x: u64) -> bool
     ensures { λ r. ⌜ r ≡ tolOk x ⌝ }
 {
-    0 < x && x < 0x7FF0_0000_0000_0000
+    0 < x && x < INFINITY
 }
 
 // Whether a code is one, and not among those seen.
@@ -87,31 +96,6 @@ fn axes_ok(state: &[u64]) -> bool
     codes_ok(&state[W_AXES..e])
 }
 
-fn is_in(codes: &[u64], k: u64) -> bool
-    ensures { λ r. ⌜ r ≡ member k (now (codes .entry)) ⌝ }
-{
-    let mut j: usize = 0;
-    while j < codes.len() {
-        if codes[j] == k {
-            return true;
-        }
-        j += 1;
-    }
-    false
-}
-
-// Whether axis k is a geometric one.
-pub fn is_geometric(state: &[u64], k: u64) -> bool
-    requires { ⌜ Listed (now state) ⌝ }
-    ensures { λ r. ⌜ r ≡ member k (geometric (now (state .entry))) ⌝ }
-{
-    if k >= AXIS_CODES as u64 {
-        return false;
-    }
-    let e = W_AXES + state[W_AXIS_COUNT] as usize;
-    is_in(&state[W_AXES..e], k)
-}
-
 // The mask m, with a code that is an axis.
 fn with_axis(m: u64, code: u64) -> u64
     ensures { λ r. ⌜ r ≡ cond (ltb code axisCodes) (withBit m code) m ⌝ }
@@ -143,6 +127,17 @@ pub fn geometric_mask(state: &[u64]) -> u64
     axes_mask(&state[W_AXES..e])
 }
 
+// Whether axis k is a geometric one.
+pub fn is_geometric(state: &[u64], k: u64) -> bool
+    requires { ⌜ Listed (now state) ⌝ }
+    ensures { λ r. ⌜ r ≡ member k (geometric (now (state .entry))) ⌝ }
+{
+    if k >= AXIS_CODES as u64 {
+        return false;
+    }
+    has_bit(geometric_mask(state), k)
+}
+
 // Whether axis k of the point at word w is geometric, by their mask, and its number in range.
 fn point_at_ok(state: &[u64], w: usize, gs: u64, k: usize) -> bool
     requires { ⌜ (PointOf (now state) w gs) × ((has (getD (now state) w 0) k ≡ true) × (k < axisCodes)) ⌝ }
@@ -156,7 +151,7 @@ fn point_at_ok(state: &[u64], w: usize, gs: u64, k: usize) -> bool
 
 // Whether the axes that the point at word w has are in order. The other words are not read.
 fn point_axes_ok(state: &[u64], w: usize, gs: u64) -> bool
-    requires { ⌜ (PointOf (now state) w gs) × (getD (now state) w 0 < 2 ^ axisCodes) ⌝ }
+    requires { ⌜ (PointOf (now state) w gs) × (getD (now state) w 0 < axisMasks) ⌝ }
     ensures { λ r. ⌜ r ≡ all axisCodes (pointAtOk (now (state .entry)) w) ⌝ }
 {
     let mut rest = state[w];
@@ -201,6 +196,42 @@ fn between(low: u64, x: u64, high: u64) -> bool
     low <= x && x <= high
 }
 
+fn ok_from_degree(state: &[u64]) -> bool
+    requires { ⌜ length (now state) ≡ stateWords ⌝ }
+    ensures { λ r. ⌜ r ≡ fromDegree (now (state .entry)) ⌝ }
+{
+    if !between(1, state[W_DEGREE], MOST_DEGREE) {
+        return false;
+    }
+    held_ok(state)
+}
+
+fn ok_from_known(state: &[u64]) -> bool
+    requires { ⌜ Listed (now state) ⌝ }
+    ensures { λ r. ⌜ r ≡ fromKnown (now (state .entry)) ⌝ }
+{
+    if !point_ok(state, W_KNOWN) {
+        return false;
+    }
+    if !point_ok(state, W_START) {
+        return false;
+    }
+    ok_from_degree(state)
+}
+
+fn ok_from_motion(state: &[u64]) -> bool
+    requires { ⌜ Listed (now state) ⌝ }
+    ensures { λ r. ⌜ r ≡ fromMotion (now (state .entry)) ⌝ }
+{
+    if !between(1, state[W_MOTION], LAST_MOTION) {
+        return false;
+    }
+    if !between(PLANE_XY, state[W_PLANE], PLANE_YZ) {
+        return false;
+    }
+    ok_from_known(state)
+}
+
 pub fn state_ok(state: &[u64]) -> bool
     ensures { λ r. ⌜ r ≡ stateOk (now (state .entry)) ⌝ }
 {
@@ -213,22 +244,7 @@ pub fn state_ok(state: &[u64]) -> bool
     if !axes_ok(state) {
         return false;
     }
-    if !between(1, state[W_MOTION], LAST_MOTION) {
-        return false;
-    }
-    if !between(17, state[W_PLANE], 19) {
-        return false;
-    }
-    if !point_ok(state, W_KNOWN) {
-        return false;
-    }
-    if !point_ok(state, W_START) {
-        return false;
-    }
-    if !between(1, state[W_DEGREE], MOST_DEGREE) {
-        return false;
-    }
-    held_ok(state)
+    ok_from_motion(state)
 }
 
 // Whether a row could be pushed. The checks one by one, as the compiler then joins them to the loop over the held rows.
@@ -295,17 +311,6 @@ pub fn saved_check(state: &[u64], store: &[u64]) -> u64
         return 9;
     }
     0
-}
-
-// p with bit k set.
-pub fn set_bit(p: u64, k: u64) -> u64
-    requires { ⌜ k < 64 ⌝ }
-    ensures { λ r. ⌜ r ≡ withBit p k ⌝ }
-{
-    if has_bit(p, k) {
-        return p;
-    }
-    p + (1 << k)
 }
 
 // Axis k is known at x from now on.

@@ -17,9 +17,10 @@ use Rattle.floats.specs.Lists.{upto, keep, member, filled, flatten, rowsOf, spl
 use Rattle.floats.specs.Fill.{length-upto, at-filled, past-filled, length-filled, lt-or-le}
 use Rattle.floats.specs.Splice.{spliced-none}
 use Rattle.layout.specs.Layout.{rowWords, axisCodes}
-use Rattle.rows.specs.Codes.{geometricOf}
-use Rattle.rows.specs.Row.{has, shown, hasPoint}
-use Rattle.rows.specs.Masks.{maskSum, has-mask, mask-lt, has-past, member-keep}
+use Rattle.row_cells.specs.Codes.{geometricOf}
+use Rattle.row_cells.specs.Bits.{has, maskSum}
+use Rattle.row_cells.specs.Row.{shown, hasPoint}
+use Rattle.row_cells.specs.Masks.{has-mask, mask-lt, has-past, member-keep}
 use Rattle.curve_metric.specs.Below.{Below}
 use Rattle.curve_walk.specs.declared.Shape.{Shape}
 use Rattle.curve_walk.specs.Walks.{encode}

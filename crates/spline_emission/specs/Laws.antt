@@ -14,9 +14,11 @@ use Rattle.floats.specs.Lists.{upto, keep, member, anyOf}
 use Rattle.floats.specs.Fill.{length-upto}
 use Rattle.layout.specs.Layout.{rowWords, axisCodes}
 use Rattle.motion.specs.Motion.{gOne}
-use Rattle.rows.specs.Codes.{geometricOf}
-use Rattle.rows.specs.Row.{has, presentOf, shown, hasPoint, outRow, madeRow}
-use Rattle.rows.specs.Masks.{member-append, member-keep}
+use Rattle.row_cells.specs.Codes.{geometricOf}
+use Rattle.row_cells.specs.Bits.{has}
+use Rattle.row_cells.specs.Row.{presentOf, shown, hasPoint, outRow}
+use Rattle.row_put.specs.Made.{madeRow}
+use Rattle.row_cells.specs.Masks.{member-append, member-keep}
 use Rattle.spline_points.specs.Channels.{Once, Good, Distinct, channels-good, channels-few, once-distinct, distinct-keep, none-good}
 use Rattle.spline_points.specs.Keeps.{member-here}
 use Rattle.spline_points.specs.Points.{Spline, channels, channelsFrom, blockAt}

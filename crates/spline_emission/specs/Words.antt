@@ -15,9 +15,10 @@ use lib.Ieee.{Float, nan}
 use Rattle.floats.specs.Numbers.{bits, at}
 use Rattle.floats.specs.Lists.{upto, keep, member, flatten}
 use Rattle.floats.specs.Fill.{length-upto, at-upto, upto-below}
-use Rattle.rows.specs.Row.{has, axesOf, hasPoint, outRow}
-use Rattle.rows.specs.RowLaws.{made-same}
-use Rattle.rows.specs.Masks.{member-small}
+use Rattle.row_cells.specs.Bits.{has}
+use Rattle.row_cells.specs.Row.{axesOf, hasPoint, outRow}
+use Rattle.row_put.specs.MadeLaws.{made-same}
+use Rattle.row_cells.specs.Masks.{member-small}
 use Rattle.spline_points.specs.Flat.{Sized, flatten-append}
 use Rattle.spline_points.specs.Points.{Spline, channels}
 use Rattle.spline_places.specs.declared.frame.Frame.{Frame}

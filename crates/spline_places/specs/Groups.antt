@@ -14,7 +14,8 @@ use lib.Ieee.{Float}
 use Rattle.floats.specs.Numbers.{bits, at}
 use Rattle.floats.specs.Lists.{upto, keep, member}
 use Rattle.motion.specs.Motion.{gOne}
-use Rattle.rows.specs.Row.{cell, hasPoint, outRow, madeRow}
+use Rattle.row_cells.specs.Row.{cell, hasPoint, outRow}
+use Rattle.row_put.specs.Made.{madeRow}
 use Rattle.spline_points.specs.Points.{Spline, channels}
 
 abbrev pub isBasis : Spline → Bool

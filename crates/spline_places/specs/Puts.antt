@@ -15,9 +15,12 @@ use borrow.Author.Tests.{eq-eqb, ne-eqb}
 use Rattle.floats.specs.Lists.{upto, filled, flatten, spliced}
 use Rattle.floats.specs.Fill.{length-upto, at-upto, at-filled, length-filled, upto-below, lt-or-le}
 use Rattle.floats.specs.Splice.{spliced-none}
-use Rattle.rows.specs.Row.{has, presentOf, cell, shown, axesOf, hasPoint, outRow, madeRow}
-use Rattle.rows.specs.RowLaws.{made-same, length-made, length-out}
-use Rattle.rows.specs.Masks.{maskSum, has-mask, mask-lt, has-past, has-none}
+use Rattle.row_cells.specs.Bits.{has, maskSum}
+use Rattle.row_cells.specs.Row.{presentOf, cell, shown, axesOf, hasPoint, outRow}
+use Rattle.row_put.specs.Made.{madeRow}
+use Rattle.row_put.specs.MadeLaws.{made-same, length-made}
+use Rattle.row_cells.specs.RowLaws.{length-out}
+use Rattle.row_cells.specs.Masks.{has-mask, mask-lt, has-past, has-none}
 use Rattle.spline_points.specs.Flat.{Sized, sized-append, length-flatten}
 use Rattle.spline_places.specs.declared.frame.Frame.{Frame}
 use Rattle.spline_places.specs.declared.place.Place.{Place}

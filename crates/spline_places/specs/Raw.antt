@@ -7,7 +7,9 @@ use lib.Dec.{eqb}
 use lib.ListN.{getD, take, drop}
 use Rattle.floats.specs.Lists.{upto}
 use Rattle.motion.specs.Motion.{gOne}
-use Rattle.rows.specs.Row.{has, cell, axesOf, hasPoint, outRow, madeRow}
+use Rattle.row_cells.specs.Bits.{has}
+use Rattle.row_cells.specs.Row.{cell, axesOf, hasPoint, outRow}
+use Rattle.row_put.specs.Made.{madeRow}
 use Rattle.spline_places.specs.declared.frame.Frame.{Frame}
 use Rattle.spline_places.specs.declared.place.Place.{Place}
 use Rattle.spline_places.specs.Sizes.{placeTo}

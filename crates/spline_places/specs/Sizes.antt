@@ -9,7 +9,7 @@ use lib.Dec.{eqb}
 use lib.ListN.{length, getD, length-append}
 use borrow.Author.Tests.{eq-eqb, ne-eqb}
 use Rattle.floats.specs.Lists.{upto, keep}
-use Rattle.rows.specs.Row.{hasPoint}
+use Rattle.row_cells.specs.Row.{hasPoint}
 use Rattle.spline_points.specs.Keeps.{keep-append, keep-upto-most, keep-yes, keep-no}
 use Rattle.spline_places.specs.declared.place.Place.{Place}
 

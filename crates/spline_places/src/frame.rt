@@ -1,6 +1,6 @@
 // What every row of an emission needs to know: the masks of the geometric axes and of the channels, and a channel's place in a sample.
 use layout::AXIS_CODES;
-use rows::has_bit;
+use row_cells::has_bit;
 use spline_points::channels::is_listed;
 ghost use mathlib.Core.Path.{_≡_};
 ghost use mathlib.Core.Bool.{_&&_, cond};
@@ -8,8 +8,7 @@ ghost use Prim.Native.Nat.{ℕ, _+_, _<_, _≤_, _^_};
 ghost use lib.ListN.{length};
 ghost use Rattle.floats.specs.Lists.{member, filled};
 ghost use Rattle.layout.specs.Layout.{axisCodes};
-ghost use Rattle.rows.specs.Row.{has};
-ghost use Rattle.rows.specs.Masks.{maskSum};
+ghost use Rattle.row_cells.specs.Bits.{has, maskSum};
 ghost use Rattle.spline_places.specs.Groups.{placeOf};
 
 pub struct Frame {

@@ -5,7 +5,7 @@ ghost use mathlib.Core.Path.{_≡_};
 ghost use Prim.Native.Nat.{_+_, _-_, _*_, _≤_, _<_, _^_};
 ghost use lib.ListN.{length};
 ghost use Rattle.layout.specs.Layout.{rowWords};
-ghost use Rattle.rows.specs.Codes.{geometricOf};
+ghost use Rattle.row_cells.specs.Codes.{geometricOf};
 ghost use Rattle.spline_points.specs.Points.{blockAt};
 ghost use Rattle.spline_places.specs.Sizes.{sizeOf, moved, unmoved, Behind, placeTo, Few};
 

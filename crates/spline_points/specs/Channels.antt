@@ -13,9 +13,10 @@ use lib.ListN.{length, getD, take, drop, length-append, length-drop}
 use lib.Seq.{length-take-le, getD-take, getD-drop}
 use Rattle.layout.specs.Layout.{axisCodes}
 use Rattle.floats.specs.Lists.{upto, keep, member}
-use Rattle.rows.specs.Codes.{geometricOf}
-use Rattle.rows.specs.Row.{has, presentOf}
-use Rattle.rows.specs.Masks.{member-append, member-keep}
+use Rattle.row_cells.specs.Codes.{geometricOf}
+use Rattle.row_cells.specs.Bits.{has}
+use Rattle.row_cells.specs.Row.{presentOf}
+use Rattle.row_cells.specs.Masks.{member-append, member-keep}
 use Rattle.spline_points.specs.Keeps.{keep-keep, keep-room, member-here, member-none, and-none}
 use Rattle.spline_points.specs.Append.{Appended, appended-before, appended-next, appended-as, appended-then}
 use Rattle.spline_points.specs.Points.{channelsFrom, metricOf, blockAt}

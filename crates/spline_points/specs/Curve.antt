@@ -13,7 +13,8 @@ use lib.Ieee.{Float, nan, lt}
 use Rattle.floats.specs.Numbers.{num, f1, 1e-4, at}
 use Rattle.floats.specs.Lists.{upto, keep, flatten, rowsOf}
 use Rattle.floats.specs.Fill.{length-upto}
-use Rattle.rows.specs.Row.{has, presentOf, cell, number, shown, hasPoint}
+use Rattle.row_cells.specs.Bits.{has}
+use Rattle.row_cells.specs.Row.{presentOf, cell, number, shown, hasPoint}
 use Rattle.spline_points.specs.Points.{firstCell, startValue, nextPoint, pointsFrom, weightOf}
 use Rattle.spline_points.specs.Append.{Appended, appended-none, appended-one, appended-as, appended-then, appended-before, appended-to, appended-upto}
 use Rattle.spline_points.specs.Keeps.{keep-yes, keep-no, keep-upto, keep-upto-most}

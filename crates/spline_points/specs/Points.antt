@@ -9,8 +9,9 @@ use lib.Ieee.{Float}
 use Rattle.floats.specs.Numbers.{num, f1, 1e-4, largerOf, at}
 use Rattle.floats.specs.Lists.{upto, keep, member}
 use Rattle.layout.specs.Layout.{rowWords, cPW}
-use Rattle.rows.specs.Codes.{geometricOf}
-use Rattle.rows.specs.Row.{cell, number, has, shown, presentOf, hasPoint}
+use Rattle.row_cells.specs.Codes.{geometricOf}
+use Rattle.row_cells.specs.Row.{cell, number, shown, presentOf, hasPoint}
+use Rattle.row_cells.specs.Bits.{has}
 
 -- what a spline is made of: its word, degree, tolerance, geometric axes, curve start, blocks
 pub record Spline : Type 0 where

@@ -3,9 +3,9 @@ use layout::AXIS_CODES;
 use layout::R_CELLS;
 use layout::R_PRESENT;
 use layout::ROW_WORDS;
-use rows::has_bit;
-use rows::put_made;
-use rows::put_row;
+use row_cells::has_bit;
+use row_put::put_made;
+use row_put::put_row;
 use spline_places::frame::Frame;
 use spline_places::frame::both_masks;
 use spline_places::place::Place;
@@ -18,7 +18,7 @@ ghost use Prim.Native.Nat.{ℕ, _+_, _*_, _≤_, _<_};
 ghost use lib.ListN.{length, replicate};
 ghost use Rattle.floats.specs.Lists.{upto, filled, flatten, spliced};
 ghost use Rattle.layout.specs.Layout.{axisCodes, rowWords};
-ghost use Rattle.rows.specs.Codes.{geometricOf};
+ghost use Rattle.row_cells.specs.Codes.{geometricOf};
 ghost use Rattle.spline_points.specs.Points.{blockAt};
 ghost use Rattle.spline_places.specs.Raw.{rawWord, rawMark, rawMotion, rawAt, rawRow, bareRow, rawGroup, rawBlock};
 ghost use Rattle.spline_places.specs.Puts.{Sample, Puts, OwnMask, samplesOf, Blocks, BlockPut, Spreads, heldWords};
@@ -91,11 +91,13 @@ fn put_sample(
         rows,
         (place.rows + t) * ROW_WORDS,
         row,
-        o.axes,
-        t == 0,
-        motion,
-        marked,
-        o.mask,
+        row_put::Made {
+            axes: o.axes,
+            mask: o.mask,
+            first: t == 0,
+            motion: motion,
+            marked: marked,
+        },
         &words,
     );
 }
@@ -135,11 +137,13 @@ fn put_bare(o: Frame, place: Place, row: &[u64], rows: &mut [u64])
         rows,
         place.rows * ROW_WORDS,
         row,
-        o.axes,
-        true,
-        motion,
-        false,
-        mask,
+        row_put::Made {
+            axes: o.axes,
+            mask: mask,
+            first: true,
+            motion: motion,
+            marked: false,
+        },
         &row[R_CELLS..],
     );
 }

@@ -1,5 +1,5 @@
 -- `arc_rows::cell_number` meets its contract. Assumes nothing.
-use Rattle.rows.specs.Row.{cell, number}
+use Rattle.row_cells.specs.Row.{cell, number}
 use borrow.Author.Needs.{needs}
 use Rattle.arc_rows.proofs.cell_number.Statement.{statement}
 use Rattle.arc_rows.proofs.cell_number.Tie as tie

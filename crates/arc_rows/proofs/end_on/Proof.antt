@@ -1,5 +1,5 @@
 -- `arc_rows::end_on` meets its contract. Assumes nothing.
-use Rattle.rows.specs.Row.{cell}
+use Rattle.row_cells.specs.Row.{cell}
 use borrow.Author.Needs.{needs}
 use Rattle.arc_rows.proofs.end_on.Statement.{statement}
 use Rattle.arc_rows.proofs.end_on.Tie as tie

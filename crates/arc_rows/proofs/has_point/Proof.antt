@@ -5,7 +5,8 @@ use mathlib.Core.Path.{_≡_, _∙_, sym}
 use mathlib.Core.Bool.{_&&_, false}
 use borrow.Author.Count.{below-more}
 use Rattle.layout.specs.Layout.{axisCodes}
-use Rattle.rows.specs.Row.{has, presentOf}
+use Rattle.row_cells.specs.Bits.{has}
+use Rattle.row_cells.specs.Row.{presentOf}
 use Rattle.arc_rows.proofs.Points.{point-there, point-none}
 use borrow.Author.Needs.{needs}
 use Rattle.arc_rows.proofs.has_point.Statement.{statement}

@@ -5,7 +5,7 @@ use mathlib.Core.Path.{refl, sym, subst, ap, _∙_}
 use lib.ListN.{length}
 use Rattle.floats.specs.Fill.{length-upto}
 use Rattle.layout.specs.Layout.{axisCodes}
-use Rattle.rows.specs.Masks.{mask-lt}
+use Rattle.row_cells.specs.Masks.{mask-lt}
 use Rattle.arc_sample.specs.Draw.{drawn-rows}
 use borrow.Author.Needs.{needs}
 use Rattle.arc_sample.proofs.draw.Statement.{statement}

@@ -4,8 +4,9 @@ use mathlib.Core.Bool.{Bool, cond}
 use native.Mathlib.Omega.{arith}
 use Prim.Native.Nat.{ℕ, _+_, _-_, _≤_, _<_, _^_}
 use Rattle.layout.specs.Layout.{axisCodes}
-use Rattle.rows.specs.Row.{presentOf}
-use Rattle.rows.specs.Masks.{maskSum, mask-more, mask-lt}
+use Rattle.row_cells.specs.Row.{presentOf}
+use Rattle.row_cells.specs.Bits.{maskSum}
+use Rattle.row_cells.specs.Masks.{mask-more, mask-lt}
 use Rattle.arc_sample.specs.Draw.{drawn}
 use borrow.Author.Needs.{needs}
 use Rattle.arc_sample.proofs.drawn_axes.Statement.{statement}

@@ -1,7 +1,7 @@
 -- `arc_sample::plane_u` meets its contract. Assumes nothing.
 use native.Mathlib.Omega.{arith}
 use borrow.Author.Tests.{eq-eqb, ne-eqb}
-use Rattle.rows.specs.Codes.{planeU}
+use Rattle.row_cells.specs.Codes.{planeU}
 use Rattle.arc_sample.proofs.plane_u.Statement.{statement}
 use Rattle.arc_sample.proofs.plane_u.Tie as tie
 

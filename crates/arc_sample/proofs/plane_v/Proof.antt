@@ -1,7 +1,7 @@
 -- `arc_sample::plane_v` meets its contract. Assumes nothing.
 use native.Mathlib.Omega.{arith}
 use borrow.Author.Tests.{eq-eqb, ne-eqb}
-use Rattle.rows.specs.Codes.{planeV}
+use Rattle.row_cells.specs.Codes.{planeV}
 use Rattle.arc_sample.proofs.plane_v.Statement.{statement}
 use Rattle.arc_sample.proofs.plane_v.Tie as tie
 

@@ -2,7 +2,7 @@
 use mathlib.Core.Path.{_≡_}
 use native.Mathlib.Omega.{arith}
 use Prim.Native.Nat.{ℕ, _-_, _≤_}
-use Rattle.rows.specs.Row.{axesOf}
+use Rattle.row_cells.specs.Row.{axesOf}
 use Rattle.arc_numbers.specs.Types.{arcIs}
 use Rattle.arc_sample.specs.Rowing.{Rowing, rowing-none, rowing-more}
 use Rattle.arc_sample.specs.Draw.{midRows, sampleWord, mid-long}

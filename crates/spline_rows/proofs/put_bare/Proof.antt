@@ -4,7 +4,7 @@ use Rattle.spline_places.specs.Puts.{bare-row, cells-of}
 use borrow.Author.Needs.{needs}
 use Rattle.spline_rows.proofs.put_bare.Statement.{statement}
 use Rattle.spline_rows.proofs.put_bare.Tie as tie
-use Rattle.rows.proofs.put_made.Reads as put-made-reads
+use Rattle.row_put.proofs.put_made.Reads as put-made-reads
 use Rattle.spline_rows.proofs.motion_of.Reads as motion-of-reads
 use Rattle.spline_rows.proofs.own_mask.Reads as own-mask-reads
 

@@ -6,7 +6,7 @@ use Rattle.spline_places.specs.Puts.{block-point, block-out}
 use borrow.Author.Needs.{needs}
 use Rattle.spline_rows.proofs.put_block.Statement.{statement}
 use Rattle.spline_rows.proofs.put_block.Tie as tie
-use Rattle.rows.proofs.put_row.Reads as put-row-reads
+use Rattle.row_put.proofs.put_row.Reads as put-row-reads
 use Rattle.spline_rows.proofs.put_point.Reads as put-point-reads
 
 put-point-requires : tie.Need-put-point-requires

@@ -5,7 +5,7 @@ use Rattle.spline_places.specs.Puts.{sample-at, sample-rows, sample-words, samp
 use borrow.Author.Needs.{needs}
 use Rattle.spline_rows.proofs.put_sample.Statement.{statement}
 use Rattle.spline_rows.proofs.put_sample.Tie as tie
-use Rattle.rows.proofs.put_made.Reads as put-made-reads
+use Rattle.row_put.proofs.put_made.Reads as put-made-reads
 use Rattle.spline_rows.proofs.is_marked.Reads as is-marked-reads
 use Rattle.spline_rows.proofs.motion_of.Reads as motion-of-reads
 use Rattle.spline_rows.proofs.sample_words.Reads as sample-words-reads

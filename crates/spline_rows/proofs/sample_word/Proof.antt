@@ -4,7 +4,7 @@ use Rattle.spline_places.specs.Puts.{word-yes, word-no}
 use borrow.Author.Needs.{needs}
 use Rattle.spline_rows.proofs.sample_word.Statement.{statement}
 use Rattle.spline_rows.proofs.sample_word.Tie as tie
-use Rattle.rows.proofs.has_bit.Reads as has-bit-reads
+use Rattle.row_cells.proofs.has_bit.Reads as has-bit-reads
 
 has-bit-requires : tie.Need-has-bit-requires
 has-bit-requires c κs = search needs

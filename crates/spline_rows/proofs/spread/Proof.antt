@@ -2,7 +2,7 @@ use mathlib.Core.Path.{_≡_, refl, ap, _∙_}
 use Prim.Native.Nat.{_*_, _≤_, _-_}
 use native.Mathlib.Omega.{arith}
 use lib.ListN.{length}
-use Rattle.rows.specs.Codes.{geometricOf}
+use Rattle.row_cells.specs.Codes.{geometricOf}
 use Rattle.spline_points.specs.Points.{blockAt}
 use Rattle.spline_points.specs.Channels.{block-length}
 use Rattle.spline_places.specs.Sizes.{placeTo}

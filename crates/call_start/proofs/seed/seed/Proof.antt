@@ -1,6 +1,7 @@
 -- `call_start::seed::seed` meets its contract. Assumes nothing.
 use mathlib.Core.Path.{refl, sym, _∙_}
-use borrow.Author.Tests.{le-leb, lt-leb, not-true, not-false}
+use borrow.Author.Tests.{le-leb, lt-leb}
+use Rattle.row_cells.specs.Tested.{passed, failed}
 use Rattle.floats.specs.Truth.{cond-t, cond-f}
 use Rattle.call_start.specs.Seed.{seedSpec, seeded}
 use Rattle.call_reply.specs.Replies.{state-is}
@@ -21,8 +22,8 @@ same-length c = search needs
 returns : tie.Need-returns
 unfolding seedSpec
 returns c =
-    state-is (cond-f _ _ (sym (c .before .before .state-ok .ensures) ∙ not-true (c .before .before .state-ok .result) (c .before .if1 .taken)))
-    (c .plain-reply .ensures) refl
+    let one = c .before in
+    state-is (cond-f _ _ (failed (one .before .state-ok .ensures) (one .if1 .taken))) (c .plain-reply .ensures) refl
 
 plain-reply-requires-2 : tie.Need-plain-reply-requires-2
 plain-reply-requires-2 c κs = search needs
@@ -33,10 +34,10 @@ same-length-2 c = search needs
 returns-2 : tie.Need-returns-2
 unfolding seedSpec
 returns-2 c =
-    state-is
-    (cond-t _ _ (sym (c .before .before .before .state-ok .ensures) ∙ not-false (c .before .before .before .state-ok .result) (c .before .before .if1 .left))
-    ∙ cond-f _ _ (lt-leb _ _ (c .before .if2 .taken)))
-    (c .plain-reply2 .ensures) refl
+    let two = c .before in
+    let one = two .before in
+    let state = cond-t _ _ (passed (one .before .state-ok .ensures) (one .if1 .left)) in
+    state-is (state ∙ cond-f _ _ (lt-leb _ _ (two .if2 .taken))) (c .plain-reply2 .ensures) refl
 
 within-range-requires : tie.Need-within-range-requires
 within-range-requires c κs = search needs
@@ -50,20 +51,17 @@ same-length-3 c = search needs
 returns-3 : tie.Need-returns-3
 unfolding seedSpec
 returns-3 c =
-    state-is
-    (cond-t _ _
-    (sym (c .before .before .before .before .before .state-ok .ensures)
-    ∙ not-false (c .before .before .before .before .before .state-ok .result) (c .before .before .before .before .if1 .left))
-    ∙ cond-t _ _ (le-leb _ _ (c .before .before .before .if2 .left))
-    ∙ cond-f _ _ (sym (c .before .before .within-range .ensures) ∙ not-true (c .before .before .within-range .result) (c .before .if3 .taken)))
-    (c .plain-reply3 .ensures) refl
+    let three = c .before in
+    let two = three .before .before in
+    let one = two .before in
+    let state = cond-t _ _ (passed (one .before .state-ok .ensures) (one .if1 .left)) in
+    let code = state ∙ cond-t _ _ (le-leb _ _ (two .if2 .left)) in
+    state-is (code ∙ cond-f _ _ (failed (three .before .within-range .ensures) (three .if3 .taken))) (c .plain-reply3 .ensures) refl
 
 is-geometric-requires : tie.Need-is-geometric-requires
 is-geometric-requires c κs =
-    good-listed _
-    (good _
-    (sym (c .before .before .before .before .before .state-ok .ensures)
-    ∙ not-false (c .before .before .before .before .before .state-ok .result) (c .before .before .before .before .if1 .left)))
+    let one = c .before .before .before .before in
+    good-listed _ (good _ (passed (one .before .state-ok .ensures) (one .if1 .left)))
 
 plain-reply-requires-4 : tie.Need-plain-reply-requires-4
 plain-reply-requires-4 c κs = search needs
@@ -74,26 +72,21 @@ same-length-4 c = search needs
 returns-4 : tie.Need-returns-4
 unfolding seedSpec seeded
 returns-4 c =
-    state-is
-    (cond-t _ _
-    (sym (c .before .before .before .before .before .before .before .before .state-ok .ensures)
-    ∙ not-false (c .before .before .before .before .before .before .before .before .state-ok .result)
-    (c .before .before .before .before .before .before .before .if1 .left))
-    ∙ cond-t _ _ (le-leb _ _ (c .before .before .before .before .before .before .if2 .left))
-    ∙ cond-t _ _
-    (sym (c .before .before .before .before .before .within-range .ensures)
-    ∙ not-false (c .before .before .before .before .before .within-range .result) (c .before .before .before .before .if3 .left)))
-    (c .plain-reply4 .ensures)
-    (sym (cond-f _ _ (sym (c .before .before .is-geometric .ensures) ∙ not-true (c .before .before .is-geometric .result) (c .before .if4 .taken))))
+    let four = c .before in
+    let three = four .before .before .before in
+    let two = three .before .before in
+    let one = two .before in
+    let state = cond-t _ _ (passed (one .before .state-ok .ensures) (one .if1 .left)) in
+    let code = state ∙ cond-t _ _ (le-leb _ _ (two .if2 .left)) in
+    let range = code ∙ cond-t _ _ (passed (three .before .within-range .ensures) (three .if3 .left)) in
+    state-is range (c .plain-reply4 .ensures) (sym (cond-f _ _ (failed (four .before .is-geometric .ensures) (four .if4 .taken))))
 
 place-requires : tie.Need-place-requires
-place-requires c κs = (
-  good _
-      (sym (c .before .before .before .before .before .before .before .before .state-ok .ensures)
-      ∙ not-false (c .before .before .before .before .before .before .before .before .state-ok .result)
-      (c .before .before .before .before .before .before .before .if1 .left)) .long,
-  geometric-small _ _ (sym (c .before .before .is-geometric .ensures) ∙ not-false (c .before .before .is-geometric .result) (c .before .if4 .left)),
-)
+place-requires c κs =
+    let four = c .before in
+    let one = four .before .before .before .before .before .before in
+    let listed = passed (four .before .is-geometric .ensures) (four .if4 .left) in
+    (good _ (passed (one .before .state-ok .ensures) (one .if1 .left)) .long, geometric-small _ _ listed)
 
 plain-reply-requires-5 : tie.Need-plain-reply-requires-5
 plain-reply-requires-5 c κs = search needs
@@ -104,22 +97,16 @@ same-length-5 c = search needs
 returns-5 : tie.Need-returns-5
 unfolding seedSpec seeded
 returns-5 c =
-    state-is
-    (cond-t _ _
-    (sym (c .before .before .before .before .before .before .before .before .before .before .before .before .state-ok .ensures)
-    ∙ not-false (c .before .before .before .before .before .before .before .before .before .before .before .before .state-ok .result)
-    (c .before .before .before .before .before .before .before .before .before .before .before .if1 .left))
-    ∙ cond-t _ _ (le-leb _ _ (c .before .before .before .before .before .before .before .before .before .before .if2 .left))
-    ∙ cond-t _ _
-    (sym (c .before .before .before .before .before .before .before .before .before .within-range .ensures)
-    ∙ not-false (c .before .before .before .before .before .before .before .before .before .within-range .result)
-    (c .before .before .before .before .before .before .before .before .if3 .left)))
-    (c .plain-reply5 .ensures)
-    ((c .before .before .before .place .ensures)
-    ∙ sym
-    (cond-t _ _
-    (sym (c .before .before .before .before .before .before .is-geometric .ensures)
-    ∙ not-false (c .before .before .before .before .before .before .is-geometric .result) (c .before .before .before .before .before .if4 .left))))
+    let put = c .before .before .before in
+    let four = put .before .before in
+    let three = four .before .before .before in
+    let two = three .before .before in
+    let one = two .before in
+    let state = cond-t _ _ (passed (one .before .state-ok .ensures) (one .if1 .left)) in
+    let code = state ∙ cond-t _ _ (le-leb _ _ (two .if2 .left)) in
+    let range = code ∙ cond-t _ _ (passed (three .before .within-range .ensures) (three .if3 .left)) in
+    let listed = passed (four .before .is-geometric .ensures) (four .if4 .left) in
+    state-is range (c .plain-reply5 .ensures) (put .place .ensures ∙ sym (cond-t _ _ listed))
 
 pub seed-spec : {M : Type 1} → statement M
 seed-spec =

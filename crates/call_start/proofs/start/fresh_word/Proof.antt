@@ -24,52 +24,58 @@ code-or-0-requires c κs = search needs
 returns-3 : tie.Need-returns-3
 unfolding freshWord
 returns-3 c =
-    (c .code-or-0 .ensures)
-    ∙ sym
-    (cond-f _ _ (ne-eqb _ _ (c .before .before .before .if1 .left))
-    ∙ cond-f _ _ (ne-eqb _ _ (c .before .before .if2 .left))
-    ∙ cond-t _ _ (lt-ltb _ _ (c .before .if3 .taken)))
+    let three = c .before in
+    let two = three .before in
+    let one = two .before in
+    let words = cond-f _ _ (ne-eqb _ _ (one .if1 .left)) ∙ cond-f _ _ (ne-eqb _ _ (two .if2 .left)) in
+    c .code-or-0 .ensures ∙ sym (words ∙ cond-t _ _ (lt-ltb _ _ (three .if3 .taken)))
 
 returns-4 : tie.Need-returns-4
 unfolding freshWord
 returns-4 c =
-    sym
-    (cond-f _ _ (ne-eqb _ _ (c .before .before .before .if1 .left))
-    ∙ cond-f _ _ (ne-eqb _ _ (c .before .before .if2 .left))
-    ∙ cond-f _ _ (le-ltb _ _ (c .before .if3 .left))
-    ∙ cond-t _ _ (eq-eqb _ _ (c .if4 .taken)))
+    let three = c .before in
+    let two = three .before in
+    let one = two .before in
+    let words = cond-f _ _ (ne-eqb _ _ (one .if1 .left)) ∙ cond-f _ _ (ne-eqb _ _ (two .if2 .left)) in
+    let codes = words ∙ cond-f _ _ (le-ltb _ _ (three .if3 .left)) in
+    sym (codes ∙ cond-t _ _ (eq-eqb _ _ (c .if4 .taken)))
 
 returns-5 : tie.Need-returns-5
 unfolding freshWord
 returns-5 c =
-    sym
-    (cond-f _ _ (ne-eqb _ _ (c .before .before .before .before .if1 .left))
-    ∙ cond-f _ _ (ne-eqb _ _ (c .before .before .before .if2 .left))
-    ∙ cond-f _ _ (le-ltb _ _ (c .before .before .if3 .left))
-    ∙ cond-f _ _ (ne-eqb _ _ (c .before .if4 .left))
-    ∙ cond-t _ _ (eq-eqb _ _ (c .if5 .taken)))
+    let four = c .before in
+    let three = four .before in
+    let two = three .before in
+    let one = two .before in
+    let words = cond-f _ _ (ne-eqb _ _ (one .if1 .left)) ∙ cond-f _ _ (ne-eqb _ _ (two .if2 .left)) in
+    let codes = words ∙ cond-f _ _ (le-ltb _ _ (three .if3 .left)) in
+    sym (codes ∙ cond-f _ _ (ne-eqb _ _ (four .if4 .left)) ∙ cond-t _ _ (eq-eqb _ _ (c .if5 .taken)))
 
 returns-6 : tie.Need-returns-6
 unfolding freshWord
 returns-6 c =
-    sym
-    (cond-f _ _ (ne-eqb _ _ (c .before .before .before .before .before .if1 .left))
-    ∙ cond-f _ _ (ne-eqb _ _ (c .before .before .before .before .if2 .left))
-    ∙ cond-f _ _ (le-ltb _ _ (c .before .before .before .if3 .left))
-    ∙ cond-f _ _ (ne-eqb _ _ (c .before .before .if4 .left))
-    ∙ cond-f _ _ (ne-eqb _ _ (c .before .if5 .left))
-    ∙ cond-t _ _ (eq-eqb _ _ (c .if6 .taken)))
+    let five = c .before in
+    let four = five .before in
+    let three = four .before in
+    let two = three .before in
+    let one = two .before in
+    let words = cond-f _ _ (ne-eqb _ _ (one .if1 .left)) ∙ cond-f _ _ (ne-eqb _ _ (two .if2 .left)) in
+    let codes = words ∙ cond-f _ _ (le-ltb _ _ (three .if3 .left)) in
+    let plane = cond-f _ _ (ne-eqb _ _ (four .if4 .left)) ∙ cond-f _ _ (ne-eqb _ _ (five .if5 .left)) in
+    sym (codes ∙ plane ∙ cond-t _ _ (eq-eqb _ _ (c .if6 .taken)))
 
 returns-7 : tie.Need-returns-7
 unfolding freshWord
 returns-7 c =
-    sym
-    (cond-f _ _ (ne-eqb _ _ (c .before .before .before .before .before .if1 .left))
-    ∙ cond-f _ _ (ne-eqb _ _ (c .before .before .before .before .if2 .left))
-    ∙ cond-f _ _ (le-ltb _ _ (c .before .before .before .if3 .left))
-    ∙ cond-f _ _ (ne-eqb _ _ (c .before .before .if4 .left))
-    ∙ cond-f _ _ (ne-eqb _ _ (c .before .if5 .left))
-    ∙ cond-f _ _ (ne-eqb _ _ (c .if6 .left)))
+    let five = c .before in
+    let four = five .before in
+    let three = four .before in
+    let two = three .before in
+    let one = two .before in
+    let words = cond-f _ _ (ne-eqb _ _ (one .if1 .left)) ∙ cond-f _ _ (ne-eqb _ _ (two .if2 .left)) in
+    let codes = words ∙ cond-f _ _ (le-ltb _ _ (three .if3 .left)) in
+    let plane = cond-f _ _ (ne-eqb _ _ (four .if4 .left)) ∙ cond-f _ _ (ne-eqb _ _ (five .if5 .left)) in
+    sym (codes ∙ plane ∙ cond-f _ _ (ne-eqb _ _ (c .if6 .left)))
 
 pub fresh-word-spec : {M : Type 1} → statement M
 fresh-word-spec =

@@ -1,6 +1,7 @@
 -- `call_start::start::start` meets its contract. Assumes nothing.
 use mathlib.Core.Path.{refl, sym, _∙_}
-use borrow.Author.Tests.{eq-eqb, ne-eqb, not-true, not-false}
+use borrow.Author.Tests.{eq-eqb, ne-eqb}
+use Rattle.row_cells.specs.Tested.{passed, failed}
 use Rattle.floats.specs.Truth.{cond-t, cond-f}
 use Rattle.call_start.specs.Start.{startSpec}
 use Rattle.call_reply.specs.Replies.{state-is}
@@ -24,10 +25,9 @@ plain-reply-requires-2 c κs = search needs
 returns-2 : tie.Need-returns-2
 unfolding startSpec
 returns-2 c =
-    state-is
-    (cond-t _ _ (eq-eqb _ _ (c .before .before .before .if1 .left))
-    ∙ cond-f _ _ (sym (c .before .before .tol-ok .ensures) ∙ not-true (c .before .before .tol-ok .result) (c .before .if2 .taken)))
-    (c .plain-reply2 .ensures) refl
+    let two = c .before in
+    let long = cond-t _ _ (eq-eqb _ _ (two .before .before .if1 .left)) in
+    state-is (long ∙ cond-f _ _ (failed (two .before .tol-ok .ensures) (two .if2 .taken))) (c .plain-reply2 .ensures) refl
 
 codes-ok-requires : tie.Need-codes-ok-requires
 codes-ok-requires c κs = search needs
@@ -38,13 +38,11 @@ plain-reply-requires-3 c κs = search needs
 returns-3 : tie.Need-returns-3
 unfolding startSpec
 returns-3 c =
-    state-is
-    (cond-t _ _ (eq-eqb _ _ (c .before .before .before .before .before .if1 .left))
-    ∙ cond-t _ _
-    (sym (c .before .before .before .before .tol-ok .ensures)
-    ∙ not-false (c .before .before .before .before .tol-ok .result) (c .before .before .before .if2 .left))
-    ∙ cond-f _ _ (sym (c .before .before .codes-ok .ensures) ∙ not-true (c .before .before .codes-ok .result) (c .before .if3 .taken)))
-    (c .plain-reply3 .ensures) refl
+    let three = c .before in
+    let two = three .before .before in
+    let long = cond-t _ _ (eq-eqb _ _ (two .before .before .if1 .left)) in
+    let tolerance = long ∙ cond-t _ _ (passed (two .before .tol-ok .ensures) (two .if2 .left)) in
+    state-is (tolerance ∙ cond-f _ _ (failed (three .before .codes-ok .ensures) (three .if3 .taken))) (c .plain-reply3 .ensures) refl
 
 write-fresh-requires : tie.Need-write-fresh-requires
 write-fresh-requires c κs = search needs
@@ -58,16 +56,13 @@ same-length c = search needs
 returns-4 : tie.Need-returns-4
 unfolding startSpec
 returns-4 c =
-    state-is
-    (cond-t _ _ (eq-eqb _ _ (c .before .before .before .before .before .before .before .before .before .if1 .left))
-    ∙ cond-t _ _
-    (sym (c .before .before .before .before .before .before .before .before .tol-ok .ensures)
-    ∙ not-false (c .before .before .before .before .before .before .before .before .tol-ok .result)
-    (c .before .before .before .before .before .before .before .if2 .left))
-    ∙ cond-t _ _
-    (sym (c .before .before .before .before .before .before .codes-ok .ensures)
-    ∙ not-false (c .before .before .before .before .before .before .codes-ok .result) (c .before .before .before .before .before .if3 .left)))
-    (c .plain-reply4 .ensures) (c .before .before .before .write-fresh .ensures)
+    let fresh = c .before .before .before in
+    let three = fresh .before .before in
+    let two = three .before .before in
+    let long = cond-t _ _ (eq-eqb _ _ (two .before .before .if1 .left)) in
+    let tolerance = long ∙ cond-t _ _ (passed (two .before .tol-ok .ensures) (two .if2 .left)) in
+    let codes = tolerance ∙ cond-t _ _ (passed (three .before .codes-ok .ensures) (three .if3 .left)) in
+    state-is codes (c .plain-reply4 .ensures) (fresh .write-fresh .ensures)
 
 pub start-spec : {M : Type 1} → statement M
 start-spec =

@@ -44,9 +44,10 @@ same-length c = (c .before .loop .inv) .1 .1 .same
 returns : tie.Need-returns Inv-loop μ-loop
 unfolding fresh
 returns c =
-    let e : (c .before .loop .i) ≡ length (c .before .before .before .before .args .state .now) = omega arith in filled-all _ _ e
-    ((c .before .loop .inv) .1 .1 .is)
-    ∙ ap (upto _) (c .before .before .before .before .pre)
+    let at = c .before .loop in
+    let start = c .before .before .before .before in
+    let e : at .i ≡ length (start .args .state .now) = omega arith in
+    filled-all _ _ e (at .inv .1 .1 .is) ∙ ap (upto _) (start .pre)
 
 pub write-fresh-spec : {M : Type 1} → statement M
 write-fresh-spec =

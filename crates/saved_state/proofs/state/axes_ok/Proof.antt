@@ -32,7 +32,10 @@ codes-ok-requires c κs = search needs
 
 returns-2 : tie.Need-returns-2
 unfolding axesOk
-returns-2 c = (c .codes-ok .ensures) ∙ ap codesOk (part-codes (c .before .before .before .before .before .args .state .now)) ∙ sym (and-t _ (le-leb _ _ (c .before .before .if1 .left)))
+returns-2 c =
+    let one = c .before .before in
+    let state = one .before .before .before .args .state .now in
+    c .codes-ok .ensures ∙ ap codesOk (part-codes state) ∙ sym (and-t _ (le-leb _ _ (one .if1 .left)))
 
 pub axes-ok-spec : {M : Type 1} → statement M
 axes-ok-spec =

@@ -4,7 +4,9 @@ use mathlib.Core.Bool.{true}
 use native.Mathlib.Omega.{arith}
 use Prim.Native.Nat.{ℕ, _-_, _≤_}
 use lib.ListN.{length, getD}
-use borrow.Author.Tests.{le-leb, lt-leb, not-true, not-false}
+use borrow.Author.Tests.{le-leb, lt-leb, not-false}
+use Rattle.layout.specs.Layout.{listCodes}
+use Rattle.row_cells.specs.Tested.{passed, failed}
 use Rattle.floats.specs.Truth.{and-t, and-f, all-fails}
 use Rattle.floats.specs.Lists.{all}
 use Rattle.saved_state.specs.State.{codeOk, codesOk}
@@ -14,7 +16,7 @@ use Rattle.saved_state.proofs.state.codes_ok.Statement.{statement}
 use Rattle.saved_state.proofs.state.codes_ok.Tie as tie
 
 abbrev Inv-loop : tie.InvT-loop
-Inv-loop axes seen₀ i₀ seen i = (i ≤ length axes) × ((length axes ≤ 15) × Seen axes i seen)
+Inv-loop axes seen₀ i₀ seen i = (i ≤ length axes) × ((length axes ≤ listCodes) × Seen axes i seen)
 
 abbrev μ-loop : tie.MeasureT-loop
 μ-loop axes seen₀ i₀ seen i = length axes - i
@@ -37,10 +39,20 @@ is-new-requires c κs = search needs
 
 returns-2 : tie.Need-returns-2 Inv-loop μ-loop
 unfolding codesOk
-returns-2 c = sym (and-t _ (le-leb _ _ ((c .before .before .before .before .loop .inv) .1 .0)) ∙ all-fails _ (codeOk _) (c .before .before .before .before .loop .i) (c .before .before .before .loop-test .taken) (sym (new-ok _ _ _ (c .before .before .before .before .loop .inv .1 .1)) ∙ sym (c .before .is-new .ensures) ∙ not-true (c .before .is-new .result) (c .if2 .taken)))
+returns-2 c =
+    let asked = c .before in
+    let test = asked .before .before in
+    let at = test .before .loop in
+    let few = and-t _ (le-leb _ _ (at .inv .1 .0)) in
+    let out = sym (new-ok _ _ _ (at .inv .1 .1)) ∙ failed (asked .is-new .ensures) (c .if2 .taken) in
+    sym (few ∙ all-fails _ (codeOk _) (at .i) (test .loop-test .taken) out)
 
 set-bit-requires : tie.Need-set-bit-requires Inv-loop μ-loop
-set-bit-requires c κs = omega (arith, new-small (c .before .before .before .before .loop .seen) (getD (c .before .before .before .before .before .before .before .args .axes .now) (c .before .before .before .before .loop .i) 0) (c .before .is-new .result) (c .before .is-new .ensures) (not-false (c .before .is-new .result) (c .if2 .left)))
+set-bit-requires c κs =
+    let asked = c .before .is-new in
+    let at = c .before .before .before .before in
+    let code = getD (at .before .before .before .args .axes .now) (at .loop .i) 0 in
+    omega (arith, new-small (at .loop .seen) code (asked .result) (asked .ensures) (not-false (asked .result) (c .if2 .left)))
 
 add-i : tie.Need-add-i Inv-loop μ-loop
 add-i c = search needs
@@ -49,11 +61,21 @@ loop-less : tie.Need-loop-less Inv-loop μ-loop
 loop-less c = search needs
 
 loop-again : tie.Need-loop-again Inv-loop μ-loop
-loop-again c = (omega arith, (omega arith, seen-more _ _ _ (c .before .before .before .before .before .loop .inv .1 .1) (c .set-bit .ensures) (sym (new-ok _ _ _ (c .before .before .before .before .before .loop .inv .1 .1)) ∙ sym (c .before .before .is-new .ensures) ∙ not-false (c .before .before .is-new .result) (c .before .if2 .left)) (new-small _ _ _ (c .before .before .is-new .ensures) (not-false (c .before .before .is-new .result) (c .before .if2 .left)))))
+loop-again c =
+    let one = c .before in
+    let asked = one .before .is-new in
+    let s = one .before .before .before .before .loop .inv .1 .1 in
+    let fine = sym (new-ok _ _ _ s) ∙ passed (asked .ensures) (one .if2 .left) in
+    let code = new-small _ _ _ (asked .ensures) (not-false (asked .result) (one .if2 .left)) in
+    (omega arith, (omega arith, seen-more _ _ _ s (c .set-bit .ensures) fine code))
 
 returns-3 : tie.Need-returns-3 Inv-loop μ-loop
 unfolding codesOk
-returns-3 c = let e : (c .before .loop .i) ≡ length (c .before .before .before .before .args .axes .now) = omega arith in sym (and-t _ (le-leb _ _ ((c .before .loop .inv) .1 .0)) ∙ subst (λ (n : ℕ). all n (codeOk (c .before .before .before .before .args .axes .now)) ≡ true) e ((c .before .loop .inv) .1 .1 .ok))
+returns-3 c =
+    let at = c .before .loop in
+    let axes = c .before .before .before .before .args .axes .now in
+    let e : at .i ≡ length axes = omega arith in
+    sym (and-t _ (le-leb _ _ (at .inv .1 .0)) ∙ subst (λ (n : ℕ). all n (codeOk axes) ≡ true) e (at .inv .1 .1 .ok))
 
 pub codes-ok-spec : {M : Type 1} → statement M
 codes-ok-spec =

@@ -33,7 +33,11 @@ is-spline-requires c κs = search needs
 
 returns-3 : tie.Need-returns-3
 unfolding heldOk isSpline
-returns-3 c = (c .is-spline .ensures) ∙ ap splineKind (c .before .kind-of .ensures) ∙ sym (and-t _ (le-leb _ _ (c .before .before .before .before .before .if1 .left)) ∙ or-f _ (ne-eqb _ _ (c .before .before .before .if2 .left)))
+returns-3 c =
+    let kind = c .before in
+    let two = kind .before .before in
+    let passed = and-t _ (le-leb _ _ (two .before .before .if1 .left)) ∙ or-f _ (ne-eqb _ _ (two .if2 .left)) in
+    c .is-spline .ensures ∙ ap splineKind (kind .kind-of .ensures) ∙ sym passed
 
 pub held-ok-spec : {M : Type 1} → statement M
 held-ok-spec =

@@ -1,6 +1,6 @@
 -- `saved_state::state::held_row_ok` meets its contract. Assumes nothing.
 use mathlib.Core.Path.{ap, _∙_}
-use Rattle.saved_state.specs.StateLaws.{rowFits, fits-held}
+use Rattle.saved_state.specs.State.{rowFits, heldRowOk}
 use Rattle.saved_state.specs.Walk.{part-row}
 use borrow.Author.Needs.{needs}
 use Rattle.saved_state.proofs.state.held_row_ok.Statement.{statement}
@@ -31,7 +31,10 @@ row-fits-requires : tie.Need-row-fits-requires
 row-fits-requires c κs = search needs
 
 returns : tie.Need-returns
-returns c = (c .row-fits .ensures) ∙ ap (rowFits _) (part-row (c .before .before .before .before .before .args .store .now) (c .before .before .before .before .before .args .i)) ∙ fits-held (c .before .before .before .before .before .args .state .now) (c .before .before .before .before .before .args .store .now) (c .before .before .before .before .before .args .i)
+unfolding heldRowOk
+returns c =
+    let args = c .before .before .before .before .before .args in
+    c .row-fits .ensures ∙ ap (rowFits _) (part-row (args .store .now) (args .i))
 
 pub held-row-ok-spec : {M : Type 1} → statement M
 held-row-ok-spec =

@@ -3,7 +3,7 @@ use mathlib.Core.Path.{_≡_, refl, sym, _∙_, subst}
 use mathlib.Core.Bool.{true}
 use native.Mathlib.Omega.{arith}
 use Prim.Native.Nat.{ℕ, _-_, _≤_}
-use borrow.Author.Tests.{not-true, not-false}
+use Rattle.row_cells.specs.Tested.{passed, failed}
 use Rattle.floats.specs.Truth.{all-more, all-fails}
 use Rattle.floats.specs.Lists.{all}
 use Rattle.saved_state.specs.State.{heldRowOk}
@@ -25,7 +25,11 @@ held-row-ok-requires : tie.Need-held-row-ok-requires Inv-loop μ-loop
 held-row-ok-requires c κs = search needs
 
 returns : tie.Need-returns Inv-loop μ-loop
-returns c = sym (all-fails _ (heldRowOk _ _) (c .before .before .before .loop .i) (c .before .before .loop-test .taken) (sym (c .before .held-row-ok .ensures) ∙ not-true (c .before .held-row-ok .result) (c .if1 .taken)))
+returns c =
+    let asked = c .before in
+    let test = asked .before in
+    let out = failed (asked .held-row-ok .ensures) (c .if1 .taken) in
+    sym (all-fails _ (heldRowOk _ _) (test .before .loop .i) (test .loop-test .taken) out)
 
 add-i : tie.Need-add-i Inv-loop μ-loop
 add-i c = search needs
@@ -34,10 +38,17 @@ loop-less : tie.Need-loop-less Inv-loop μ-loop
 loop-less c = search needs
 
 loop-again : tie.Need-loop-again Inv-loop μ-loop
-loop-again c = (omega arith, all-more (c .before .before .before .loop .i) (heldRowOk _ _) ((c .before .before .before .loop .inv) .1) (sym (c .before .held-row-ok .ensures) ∙ not-false (c .before .held-row-ok .result) (c .if1 .left)))
+loop-again c =
+    let asked = c .before in
+    let at = asked .before .before .loop in
+    (omega arith, all-more (at .i) (heldRowOk _ _) (at .inv .1) (passed (asked .held-row-ok .ensures) (c .if1 .left)))
 
 returns-2 : tie.Need-returns-2 Inv-loop μ-loop
-returns-2 c = let e : (c .before .loop .i) ≡ (c .before .before .before .before .args .n) = omega arith in sym (subst (λ (k : ℕ). all k (heldRowOk (c .before .before .before .before .args .state .now) (c .before .before .before .before .args .store .now)) ≡ true) e ((c .before .loop .inv) .1))
+returns-2 c =
+    let at = c .before .loop in
+    let args = c .before .before .before .before .args in
+    let e : at .i ≡ args .n = omega arith in
+    sym (subst (λ (k : ℕ). all k (heldRowOk (args .state .now) (args .store .now)) ≡ true) e (at .inv .1))
 
 pub held-rows-ok-spec : {M : Type 1} → statement M
 held-rows-ok-spec =

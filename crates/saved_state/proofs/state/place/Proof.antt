@@ -35,7 +35,9 @@ same-length c = simp length-set
 
 returns : tie.Need-returns
 unfolding placed
-returns c = ap (λ (v : ℕ). set (set (c .before .before .before .args .state .now) wKnown v) (wKnown + 1 + (c .before .before .before .args .k)) (c .before .before .before .args .x)) (c .set-bit .ensures)
+returns c =
+    let args = c .before .before .before .args in
+    ap (λ (v : ℕ). set (set (args .state .now) wKnown v) (wKnown + 1 + args .k) (args .x)) (c .set-bit .ensures)
 
 pub place-spec : {M : Type 1} → statement M
 place-spec =

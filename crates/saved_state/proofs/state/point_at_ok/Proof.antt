@@ -1,6 +1,6 @@
 -- `saved_state::state::point_at_ok` meets its contract. Assumes nothing.
 use mathlib.Core.Path.{sym, _∙_}
-use borrow.Author.Tests.{not-true, not-false}
+use Rattle.row_cells.specs.Tested.{passed, failed}
 use Rattle.floats.specs.Truth.{and-t, and-f}
 use Rattle.saved_state.proofs.Marks.{point-there}
 use borrow.Author.Needs.{needs}
@@ -11,7 +11,9 @@ has-bit-requires : tie.Need-has-bit-requires
 has-bit-requires c κs = search needs
 
 returns : tie.Need-returns
-returns c = sym (point-there _ _ _ _ ((c .before .before .before .pre) .0) ((c .before .before .before .pre) .1 .0) ∙ and-f _ (sym (c .before .has-bit .ensures) ∙ not-true (c .before .has-bit .result) (c .if1 .taken)))
+returns c =
+    let pre = c .before .before .before .pre in
+    sym (point-there _ _ _ _ (pre .0) (pre .1 .0) ∙ and-f _ (failed (c .before .has-bit .ensures) (c .if1 .taken)))
 
 add-within-range : tie.Need-add-within-range
 add-within-range c = search needs
@@ -29,7 +31,10 @@ within-range-requires : tie.Need-within-range-requires
 within-range-requires c κs = search needs
 
 returns-2 : tie.Need-returns-2
-returns-2 c = (c .within-range .ensures) ∙ sym (point-there _ _ _ _ ((c .before .before .before .before .before .pre) .0) ((c .before .before .before .before .before .pre) .1 .0) ∙ and-t _ (sym (c .before .before .before .has-bit .ensures) ∙ not-false (c .before .before .before .has-bit .result) (c .before .before .if1 .left)))
+returns-2 c =
+    let one = c .before .before in
+    let pre = one .before .before .before .pre in
+    c .within-range .ensures ∙ sym (point-there _ _ _ _ (pre .0) (pre .1 .0) ∙ and-t _ (passed (one .before .has-bit .ensures) (one .if1 .left)))
 
 pub point-at-ok-spec : {M : Type 1} → statement M
 point-at-ok-spec =

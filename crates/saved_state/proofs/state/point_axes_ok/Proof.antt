@@ -1,14 +1,13 @@
 -- `saved_state::state::point_axes_ok` meets its contract. Assumes nothing.
-use mathlib.Core.Path.{_≡_, sym, _∙_, subst}
+use mathlib.Core.Path.{_≡_, sym}
 use mathlib.Core.Bool.{true}
 use native.Mathlib.Omega.{arith}
-use native.Mathlib.Nat.{mod-eq-of-lt}
 use Prim.Native.Nat.{ℕ}
 use lib.ListN.{getD}
-use borrow.Author.Tests.{not-true, not-false}
+use Rattle.row_cells.specs.Tested.{passed, failed}
 use Rattle.layout.specs.Layout.{axisCodes}
 use Rattle.floats.specs.Truth.{all-intro, all-fails}
-use Rattle.rows.specs.BitWalk.{at-bit, AtBit, Walking, walking-first, walking-more, walked}
+use Rattle.row_cells.specs.BitWalk.{at-bit, AtBit, Walking, walking-all, walking-more, walked}
 use Rattle.saved_state.specs.State.{pointAtOk}
 use Rattle.saved_state.proofs.Marks.{point-absent}
 use borrow.Author.Needs.{needs}
@@ -28,25 +27,39 @@ shared-slice-read-rest : tie.Need-shared-slice-read-rest Inv-loop μ-loop
 shared-slice-read-rest c = search needs
 
 loop-holds : tie.Need-loop-holds Inv-loop μ-loop
-loop-holds c = subst (Walking _ axisCodes _) (mod-eq-of-lt ((c .before .before .pre) .1)) (walking-first (omega arith) (λ k l h. point-absent _ _ k h))
+loop-holds c = walking-all (omega arith) (c .before .before .pre .1) (λ k l h. point-absent _ _ k h)
 
 lowest-bit-requires : tie.Need-lowest-bit-requires Inv-loop μ-loop
 lowest-bit-requires c κs = search needs
 
 point-at-ok-requires : tie.Need-point-at-ok-requires Inv-loop μ-loop
-point-at-ok-requires c κs = let a : AtBit _ axisCodes _ _ = at-bit (c .before .before .loop .inv .bits) (omega arith) (c .lowest-bit .ensures) in ((c .before .before .before .before .before .pre) .0, (a .there, a .below))
+point-at-ok-requires c κs =
+    let at = c .before .before in
+    let a : AtBit _ axisCodes _ _ = at-bit (at .loop .inv .bits) (omega arith) (c .lowest-bit .ensures) in
+    (at .before .before .before .pre .0, (a .there, a .below))
 
 returns : tie.Need-returns Inv-loop μ-loop
-returns c = let a : AtBit _ axisCodes _ _ = at-bit (c .before .before .before .before .loop .inv .bits) (omega arith) (c .before .before .lowest-bit .ensures) in sym (all-fails axisCodes (pointAtOk _ _) (c .before .before .lowest-bit .result) (a .below) (sym (c .before .point-at-ok .ensures) ∙ not-true (c .before .point-at-ok .result) (c .if1 .taken)))
+returns c =
+    let asked = c .before in
+    let low = asked .before in
+    let a : AtBit _ axisCodes _ _ = at-bit (low .before .before .loop .inv .bits) (omega arith) (low .lowest-bit .ensures) in
+    let out = failed (asked .point-at-ok .ensures) (c .if1 .taken) in
+    sym (all-fails axisCodes (pointAtOk _ _) (low .lowest-bit .result) (a .below) out)
 
 other-bits-requires : tie.Need-other-bits-requires Inv-loop μ-loop
 other-bits-requires c κs = search needs
 
 loop-less : tie.Need-loop-less Inv-loop μ-loop
-loop-less c = omega (arith, (at-bit (c .before .before .before .before .before .loop .inv .bits) (omega arith) (c .before .before .before .lowest-bit .ensures)) .fewer)
+loop-less c =
+    let low = c .before .before .before in
+    omega (arith, (at-bit (low .before .before .loop .inv .bits) (omega arith) (low .lowest-bit .ensures)) .fewer)
 
 loop-again : tie.Need-loop-again Inv-loop μ-loop
-loop-again c = walking-more (c .before .before .before .before .before .loop .inv) (omega arith) (c .before .before .before .lowest-bit .ensures) (c .other-bits .ensures) (sym (c .before .before .point-at-ok .ensures) ∙ not-false (c .before .before .point-at-ok .result) (c .before .if1 .left))
+loop-again c =
+    let one = c .before in
+    let low = one .before .before in
+    let fine = passed (one .before .point-at-ok .ensures) (one .if1 .left) in
+    walking-more (low .before .before .loop .inv) (omega arith) (low .lowest-bit .ensures) (c .other-bits .ensures) fine
 
 returns-2 : tie.Need-returns-2 Inv-loop μ-loop
 returns-2 c = sym (all-intro axisCodes (pointAtOk _ _) (walked (c .before .loop .inv) (omega arith)))

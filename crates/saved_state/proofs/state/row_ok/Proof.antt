@@ -3,10 +3,10 @@ use mathlib.Core.Path.{_≡_, refl, sym, ap, _∙_}
 use mathlib.Core.Bool.{Bool, true, false, cond}
 use Prim.Native.Nat.{ℕ}
 use lib.Dec.{eqb}
-use borrow.Author.Tests.{not-true, not-false}
+use Rattle.row_cells.specs.Tested.{passed, failed}
 use Rattle.floats.specs.Truth.{cond-t, cond-f}
-use Rattle.rows.specs.Row.{rowCheck}
-use Rattle.rows.specs.RowLaws.{shape-length}
+use Rattle.row_check.specs.Check.{rowCheck}
+use Rattle.row_check.specs.CheckLaws.{shape-length}
 use borrow.Author.Needs.{needs}
 use Rattle.saved_state.proofs.state.row_ok.Statement.{statement}
 use Rattle.saved_state.proofs.state.row_ok.Tie as tie
@@ -16,17 +16,22 @@ shape-ok-requires c κs = search needs
 
 returns : tie.Need-returns
 unfolding rowCheck
-returns c = sym (ap (λ (n : ℕ). eqb n 0) (cond-f _ _ (sym (c .before .shape-ok .ensures) ∙ not-true (c .before .shape-ok .result) (c .if1 .taken))))
+returns c = sym (ap (λ (n : ℕ). eqb n 0) (cond-f _ _ (failed (c .before .shape-ok .ensures) (c .if1 .taken))))
 
 numbers-ok-requires : tie.Need-numbers-ok-requires
-numbers-ok-requires c κs = shape-length _ (sym (c .before .shape-ok .ensures) ∙ not-false (c .before .shape-ok .result) (c .if1 .left))
+numbers-ok-requires c κs = shape-length _ (passed (c .before .shape-ok .ensures) (c .if1 .left))
 
 returns-2 : tie.Need-returns-2
 unfolding rowCheck
-returns-2 c = sym (ap (λ (n : ℕ). eqb n 0) (cond-t _ _ (sym (c .before .before .before .shape-ok .ensures) ∙ not-false (c .before .before .before .shape-ok .result) (c .before .before .if1 .left)) ∙ cond-f _ _ (sym (c .before .numbers-ok .ensures) ∙ not-true (c .before .numbers-ok .result) (c .if2 .taken))))
+returns-2 c =
+    let one = c .before .before in
+    let shape = cond-t _ _ (passed (one .before .shape-ok .ensures) (one .if1 .left)) in
+    sym (ap (λ (n : ℕ). eqb n 0) (shape ∙ cond-f _ _ (failed (c .before .numbers-ok .ensures) (c .if2 .taken))))
 
 turn-ok-requires : tie.Need-turn-ok-requires
-turn-ok-requires c κs = shape-length _ (sym (c .before .before .before .shape-ok .ensures) ∙ not-false (c .before .before .before .shape-ok .result) (c .before .before .if1 .left))
+turn-ok-requires c κs =
+    let one = c .before .before in
+    shape-length _ (passed (one .before .shape-ok .ensures) (one .if1 .left))
 
 turned : (b : Bool) → b ≡ eqb (cond b 0 5) 0
 turned true = refl
@@ -34,7 +39,12 @@ turned false = refl
 
 returns-3 : tie.Need-returns-3
 unfolding rowCheck
-returns-3 c = c .turn-ok .ensures ∙ turned _ ∙ sym (ap (λ (n : ℕ). eqb n 0) (cond-t _ _ (sym (c .before .before .before .before .shape-ok .ensures) ∙ not-false (c .before .before .before .before .shape-ok .result) (c .before .before .before .if1 .left)) ∙ cond-t _ _ (sym (c .before .before .numbers-ok .ensures) ∙ not-false (c .before .before .numbers-ok .result) (c .before .if2 .left))))
+returns-3 c =
+    let two = c .before in
+    let one = two .before .before in
+    let shape = cond-t _ _ (passed (one .before .shape-ok .ensures) (one .if1 .left)) in
+    let numbers = cond-t _ _ (passed (two .before .numbers-ok .ensures) (two .if2 .left)) in
+    c .turn-ok .ensures ∙ turned _ ∙ sym (ap (λ (n : ℕ). eqb n 0) (shape ∙ numbers))
 
 pub row-ok-spec : {M : Type 1} → statement M
 row-ok-spec =

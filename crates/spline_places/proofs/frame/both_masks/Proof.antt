@@ -2,8 +2,8 @@ use mathlib.Core.Path.{_≡_, refl, sym, ap₂, _∙_, subst}
 use mathlib.Core.Bool.{Bool, cond, _&&_}
 use native.Mathlib.Omega.{arith}
 use Prim.Native.Nat.{ℕ, _+_, _-_, _≤_, _<_, _^_}
-use Rattle.rows.specs.Row.{has}
-use Rattle.rows.specs.Masks.{maskSum, mask-more, mask-lt}
+use Rattle.row_cells.specs.Bits.{has, maskSum}
+use Rattle.row_cells.specs.Masks.{mask-more, mask-lt}
 use borrow.Author.Needs.{needs}
 use Rattle.spline_places.proofs.frame.both_masks.Statement.{statement}
 use Rattle.spline_places.proofs.frame.both_masks.Tie as tie

@@ -2,7 +2,7 @@ use mathlib.Core.Path.{sym, _∙_}
 use borrow.Author.Needs.{needs}
 use Rattle.spline_places.proofs.frame.in_both.Statement.{statement}
 use Rattle.spline_places.proofs.frame.in_both.Tie as tie
-use Rattle.rows.proofs.has_bit.Reads as has-bit-reads
+use Rattle.row_cells.proofs.has_bit.Reads as has-bit-reads
 
 has-bit-requires : tie.Need-has-bit-requires
 has-bit-requires c κs = search needs

@@ -3,7 +3,8 @@ use mathlib.Core.Bool.{Bool, cond}
 use native.Mathlib.Omega.{arith}
 use Prim.Native.Nat.{ℕ, _+_, _-_, _≤_, _<_, _^_}
 use Rattle.floats.specs.Lists.{member}
-use Rattle.rows.specs.Masks.{maskSum, mask-more, mask-lt}
+use Rattle.row_cells.specs.Bits.{maskSum}
+use Rattle.row_cells.specs.Masks.{mask-more, mask-lt}
 use borrow.Author.Needs.{needs}
 use Rattle.spline_places.proofs.frame.mask_of.Statement.{statement}
 use Rattle.spline_places.proofs.frame.mask_of.Tie as tie

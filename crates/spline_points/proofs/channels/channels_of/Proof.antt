@@ -3,7 +3,7 @@ use mathlib.Core.List.{[]}
 use Prim.Native.Nat.{_≤_, _-_}
 use native.Mathlib.Omega.{arith}
 use Rattle.floats.specs.Lists.{upto}
-use Rattle.rows.specs.Codes.{geometricOf}
+use Rattle.row_cells.specs.Codes.{geometricOf}
 use Rattle.spline_points.specs.Points.{channelsFrom, blockAt}
 use Rattle.spline_points.specs.Channels.{channels-room, channels-step}
 use Rattle.spline_points.specs.Append.{Appended, appended-none}

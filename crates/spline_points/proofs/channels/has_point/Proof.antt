@@ -6,8 +6,9 @@ use lib.Dec.{ltb}
 use lib.ListN.{length, drop}
 use Rattle.layout.specs.Layout.{axisCodes}
 use Rattle.floats.specs.Lists.{anyOf}
-use Rattle.rows.specs.Codes.{geometricOf}
-use Rattle.rows.specs.Row.{has, hasPoint}
+use Rattle.row_cells.specs.Codes.{geometricOf}
+use Rattle.row_cells.specs.Bits.{has}
+use Rattle.row_cells.specs.Row.{hasPoint}
 use Rattle.spline_points.specs.Keeps.{any-keep, any-hit, any-miss, any-none}
 use borrow.Author.Needs.{needs}
 use Rattle.spline_points.proofs.channels.has_point.Statement.{statement}

@@ -4,7 +4,7 @@ use borrow.Author.Tests.{lt-ltb, le-ltb}
 use borrow.Author.Needs.{needs}
 use Rattle.spline_points.proofs.channels.programs.Statement.{statement}
 use Rattle.spline_points.proofs.channels.programs.Tie as tie
-use Rattle.rows.proofs.has_bit.Reads as has-bit-reads
+use Rattle.row_cells.proofs.has_bit.Reads as has-bit-reads
 
 returns : tie.Need-returns
 returns c = rw (le-ltb _ axisCodes (c .if1 .taken))

@@ -3,8 +3,8 @@ use Prim.Native.Nat.{_≤_, _-_}
 use native.Mathlib.Omega.{arith}
 use lib.ListN.{length}
 use Rattle.floats.specs.Lists.{upto, keep}
-use Rattle.rows.specs.Codes.{geometricOf}
-use Rattle.rows.specs.Row.{hasPoint}
+use Rattle.row_cells.specs.Codes.{geometricOf}
+use Rattle.row_cells.specs.Row.{hasPoint}
 use Rattle.spline_points.specs.Points.{blockAt}
 use Rattle.spline_points.specs.Channels.{block-length}
 use Rattle.spline_points.specs.Curve.{PointsAdded, none-added, added-room, points-step}

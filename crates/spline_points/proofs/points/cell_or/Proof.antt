@@ -3,7 +3,7 @@ use Rattle.spline_points.specs.Curve.{cell-yes, cell-no}
 use borrow.Author.Needs.{needs}
 use Rattle.spline_points.proofs.points.cell_or.Statement.{statement}
 use Rattle.spline_points.proofs.points.cell_or.Tie as tie
-use Rattle.rows.proofs.has_bit.Reads as has-bit-reads
+use Rattle.row_cells.proofs.has_bit.Reads as has-bit-reads
 
 shared-slice-read-has-bit : tie.Need-shared-slice-read-has-bit
 shared-slice-read-has-bit c = search needs

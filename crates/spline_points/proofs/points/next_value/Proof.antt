@@ -4,7 +4,7 @@ use borrow.Author.Needs.{needs}
 use Rattle.spline_points.proofs.points.next_value.Statement.{statement}
 use Rattle.spline_points.proofs.points.next_value.Tie as tie
 use Rattle.floats.proofs.of_bits.Reads as of-bits-reads
-use Rattle.rows.proofs.has_bit.Reads as has-bit-reads
+use Rattle.row_cells.proofs.has_bit.Reads as has-bit-reads
 
 shared-slice-read-has-bit : tie.Need-shared-slice-read-has-bit
 shared-slice-read-has-bit c = search needs

@@ -5,7 +5,7 @@ use native.Mathlib.Omega.{arith}
 use lib.ListN.{length, take}
 use lib.Seq.{take-all}
 use Rattle.floats.specs.Lists.{upto}
-use Rattle.rows.specs.Row.{shown}
+use Rattle.row_cells.specs.Row.{shown}
 use Rattle.spline_points.specs.Points.{startValue, blockAt}
 use Rattle.spline_points.specs.Append.{Appended, appended-none, appended-to, appended-as}
 use Rattle.spline_points.specs.Curve.{start-step}

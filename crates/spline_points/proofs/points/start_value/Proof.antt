@@ -6,7 +6,7 @@ use Rattle.spline_points.proofs.points.start_value.Statement.{statement
 use Rattle.spline_points.proofs.points.start_value.Tie as tie
 use Rattle.floats.proofs.of_bits.Reads as of-bits-reads
 use Rattle.spline_points.proofs.points.first_word.Reads as first-word-reads
-use Rattle.rows.proofs.has_bit.Reads as has-bit-reads
+use Rattle.row_cells.proofs.has_bit.Reads as has-bit-reads
 
 has-bit-requires : tie.Need-has-bit-requires
 has-bit-requires c κs = search needs

@@ -1,0 +1,114 @@
+-- `row_put::put_point` meets its contract. Assumes nothing.
+use mathlib.Core.Path.{_≡_, sym, ap}
+use mathlib.Core.Bool.{true, false}
+use mathlib.Core.List.{List}
+use mathlib.Core.Option.{Option, Option·getD}
+use native.Mathlib.Omega.{arith}
+use native.Mathlib.Nat.{mod-eq-of-lt}
+use Prim.Native.Nat.{ℕ}
+use lib.ListN.{getD}
+use Rattle.layout.specs.Layout.{axisCodes, cells}
+use Rattle.row_cells.specs.Bits.{has}
+use Rattle.row_cells.specs.Row.{shown}
+use Rattle.row_put.specs.Made.{shownWord}
+use Rattle.floats.specs.Truth.{cond-t, cond-f}
+use Rattle.row_cells.specs.Masks.{below-bits}
+use Rattle.row_cells.specs.BitWalk.{at-bit}
+use Rattle.row_put.proofs.Storing.{Storing, storing-first, storing-more, stored}
+use borrow.Author.Needs.{needs}
+use Rattle.row_put.proofs.put_point.Statement.{statement}
+use Rattle.row_put.proofs.put_point.Tie as tie
+
+not-shown : (mask : ℕ) (ws : List ℕ) (k : ℕ) → has mask k ≡ false → shownWord mask ws k ≡ 0
+unfolding shown
+not-shown mask ws k h = ap (λ (o : Option ℕ). Option·getD o 0) (cond-f _ _ h)
+
+is-shown : (mask : ℕ) (ws : List ℕ) (k : ℕ) → has mask k ≡ true → getD ws k 0 ≡ shownWord mask ws k
+unfolding shown
+is-shown mask ws k h = sym (ap (λ (o : Option ℕ). Option·getD o 0) (cond-t _ _ h))
+
+abbrev Inv-loop : tie.InvT-loop
+Inv-loop rows₀ at mask words rest₀ rows rest = Storing mask cells (shownWord mask words) at rest rows₀ rows
+
+abbrev μ-loop : tie.MeasureT-loop
+μ-loop rows₀ at mask words rest₀ rows rest = rest
+
+clear-cells-requires : tie.Need-clear-cells-requires Inv-loop μ-loop
+clear-cells-requires c κs = search needs
+
+loop-holds : tie.Need-loop-holds Inv-loop μ-loop
+loop-holds c =
+    let cleared = c .before .before .clear-cells .ensures in
+    storing-first (record { room = omega arith; is = cleared }) (sym (mod-eq-of-lt (omega arith))) (omega arith) (λ k l h. not-shown _ _ k h)
+
+lowest-bit-requires : tie.Need-lowest-bit-requires Inv-loop μ-loop
+lowest-bit-requires c κs = search needs
+
+mul-rows : tie.Need-mul-rows Inv-loop μ-loop
+mul-rows c = omega (arith, (at-bit (c .before .before .loop .inv .bits) (omega arith) (c .lowest-bit .ensures)) .below)
+
+shared-slice-read-rows : tie.Need-shared-slice-read-rows Inv-loop μ-loop
+shared-slice-read-rows c =
+    let low = c .before in
+    let at = low .before .before in
+    let start = at .before .before .before .before .before .before .before in
+    omega (arith, below-bits _ axisCodes _ (start .pre .0) ((at-bit (at .loop .inv .bits) (omega arith) (low .lowest-bit .ensures)) .there))
+
+add-rows : tie.Need-add-rows Inv-loop μ-loop
+add-rows c =
+    let low = c .before in
+    let s = low .before .before .loop .inv in
+    omega (arith, (at-bit (s .bits) (omega arith) (low .lowest-bit .ensures)) .below, s .room, s .same)
+
+mul-rows-2 : tie.Need-mul-rows-2 Inv-loop μ-loop
+mul-rows-2 c =
+    let low = c .before in
+    let s = low .before .before .loop .inv in
+    omega (arith, (at-bit (s .bits) (omega arith) (low .lowest-bit .ensures)) .below, s .room, s .same)
+
+slice-write-rows : tie.Need-slice-write-rows Inv-loop μ-loop
+slice-write-rows c =
+    let low = c .before in
+    let s = low .before .before .loop .inv in
+    omega (arith, (at-bit (s .bits) (omega arith) (low .lowest-bit .ensures)) .below, s .room, s .same)
+
+other-bits-requires : tie.Need-other-bits-requires Inv-loop μ-loop
+other-bits-requires c κs = search needs
+
+loop-less : tie.Need-loop-less Inv-loop μ-loop
+loop-less c =
+    let low = c .before .before in
+    omega (arith, (at-bit (low .before .before .loop .inv .bits) (omega arith) (low .lowest-bit .ensures)) .fewer)
+
+loop-again : tie.Need-loop-again Inv-loop μ-loop
+loop-again c =
+    let low = c .before .before in
+    let s = low .before .before .loop .inv in
+    let a = at-bit (s .bits) (omega arith) (low .lowest-bit .ensures) in
+    storing-more s (omega arith) (low .lowest-bit .ensures) (c .other-bits .ensures) (is-shown _ _ _ (a .there))
+
+same-length : tie.Need-same-length Inv-loop μ-loop
+same-length c = omega (arith, c .before .loop .inv .same)
+
+returns : tie.Need-returns Inv-loop μ-loop
+returns c = stored (record { room = omega arith; is = c .before .before .before .before .clear-cells .ensures }) (c .before .loop .inv) (omega arith)
+
+pub put-point-spec : {M : Type 1} → statement M
+put-point-spec =
+    tie.close
+    (tie.spec
+    Inv-loop
+    μ-loop
+    clear-cells-requires
+    loop-holds
+    lowest-bit-requires
+    mul-rows
+    shared-slice-read-rows
+    add-rows
+    mul-rows-2
+    slice-write-rows
+    other-bits-requires
+    loop-less
+    loop-again
+    same-length
+    returns)
