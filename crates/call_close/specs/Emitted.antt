@@ -16,7 +16,7 @@ use Rattle.rows.specs.Row.{shown, hasPoint}
 use Rattle.rows.specs.RowLaws.{length-out, length-made}
 use Rattle.floats.specs.Truth.{by-bit, cond-t, cond-f, all-at, and-right}
 use Rattle.spline_points.specs.Points.{Spline, channels, pointRows, startPoint, pointsFrom, metricOf, splineOf}
-use Rattle.spline_points.specs.Channels.{Once}
+use Rattle.spline_points.specs.Gathers.{Once}
 use Rattle.spline_points.specs.Flat.{Sized, sized-append, sized-cons, flatten-append, length-flatten}
 use Rattle.spline_points.specs.Curve.{points-length}
 use Rattle.spline_points.specs.Keeps.{keep-most}

@@ -17,7 +17,8 @@ use Rattle.motion.specs.Motion.{gOne}
 use Rattle.rows.specs.Codes.{geometricOf}
 use Rattle.rows.specs.Row.{has, presentOf, shown, hasPoint, outRow, madeRow}
 use Rattle.rows.specs.Masks.{member-append, member-keep}
-use Rattle.spline_points.specs.Channels.{Once, Good, Distinct, channels-good, channels-few, once-distinct, distinct-keep, none-good}
+use Rattle.spline_points.specs.Gathers.{Once}
+use Rattle.spline_points.specs.Channels.{Good, Distinct, channels-good, channels-few, once-distinct, distinct-keep, none-good}
 use Rattle.spline_points.specs.Keeps.{member-here}
 use Rattle.spline_points.specs.Points.{Spline, channels, channelsFrom, blockAt}
 use Rattle.spline_emission.specs.Emits.{bit-below}
