@@ -241,7 +241,7 @@ curved-is gs start f held g chans ms pts ws many h lp lw =
 pub runs-are : (motion degree : ℕ) (tol : Float) (axes : List ℕ) (start : ℕ) (words store : List ℕ) (held : ℕ) (g : Curve) (chans ms : List ℕ) (pts ws : List Float)
     → Gathered (geometricOf axes) (shown start words) (upto (blockAt store) held) g chans ms pts ws
     → curveRuns motion degree (take (g .metric) ms) tol (rowsOf pts (g .ch) (g .n)) (take (g .n) ws) ≡ runsOf (splineOf motion degree tol axes start words store held)
-unfolding runsOf channels pointRows startPoint startValue
+unfolding runsOf channels pointRows startPoint
 runs-are motion degree tol axes start words store held g chans ms pts ws h = rw (h .metric, h .drawn, h .weights)
 
 nothing : {A : Type 0} (xs : List A) → length xs ≡ 0 → xs ≡ []
