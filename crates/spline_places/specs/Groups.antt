@@ -8,12 +8,13 @@ use lib.ListN.{length, getD, take}
 use lib.Ieee.{Float}
 use Rattle.floats.specs.Numbers.{bits, at}
 use Rattle.floats.specs.Lists.{upto, keep, member}
+use Rattle.motion.specs.Motion as motions
 use Rattle.motion.specs.Motion.{gOne}
 use Rattle.rows.specs.Row.{cell, hasPoint, outRow, madeRow}
 use Rattle.spline_points.specs.Points.{Spline, channels, placeOf}
 
 abbrev pub isBasis : Spline → Bool
-isBasis s = eqb (s .motion) 6
+isBasis s = motions.isBasis (s .motion)
 
 -- the axis cells of a sample: its channels
 unfoldable pub sampleCell : List ℕ → List Float → ℕ → Option ℕ
