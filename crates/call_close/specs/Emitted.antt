@@ -17,7 +17,7 @@ use Rattle.row_cells.specs.RowLaws.{length-out}
 use Rattle.row_put.specs.MadeLaws.{length-made}
 use Rattle.floats.specs.Truth.{by-bit, cond-t, cond-f, all-at, and-right}
 use Rattle.spline_points.specs.Points.{Spline, channels, pointRows, startPoint, pointsFrom, metricOf, splineOf}
-use Rattle.spline_points.specs.Channels.{Once}
+use Rattle.spline_points.specs.Gathers.{Once}
 use Rattle.spline_points.specs.Flat.{Sized, sized-append, sized-cons, flatten-append, length-flatten}
 use Rattle.spline_points.specs.Curve.{points-length}
 use Rattle.spline_points.specs.Keeps.{keep-most}

@@ -27,18 +27,21 @@ use Rattle.curve_walk.specs.Walks.{encode}
 use Rattle.curve_runs.specs.Ready.{Ready}
 use Rattle.curve_runs.specs.Lefts.{Remembers}
 use Rattle.curve_runs.specs.Runs.{curveRuns}
-use Rattle.spline_points.specs.Points.{Spline, channels, channelsFrom, pointRows, startPoint, startValue, pointsFrom, metricOf, weightOf, blockAt, splineOf}
-use Rattle.spline_points.specs.Append.{Appended}
+use Rattle.spline_points.specs.Points.{Spline, channels, channelsFrom, pointRows, startPoint, startValue, pointsFrom, metricOf, weightOf, blockAt, splineOf, placeOf}
+use Rattle.spline_points.specs.Gathers.{Appended, Once, Codes, PointsAre}
 use Rattle.spline_points.specs.Flat.{Sized, sized-cons, flat-row, flatten-append, length-flatten}
-use Rattle.spline_points.specs.Channels.{Once, Good, channels-good, channels-few, geometric-few, once-distinct, distinct-keep, none-good}
-use Rattle.spline_points.specs.Curve.{Codes, PointsAre, points-sized, points-length}
+use Rattle.spline_points.specs.Channels.{Good, channels-good, channels-few, geometric-few, once-distinct, distinct-keep, none-good}
+use Rattle.spline_points.specs.Curve.{points-sized, points-length}
 use Rattle.spline_points.specs.Keeps.{keep-upto-most, keep-most, member-at}
 use Rattle.spline_places.specs.declared.frame.Frame.{Frame}
 use Rattle.spline_places.specs.declared.place.Place.{Place}
-use Rattle.spline_places.specs.Groups.{placeOf, isBasis}
-use Rattle.spline_places.specs.Sizes.{Few, placeTo, place-few, place-points}
-use Rattle.spline_places.specs.Raw.{rawAt, rawHeld}
-use Rattle.spline_places.specs.Puts.{Sound, Spreads, heldWords, place-order, block-long, moved-rows}
+use Rattle.spline_places.specs.Groups.{isBasis}
+use Rattle.spline_places.specs.Places.{Few}
+use Rattle.spline_places.specs.Sizes.{placeTo}
+use Rattle.spline_places.specs.SizeLaws.{place-few, place-points, place-order, moved-rows}
+use Rattle.spline_rows.specs.Raw.{rawAt, rawHeld, heldWords}
+use Rattle.spline_rows.specs.Puts.{Sound, Spreads}
+use Rattle.spline_rows.specs.RawLaws.{block-long}
 use Rattle.spline_emission.specs.declared.Curve.{Curve}
 use Rattle.spline_emission.specs.declared.Plan.{Plan}
 use Rattle.spline_emission.specs.Emission.{runsOf, splineGroups, putWithin}
@@ -83,8 +86,8 @@ pub record Curved (n ch : ℕ) (ms : List ℕ) (pts ws : List Float) : Type 0 wh
 abbrev pub placesOf : List ℕ → List ℕ
 placesOf chans = filled (λ (k : ℕ). placeOf k chans) 10 (replicate 10 0)
 
-abbrev pub layoutOf : List ℕ → List ℕ → Bool → ℕ → Frame
-layoutOf axes chans basis points = record {
+abbrev pub frameOf : List ℕ → List ℕ → Bool → ℕ → Frame
+frameOf axes chans basis points = record {
   axes = maskSum (λ (k : ℕ). member k axes) 10;
   mask = maskSum (λ (k : ℕ). member k chans) 10;
   ch = length chans;
@@ -239,7 +242,7 @@ curved-is gs start f held g chans ms pts ws many h lp lw =
 pub runs-are : (motion degree : ℕ) (tol : Float) (axes : List ℕ) (start : ℕ) (words store : List ℕ) (held : ℕ) (g : Curve) (chans ms : List ℕ) (pts ws : List Float)
     → Gathered (geometricOf axes) (shown start words) (upto (blockAt store) held) g chans ms pts ws
     → curveRuns motion degree (take (g .metric) ms) tol (rowsOf pts (g .ch) (g .n)) (take (g .n) ws) ≡ runsOf (splineOf motion degree tol axes start words store held)
-unfolding runsOf channels pointRows startPoint startValue
+unfolding runsOf channels pointRows startPoint
 runs-are motion degree tol axes start words store held g chans ms pts ws h = rw (h .metric, h .drawn, h .weights)
 
 nothing : {A : Type 0} (xs : List A) → length xs ≡ 0 → xs ≡ []
@@ -301,7 +304,7 @@ mask-codes cs h k = ⊎-elim
 module _ (s : Spline) (axes chans : List ℕ) (basis : Bool) (points : ℕ)
     (ea : s .axes ≡ geometricOf axes) (ec : chans ≡ channels s) (below : (k : ℕ) → member k (channels s) ≡ true → k < 10) where
   laid : Frame
-  laid = layoutOf axes chans basis points
+  laid = frameOf axes chans basis points
 
   mask-small : laid .mask < 1024
   unfolding laid
@@ -315,7 +318,7 @@ module _ (s : Spline) (axes chans : List ℕ) (basis : Bool) (points : ℕ)
   unfolding laid
   place-is k e = rw ec (at-filled (λ (k : ℕ). placeOf k (channels s)) (replicate 10 0) 10 k 0 (bit-below (laid .mask) k mask-small e))
 
-  pub laid-sound : length (channels s) ≤ 10 → Sound (layoutOf axes chans basis points) (placesOf chans)
+  pub laid-sound : length (channels s) ≤ 10 → Sound (frameOf axes chans basis points) (placesOf chans)
   unfolding laid
   laid-sound few = record {
     axes = mask-lt (λ (k : ℕ). member k axes) 10;
@@ -326,7 +329,7 @@ module _ (s : Spline) (axes chans : List ℕ) (basis : Bool) (points : ℕ)
   }
 
   pub laid-lies : (counts : List ℕ) → basis ≡ isBasis s → points ≡ length (runsOf s) → ((j : ℕ) → j < length (runsOf s) → getD counts j 0 ≡ length (getD (runsOf s) j []))
-      → Lies s (runsOf s) (layoutOf axes chans basis points) (placesOf chans) counts
+      → Lies s (runsOf s) (frameOf axes chans basis points) (placesOf chans) counts
   unfolding laid
   laid-lies counts eb ep ej = record {
     small = mask-lt (λ (k : ℕ). member k axes) 10;
@@ -373,7 +376,7 @@ module _ (motion degree : ℕ) (tol : Float) (axes : List ℕ) (start : ℕ) (wo
   unfolding splineGroups
   counted-is counts total k ej ep =
       let s : Spline = splineOf motion degree tol axes start words store held in
-      let o : Frame = layoutOf axes (channels s) (eqb motion 6) (length (runsOf s)) in
+      let o : Frame = frameOf axes (channels s) (eqb motion 6) (length (runsOf s)) in
       let lies : Lies s (runsOf s) o (placesOf (channels s)) counts = laid-lies s axes (channels s) (eqb motion 6) (length (runsOf s)) refl refl chans-below counts refl refl ej in
       record {
         known = k;
@@ -434,7 +437,7 @@ module _ (motion degree : ℕ) (tol : Float) (axes : List ℕ) (start : ℕ) (wo
       rw (n, ← q, c .place) m
 
   module _ (chans : List ℕ) (points : ℕ) (ec : chans ≡ channels (splineOf motion degree tol axes start words store held)) (ep : points ≡ length (runsOf (splineOf motion degree tol axes start words store held))) where
-    pub spreads-is : (rows : List ℕ) → total .rows * 29 ≤ length rows → Spreads (layoutOf axes chans (eqb motion 6) points) (geometricOf axes) (placesOf chans) counts (blockAt store) held total rows
+    pub spreads-is : (rows : List ℕ) → total .rows * 29 ≤ length rows → Spreads (frameOf axes chans (eqb motion 6) points) (geometricOf axes) (placesOf chans) counts (blockAt store) held total rows
     spreads-is rows room =
         let s : Spline = splineOf motion degree tol axes start words store held in
         record {
@@ -446,12 +449,12 @@ module _ (motion degree : ℕ) (tol : Float) (axes : List ℕ) (start : ℕ) (wo
         }
 
     pub emitted-is : (rows rows1 rows2 : List ℕ) → rows1 ≡ spliced rows 0 (encode (flatten (runsOf (splineOf motion degree tol axes start words store held))))
-        → rows2 ≡ spliced rows1 0 (flatten (upto (heldWords (layoutOf axes chans (eqb motion 6) points) (geometricOf axes) (placesOf chans) counts (blockAt store) rows1) held))
+        → rows2 ≡ spliced rows1 0 (flatten (upto (heldWords (frameOf axes chans (eqb motion 6) points) (geometricOf axes) (placesOf chans) counts (blockAt store) rows1) held))
         → rows2 ≡ spliced rows 0 (flatten (flatten (splineGroups (splineOf motion degree tol axes start words store held))))
     unfolding splineGroups heldWords
     emitted-is rows rows1 rows2 e1 e2 =
         let s : Spline = splineOf motion degree tol axes start words store held in
-        let o : Frame = layoutOf axes chans (eqb motion 6) points in
+        let o : Frame = frameOf axes chans (eqb motion 6) points in
         let W : List ℕ = flatten (upto (heldWords o (geometricOf axes) (placesOf chans) counts (blockAt store) rows1) held) in
         let lies : Lies s (runsOf s) o (placesOf chans) counts = laid-lies s axes chans (eqb motion 6) points refl ec (chans-below motion degree tol axes start words store held h) counts refl ep (c .counted) in
         let raw : (q : ℕ) → q < length (flatten (runsOf s)) → rawAt (o .ch) rows1 q ≡ map bits (getD (flatten (runsOf s)) q []) =
@@ -463,12 +466,12 @@ module _ (motion degree : ℕ) (tol : Float) (axes : List ℕ) (start : ℕ) (wo
 -- the layout and the places as the code has them
 module _ (axes chans : List ℕ) (basis : Bool) (points : ℕ) (counts : List ℕ) (f : ℕ → List ℕ) (held : ℕ) (rows places : List ℕ) (a m : ℕ)
     (ea : a ≡ maskSum (λ (k : ℕ). member k axes) 10) (em : m ≡ maskSum (λ (k : ℕ). member k chans) 10) (ep : places ≡ placesOf chans) where
-  pub spreads-at : (total : Place) → Spreads (layoutOf axes chans basis points) (geometricOf axes) (placesOf chans) counts f held total rows
+  pub spreads-at : (total : Place) → Spreads (frameOf axes chans basis points) (geometricOf axes) (placesOf chans) counts f held total rows
       → Spreads (record { axes = a; mask = m; ch = length chans; basis = basis; points = points }) (geometricOf axes) places counts f held total rows
   spreads-at total s = rw (ea, em, ep) s
 
   pub spread-at : (u : List ℕ) → u ≡ spliced rows 0 (flatten (upto (heldWords (record { axes = a; mask = m; ch = length chans; basis = basis; points = points }) (geometricOf axes) places counts f rows) held))
-      → u ≡ spliced rows 0 (flatten (upto (heldWords (layoutOf axes chans basis points) (geometricOf axes) (placesOf chans) counts f rows) held))
+      → u ≡ spliced rows 0 (flatten (upto (heldWords (frameOf axes chans basis points) (geometricOf axes) (placesOf chans) counts f rows) held))
   spread-at u e = rw (ea, em, ep) at e
 
 -- ---- rows that are written where they and `own` more have room
@@ -520,11 +523,11 @@ module _ (motion degree : ℕ) (tol : Float) (axes : List ℕ) (start : ℕ) (wo
     pub samples-room : length (encode (flatten (curveRuns motion degree (take (g .metric) ms) tol (rowsOf pts (g .ch) (g .n)) (take (g .n) ws)))) ≤ length rows
     samples-room = rw (runs-are motion degree tol axes start words store held g chans ms pts ws ga) (le-trans (encoded-few motion degree tol axes start words store held h counts total c) (rooms (total .rows) own (length rows) room))
 
-    pub spreads-of : (rows1 : List ℕ) → length rows1 ≡ length rows → Spreads (layoutOf axes (take (g .ch) chans) (eqb motion 6) (g .n - 1)) (geometricOf axes) (placesOf (take (g .ch) chans)) counts (blockAt store) held total rows1
+    pub spreads-of : (rows1 : List ℕ) → length rows1 ≡ length rows → Spreads (frameOf axes (take (g .ch) chans) (eqb motion 6) (g .n - 1)) (geometricOf axes) (placesOf (take (g .ch) chans)) counts (blockAt store) held total rows1
     spreads-of rows1 e = spreads-is motion degree tol axes start words store held h counts total c (take (g .ch) chans) (g .n - 1) listed-is points-is rows1 (rw e (rooms (total .rows) own (length rows) room))
 
     pub emitted-of : (rows1 rows2 : List ℕ) → rows1 ≡ spliced rows 0 (encode (flatten (curveRuns motion degree (take (g .metric) ms) tol (rowsOf pts (g .ch) (g .n)) (take (g .n) ws))))
-        → rows2 ≡ spliced rows1 0 (flatten (upto (heldWords (layoutOf axes (take (g .ch) chans) (eqb motion 6) (g .n - 1)) (geometricOf axes) (placesOf (take (g .ch) chans)) counts (blockAt store) rows1) held))
+        → rows2 ≡ spliced rows1 0 (flatten (upto (heldWords (frameOf axes (take (g .ch) chans) (eqb motion 6) (g .n - 1)) (geometricOf axes) (placesOf (take (g .ch) chans)) counts (blockAt store) rows1) held))
         → rows2 ≡ putWithin own (flatten (splineGroups (splineOf motion degree tol axes start words store held))) rows
     emitted-of rows1 rows2 e1 e2 =
         put-some own (flatten (splineGroups (splineOf motion degree tol axes start words store held))) (total .rows) rows (c .rows) rows2 room

@@ -19,7 +19,8 @@ use Rattle.row_cells.specs.Bits.{has}
 use Rattle.row_cells.specs.Row.{presentOf, shown, hasPoint, outRow}
 use Rattle.row_put.specs.Made.{madeRow}
 use Rattle.row_cells.specs.Masks.{member-append, member-keep}
-use Rattle.spline_points.specs.Channels.{Once, Good, Distinct, channels-good, channels-few, once-distinct, distinct-keep, none-good}
+use Rattle.spline_points.specs.Gathers.{Once}
+use Rattle.spline_points.specs.Channels.{Good, Distinct, channels-good, channels-few, once-distinct, distinct-keep, none-good}
 use Rattle.spline_points.specs.Keeps.{member-here}
 use Rattle.spline_points.specs.Points.{Spline, channels, channelsFrom, blockAt}
 use Rattle.spline_emission.specs.Emits.{bit-below}

@@ -20,13 +20,13 @@ use Rattle.row_cells.specs.Row.{axesOf, hasPoint, outRow}
 use Rattle.row_put.specs.MadeLaws.{made-same}
 use Rattle.row_cells.specs.Masks.{member-small}
 use Rattle.spline_points.specs.Flat.{Sized, flatten-append}
-use Rattle.spline_points.specs.Points.{Spline, channels}
+use Rattle.spline_points.specs.Points.{Spline, channels, placeOf}
 use Rattle.spline_places.specs.declared.frame.Frame.{Frame}
 use Rattle.spline_places.specs.declared.place.Place.{Place}
-use Rattle.spline_places.specs.Groups.{isBasis, placeOf, sampleCell, ownCell, isMarked, pointGroup, heldGroup}
-use Rattle.spline_places.specs.Sizes.{sizeOf, moved, placeTo, place-next, place-points}
-use Rattle.spline_places.specs.Raw.{rawCell, rawOwn, rawMark, rawMotion, rawRow, bareRow, rawGroup, rawBlock, rawHeld}
-use Rattle.spline_places.specs.Puts.{samplesOf, moved-rows}
+use Rattle.spline_places.specs.Groups.{isBasis, sampleCell, ownCell, isMarked, pointGroup, heldGroup}
+use Rattle.spline_places.specs.Sizes.{sizeOf, moved, placeTo, samplesOf}
+use Rattle.spline_places.specs.SizeLaws.{place-next, place-points, moved-rows}
+use Rattle.spline_rows.specs.Raw.{rawCell, rawOwn, rawMark, rawMotion, rawRow, bareRow, rawGroup, rawBlock, rawHeld}
 use Rattle.spline_emission.specs.Widths.{getD-map, sized-at}
 
 -- ---- lists

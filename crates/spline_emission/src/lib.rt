@@ -26,11 +26,12 @@ ghost use Rattle.layout.specs.Layout.{rowWords};
 ghost use Rattle.row_cells.specs.Codes.{geometricOf};
 ghost use Rattle.row_cells.specs.Row.{shown};
 ghost use Rattle.spline_points.specs.Points.{blockAt, splineOf};
-ghost use Rattle.spline_places.specs.Puts.{Spreads, heldWords};
+ghost use Rattle.spline_rows.specs.Puts.{Spreads};
+ghost use Rattle.spline_rows.specs.Raw.{heldWords};
 ghost use Rattle.curve_walk.specs.Walks.{encode};
 ghost use Rattle.curve_runs.specs.Runs.{curveRuns};
 ghost use Rattle.spline_emission.specs.Emission.{splineGroups, putWithin};
-ghost use Rattle.spline_emission.specs.Emits.{Holds, Gathered, Curved, Drawn, Recalled, Rooms, Planned, placesOf, layoutOf, mostOwn};
+ghost use Rattle.spline_emission.specs.Emits.{Holds, Gathered, Curved, Drawn, Recalled, Rooms, Planned, placesOf, frameOf, mostOwn};
 
 // The points of a middling spline, the curve's start among them.
 const MIDDLE_POINTS: usize = 64;
@@ -206,9 +207,9 @@ fn spread_curve(
     place: Place,
     rows: &mut [u64],
 )
-    requires { ⌜ Spreads (layoutOf (now axes) (now chans) basis points) (geometricOf (now axes)) (placesOf (now chans)) (now counts) (blockAt (now store)) held place (now rows) ⌝ }
+    requires { ⌜ Spreads (frameOf (now axes) (now chans) basis points) (geometricOf (now axes)) (placesOf (now chans)) (now counts) (blockAt (now store)) held place (now rows) ⌝ }
     requires { ⌜ held * rowWords ≤ length (now store) ⌝ }
-    ensures { λ _. ⌜ now (rows .exit) ≡ spliced (now (rows .entry)) 0 (flatten (upto (heldWords (layoutOf (now (axes .entry)) (now (chans .entry)) basis points) (geometricOf (now (axes .entry))) (placesOf (now (chans .entry))) (now (counts .entry)) (blockAt (now (store .entry))) (now (rows .entry))) held)) ⌝ }
+    ensures { λ _. ⌜ now (rows .exit) ≡ spliced (now (rows .entry)) 0 (flatten (upto (heldWords (frameOf (now (axes .entry)) (now (chans .entry)) basis points) (geometricOf (now (axes .entry))) (placesOf (now (chans .entry))) (now (counts .entry)) (blockAt (now (store .entry))) (now (rows .entry))) held)) ⌝ }
 {
     let mut places = [0usize; AXIS_CODES];
     places_of(chans, &mut places);

@@ -1,5 +1,4 @@
 pub mod Groups
 pub mod Sizes
-pub mod Raw
-pub mod Splices
-pub mod Puts
+pub mod Places
+pub mod SizeLaws

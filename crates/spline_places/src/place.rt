@@ -2,12 +2,13 @@
 use spline_points::channels::block;
 use spline_points::channels::has_point;
 ghost use mathlib.Core.Path.{_≡_};
-ghost use Prim.Native.Nat.{_+_, _-_, _*_, _≤_, _<_, _^_};
+ghost use Prim.Native.Nat.{_*_, _≤_, _<_};
 ghost use lib.ListN.{length};
-ghost use Rattle.layout.specs.Layout.{rowWords};
+ghost use Rattle.layout.specs.Layout.{rowWords, mostHeld};
 ghost use Rattle.row_cells.specs.Codes.{geometricOf};
 ghost use Rattle.spline_points.specs.Points.{blockAt};
-ghost use Rattle.spline_places.specs.Sizes.{sizeOf, moved, unmoved, Behind, placeTo, Few};
+ghost use Rattle.spline_places.specs.Sizes.{sizeOf, moved, unmoved, placeTo};
+ghost use Rattle.spline_places.specs.Places.{mostRows, Few, Behind};
 
 pub struct Place {
     pub rows: usize,
@@ -25,7 +26,7 @@ fn size_of(c: usize) -> usize
 // The place after a block.
 fn after_block(point: bool, counts: &[usize], place: Place) -> Place
     requires { ⌜ (place .points < length (now counts)) × (Few (now counts)) ⌝ }
-    requires { ⌜ (place .rows ≤ 2 ^ 56) × (place .samples ≤ 2 ^ 56) ⌝ }
+    requires { ⌜ (place .rows ≤ mostRows) × (place .samples ≤ mostRows) ⌝ }
     ensures { λ r. ⌜ r ≡ moved point (now (counts .entry)) place ⌝ }
 {
     if !point {
@@ -67,7 +68,7 @@ pub fn before_block(point: bool, counts: &[usize], place: Place) -> Place
 
 // The place after all held blocks.
 pub fn total(axes: &[u64], store: &[u64], held: usize, counts: &[usize]) -> Place
-    requires { ⌜ (held * rowWords ≤ length (now store)) × ((held ≤ 256) × (held ≤ length (now counts))) ⌝ }
+    requires { ⌜ (held * rowWords ≤ length (now store)) × ((held ≤ mostHeld) × (held ≤ length (now counts))) ⌝ }
     requires { ⌜ Few (now counts) ⌝ }
     ensures { λ r. ⌜ r ≡ placeTo (geometricOf (now (axes .entry))) (now (counts .entry)) (blockAt (now (store .entry))) held ⌝ }
 {

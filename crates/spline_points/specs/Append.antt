@@ -1,4 +1,4 @@
--- Laws of appending: a slice whose first elements are written one after another. Assumes nothing.
+-- LAWS. Appending: a slice whose first elements are written one after another. Assumes nothing.
 use Prim.Native.Nat.{ℕ, _+_, _≤_, _<_}
 use mathlib.Core.Path.{_≡_, refl, sym, _∙_, ap}
 use mathlib.Core.Bool.{Bool, true, false}
@@ -8,14 +8,9 @@ use native.Mathlib.Nat.{add-assoc}
 use native.Mathlib.Omega.{arith}
 use lib.ListN.{length, getD, take, set, length-append, length-set}
 use Rattle.floats.specs.Lists.{upto, keep}
+use Rattle.spline_points.specs.Gathers.{Appended}
 use Rattle.spline_points.specs.Keeps.{keep-yes, keep-no, keep-next}
 use lib.Seq.{length-take-le, take-at, take-take, take-all, take-suc-set}
-
--- of ys, which was xs, the first m are the first n of xs and then `new`
-pub record Appended {A : Type 0} (new : List A) (n : ℕ) (xs ys : List A) (m : ℕ) : Type 0 where
-  pub same : length ys ≡ length xs
-  pub count : m ≡ n + length new
-  pub is : take m ys ≡ take n xs ++ new
 
 module _ {A : Type 0} where
   pub appended-none : {n : ℕ} {xs : List A} → Appended [] n xs xs n
@@ -52,11 +47,13 @@ module _ {A : Type 0} where
       → Appended (keep p (take i l)) n xs ys m → Appended (keep p (getD l i d ∷ [])) m ys zs r → Appended (keep p (take (i + 1) l)) n xs zs r
   appended-next p l i d h f g = appended-as (sym (keep-next p l i d h)) (appended-then f g)
 
-  pub appended-all : (p : A → Bool) (l : List A) (i : ℕ) {n m : ℕ} {xs ys : List A} → length l ≤ i → Appended (keep p (take i l)) n xs ys m → Appended (keep p l) n xs ys m
+  pub appended-all : (p : A → Bool) (l : List A) (i : ℕ) {n m : ℕ} {xs ys : List A} → length l ≤ i
+      → Appended (keep p (take i l)) n xs ys m → Appended (keep p l) n xs ys m
   appended-all p l i h f = appended-as (ap (keep p) (take-all i l h)) f
 
   -- of f 0, f 1, .. , one more
-  pub appended-upto : (f : ℕ → A) (i : ℕ) {n m r : ℕ} {xs ys zs : List A} → Appended (upto f i) n xs ys m → Appended (f i ∷ []) m ys zs r → Appended (upto f (i + 1)) n xs zs r
+  pub appended-upto : (f : ℕ → A) (i : ℕ) {n m r : ℕ} {xs ys zs : List A}
+      → Appended (upto f i) n xs ys m → Appended (f i ∷ []) m ys zs r → Appended (upto f (i + 1)) n xs zs r
   unfolding upto
   appended-upto f i g h = rw add-one (appended-then g h)
 

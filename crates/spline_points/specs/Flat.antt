@@ -1,4 +1,4 @@
--- Laws of lists of rows of one length, one after another. Assumes nothing.
+-- LAWS. Lists of rows of one length, one after another. Assumes nothing.
 use Prim.Native.Nat.{ℕ, zero, suc, _+_, _*_, _<_}
 use mathlib.Core.Path.{_≡_, refl, sym, _∙_, ap}
 use mathlib.Core.List.{List, [], _∷_, _++_, map, map-append, append-assoc}
@@ -50,8 +50,9 @@ module _ {A : Type 0} where
       rw (e, append-assoc, drop-append-add) (flat-row n xs rest i (s .1) (omega arith))
 
   pub list-is : (d : A) (xs : List A) → upto (λ (i : ℕ). getD xs i d) (length xs) ≡ xs
-  list-is d xs = ext-getD d (upto (λ (i : ℕ). getD xs i d) (length xs)) xs (length-upto (λ (i : ℕ). getD xs i d) (length xs))
-      (λ i h. at-upto (λ (i : ℕ). getD xs i d) (length xs) i d (rw (length-upto (λ (i : ℕ). getD xs i d) (length xs)) at h))
+  list-is d xs =
+      let f : ℕ → A = λ i. getD xs i d in
+      ext-getD d (upto f (length xs)) xs (length-upto f (length xs)) (λ i h. at-upto f (length xs) i d (rw (length-upto f (length xs)) at h))
 
 pub map-next : {A B : Type 0} (f : A → B) (l : List A) (i : ℕ) (d : A) → i < length l → map f (take (i + 1) l) ≡ map f (take i l) ++ (f (getD l i d) ∷ [])
 map-next f l i d h = rw (add-one, take-suc l i d) (map-append f (take i l) (getD l i d ∷ []))
@@ -60,5 +61,6 @@ pub flat-rows : (n : ℕ) (ps : List (List Float)) (xs : List Float) (k : ℕ) �
 unfolding rowsOf
 flat-rows n ps xs k s e h =
     let all : flatten ps ++ drop (k * n) xs ≡ xs = ap (λ (l : List Float). l ++ drop (k * n) xs) (sym h) ∙ take-append-drop (k * n) xs in
-    upto-below (row xs n) (λ (i : ℕ). getD ps i []) k (λ i l. ap (λ (z : List Float). take n (drop (i * n) z)) (sym all) ∙ flat-row n ps (drop (k * n) xs) i s (omega arith))
+    upto-below (row xs n) (λ (i : ℕ). getD ps i []) k
+    (λ i l. ap (λ (z : List Float). take n (drop (i * n) z)) (sym all) ∙ flat-row n ps (drop (k * n) xs) i s (omega arith))
     ∙ rw e (list-is [] ps)

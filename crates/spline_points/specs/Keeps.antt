@@ -1,16 +1,18 @@
--- Laws of `keep`, `anyOf` and `member` for code that goes by index. Assumes nothing.
+-- LAWS. `keep`, `anyOf`, `member` and `placeOf` for code that goes by index. Assumes nothing.
 use Prim.Native.Nat.{ℕ, zero, suc, _+_, _≤_, _<_}
 use mathlib.Core.Path.{_≡_, refl, sym, _∙_, ap}
-use mathlib.Core.Bool.{Bool, true, false, cond, _&&_, _||_}
+use mathlib.Core.Bool.{Bool, true, false, cond, _&&_, _||_, or-true}
 use mathlib.Core.List.{List, [], _∷_, _++_}
 use native.Mathlib.Numerals.{add-one}
 use native.Mathlib.Omega.{arith}
-use borrow.Author.Tests.{eq-eqb, ne-eqb}
-use lib.Dec.{eqb}
+use borrow.Author.Tests.{eq-eqb, ne-eqb, lt-ltb, le-ltb, ltb-true, ltb-false}
+use lib.Dec.{eqb, ltb}
 use lib.ListN.{length, getD, take, drop, length-append, take-append-drop, drop-of-length-le}
 use lib.Seq.{take-suc, drop-cons}
 use Rattle.floats.specs.Fill.{length-upto}
 use Rattle.floats.specs.Lists.{upto, keep, member, anyOf}
+use Rattle.floats.specs.Truth.{by-bit}
+use Rattle.spline_points.specs.Points.{placeOf}
 
 cons-case : {A : Type 0} (b : Bool) (x : A) (r a c : List A) → r ≡ a ++ c → cond b (x ∷ r) r ≡ cond b (x ∷ a) a ++ c
 cons-case true x r a c e = ap (λ (l : List _). x ∷ l) e
@@ -44,10 +46,12 @@ module _ {A : Type 0} (p : A → Bool) where
 
   pub keep-room : (xs : List A) (i : ℕ) (d : A) → i < length xs → length (keep p (take i xs)) + length (keep p (getD xs i d ∷ [])) ≤ length (keep p xs)
   keep-room xs i d h =
-      let e : length (keep p (take (i + 1) xs)) ≡ length (keep p (take i xs)) + length (keep p (getD xs i d ∷ [])) =
+      let a : List A = take (i + 1) xs in
+      let b : List A = drop (i + 1) xs in
+      let e : length (keep p a) ≡ length (keep p (take i xs)) + length (keep p (getD xs i d ∷ [])) =
       ap length (keep-next xs i d h) ∙ length-append (keep p (take i xs)) (keep p (getD xs i d ∷ [])) in
-      let f : length (keep p (take (i + 1) xs)) + length (keep p (drop (i + 1) xs)) ≡ length (keep p xs) =
-      sym (length-append (keep p (take (i + 1) xs)) (keep p (drop (i + 1) xs))) ∙ ap length (sym (keep-append (take (i + 1) xs) (drop (i + 1) xs)) ∙ ap (keep p) (take-append-drop (i + 1) xs)) in
+      let f : length (keep p a) + length (keep p b) ≡ length (keep p xs) =
+      sym (length-append (keep p a) (keep p b)) ∙ ap length (sym (keep-append a b) ∙ ap (keep p) (take-append-drop (i + 1) xs)) in
       omega arith
 
   any-here : (xs : List A) (i : ℕ) (d : A) → i < length xs → anyOf p (drop i xs) ≡ (p (getD xs i d) || anyOf p (drop (i + 1) xs))
@@ -83,11 +87,6 @@ module _ {A : Type 0} (p q : A → Bool) where
       kept true l r e = ap (λ (z : List A). cond (p x) (x ∷ z) z) e
       kept false l r e = e
 
-pub member-any : (k : ℕ) (xs : List ℕ) → member k xs ≡ anyOf (λ (x : ℕ). eqb x k) xs
-unfolding member anyOf
-member-any k [] = refl
-member-any k (x ∷ xs) = ap (λ (z : Bool). eqb x k || z) (member-any k xs)
-
 pub keep-upto : {A : Type 0} (p : A → Bool) (f : ℕ → A) (i : ℕ) → keep p (upto f (i + 1)) ≡ keep p (upto f i) ++ keep p (f i ∷ [])
 unfolding upto
 keep-upto p f i = rw add-one (keep-append p (upto f i) (f i ∷ []))
@@ -96,10 +95,6 @@ pub keep-upto-most : {A : Type 0} (p : A → Bool) (f : ℕ → A) (i : ℕ) →
 keep-upto-most p f i = omega (arith, keep-most p (upto f i), length-upto f i)
 
 -- ---- membership
-pub and-none : (a : Bool) → (a && false) ≡ false
-and-none true = refl
-and-none false = refl
-
 pub member-here : (k : ℕ) (xs : List ℕ) → member k (k ∷ xs) ≡ true
 unfolding member
 member-here k xs = rw (eq-eqb k k refl)
@@ -113,8 +108,32 @@ pub member-at : (xs : List ℕ) (i : ℕ) → i < length xs → member (getD xs 
 unfolding member
 member-at [] i h = absurd (omega arith)
 member-at (x ∷ xs) zero h = member-here x xs
-member-at (x ∷ xs) (suc i) h = rw (member-at xs i (omega arith)) (or-all (eqb x (getD xs i 0)))
+member-at (x ∷ xs) (suc i) h = rw (member-at xs i (omega arith)) (or-true (eqb x (getD xs i 0)))
+
+-- ---- the place of a code, searched from the first on
+pub place-hit : (k : ℕ) (cs : List ℕ) (i : ℕ) → i < length cs → getD cs i 0 ≡ k → i ≡ i + placeOf k (drop i cs)
+unfolding placeOf
+place-hit k cs i h e = rw (drop-cons cs i 0 h, eq-eqb (getD cs i 0) k e) (omega arith)
+
+pub place-miss : (k : ℕ) (cs : List ℕ) (i : ℕ) → i < length cs → (getD cs i 0 ≡ k → ⊥) → i + placeOf k (drop i cs) ≡ i + 1 + placeOf k (drop (i + 1) cs)
+unfolding placeOf
+place-miss k cs i h e = rw (drop-cons cs i 0 h, ne-eqb (getD cs i 0) k e, add-one i) (omega arith)
+
+pub place-end : (k : ℕ) (cs : List ℕ) (i : ℕ) → length cs ≤ i → i ≡ i + placeOf k (drop i cs)
+unfolding placeOf
+place-end k cs i h = rw (drop-of-length-le cs h) (omega arith)
+
+-- a code is listed where its place is one of the list's
+pub member-placed : (k : ℕ) (xs : List ℕ) → ltb (placeOf k xs) (length xs) ≡ member k xs
+unfolding member placeOf
+member-placed k [] = le-ltb 0 0 (omega arith)
+member-placed k (x ∷ xs) = one (eqb x k) (member-placed k xs)
   where
-    or-all : (a : Bool) → (a || true) ≡ true
-    or-all true = refl
-    or-all false = refl
+    next : (m n : ℕ) → ltb (m + 1) (suc n) ≡ ltb m n
+    next m n = by-bit (ltb m n)
+        (λ b. lt-ltb (m + 1) (suc n) (omega (arith, ltb-true m n b)) ∙ sym b)
+        (λ b. le-ltb (m + 1) (suc n) (omega (arith, ltb-false m n b)) ∙ sym b)
+
+    one : (b : Bool) → ltb (placeOf k xs) (length xs) ≡ member k xs → ltb (cond b 0 (placeOf k xs + 1)) (suc (length xs)) ≡ (b || member k xs)
+    one true e = lt-ltb 0 (suc (length xs)) (omega arith)
+    one false e = next (placeOf k xs) (length xs) ∙ e

@@ -1,6 +1,7 @@
 pub mod Points
-pub mod Append
+pub mod Gathers
 pub mod Keeps
-pub mod Channels
+pub mod Append
 pub mod Flat
+pub mod Channels
 pub mod Curve

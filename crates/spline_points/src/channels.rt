@@ -9,14 +9,13 @@ ghost use mathlib.Core.List.{[], _∷_};
 ghost use Prim.Native.Nat.{_+_, _*_, _≤_, _<_};
 ghost use lib.Dec.{ltb};
 ghost use lib.ListN.{length, take};
-ghost use Rattle.floats.specs.Lists.{upto, keep, member};
+ghost use Rattle.floats.specs.Lists.{keep, member};
 ghost use Rattle.layout.specs.Layout.{rowWords, axisCodes};
 ghost use Rattle.row_cells.specs.Codes.{geometricOf};
 ghost use Rattle.row_cells.specs.Bits.{has};
 ghost use Rattle.row_cells.specs.Row.{hasPoint};
-ghost use Rattle.spline_points.specs.Points.{channelsFrom, blockAt};
-ghost use Rattle.spline_points.specs.Append.{Appended};
-ghost use Rattle.spline_points.specs.Channels.{isNew, Once};
+ghost use Rattle.spline_points.specs.Points.{placeOf, blockAt};
+ghost use Rattle.spline_points.specs.Gathers.{Appended, Once, isNew, ChannelsPut};
 
 // The row held at place i.
 pub fn block(store: &[u64], i: usize) -> &[u64]
@@ -54,17 +53,24 @@ pub fn has_point(axes: &[u64], row: &[u64]) -> bool
     false
 }
 
-pub fn is_listed(codes: &[u64], k: u64) -> bool
-    ensures { λ r. ⌜ r ≡ member k (now (codes .entry)) ⌝ }
+// The place of code k in a list, the list's length where it is not there.
+pub fn place_of(codes: &[u64], k: u64) -> usize
+    ensures { λ r. ⌜ r ≡ placeOf k (now (codes .entry)) ⌝ }
 {
     let mut i: usize = 0;
     while i < codes.len() {
         if codes[i] == k {
-            return true;
+            return i;
         }
         i += 1;
     }
-    false
+    i
+}
+
+pub fn is_listed(codes: &[u64], k: u64) -> bool
+    ensures { λ r. ⌜ r ≡ member k (now (codes .entry)) ⌝ }
+{
+    place_of(codes, k) < codes.len()
 }
 
 // Whether code k is a geometric axis that the block programs and no block before it did.
@@ -105,8 +111,8 @@ fn add_channels(axes: &[u64], present: u64, chans: &mut [u64], n: usize) -> usiz
 
 // Writes the channels of the held blocks, and says how many there are.
 pub fn channels_of(axes: &[u64], store: &[u64], held: usize, chans: &mut [u64]) -> usize
-    requires { ⌜ (Once (now axes)) × ((held * rowWords ≤ length (now store)) × (10 ≤ length (now chans))) ⌝ }
-    ensures { λ r. ⌜ Appended (channelsFrom (geometricOf (now (axes .entry))) [] (upto (blockAt (now (store .entry))) held)) 0 (now (chans .entry)) (now (chans .exit)) r ⌝ }
+    requires { ⌜ (Once (now axes)) × ((held * rowWords ≤ length (now store)) × (axisCodes ≤ length (now chans))) ⌝ }
+    ensures { λ r. ⌜ ChannelsPut (now (axes .entry)) (now (store .entry)) held (now (chans .entry)) (now (chans .exit)) r ⌝ }
 {
     let mut n: usize = 0;
     let mut i: usize = 0;

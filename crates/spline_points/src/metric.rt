@@ -4,9 +4,9 @@ ghost use Prim.Native.Nat.{ℕ, _+_, _≤_, _<_};
 ghost use lib.ListN.{length};
 ghost use Rattle.floats.specs.Lists.{upto, keep};
 ghost use Rattle.spline_points.specs.Points.{metricOf};
-ghost use Rattle.spline_points.specs.Append.{Appended};
-ghost use Rattle.spline_points.specs.Channels.{isXyz};
+ghost use Rattle.spline_points.specs.Gathers.{Appended, isXyz, xyzOf};
 
+// X, Y and Z are the codes up to this one.
 const LAST_XYZ: u64 = 2;
 
 // Writes place i behind the m places, where its channel is X, Y or Z.
@@ -24,7 +24,7 @@ fn add_place(chans: &[u64], i: usize, places: &mut [usize], m: usize) -> usize
 // Writes the places of the X, Y and Z channels.
 fn xyz_places(chans: &[u64], places: &mut [usize]) -> usize
     requires { ⌜ length (now chans) ≤ length (now places) ⌝ }
-    ensures { λ r. ⌜ Appended (keep (isXyz (now (chans .entry))) (upto (λ (i : ℕ). i) (length (now (chans .entry))))) 0 (now (places .entry)) (now (places .exit)) r ⌝ }
+    ensures { λ r. ⌜ Appended (xyzOf (now (chans .entry))) 0 (now (places .entry)) (now (places .exit)) r ⌝ }
 {
     let mut m: usize = 0;
     let mut i: usize = 0;

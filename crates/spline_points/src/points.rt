@@ -7,41 +7,39 @@ use layout::R_CELLS;
 use layout::R_PRESENT;
 use row_cells::has_bit;
 ghost use mathlib.Core.Path.{_≡_};
-ghost use mathlib.Core.List.{map};
 ghost use mathlib.Core.Option.{Option·getD};
-ghost use Prim.Native.Nat.{_+_, _*_, _-_, _≤_, _<_};
-ghost use lib.ListN.{length, take, drop};
-ghost use Rattle.floats.specs.Lists.{upto, keep};
-ghost use Rattle.layout.specs.Layout.{rowWords, cells, axisCodes};
-ghost use Rattle.row_cells.specs.Codes.{geometricOf};
-ghost use Rattle.row_cells.specs.Row.{cell, number, shown, hasPoint};
-ghost use Rattle.spline_points.specs.Points.{firstCell, startValue, nextPoint, weightOf, blockAt};
-ghost use Rattle.spline_points.specs.Append.{Appended};
-ghost use Rattle.spline_points.specs.Curve.{Codes, PointAdded, PointsAdded, PointsAre};
+ghost use Prim.Native.Nat.{_+_, _*_, _≤_, _<_};
+ghost use lib.ListN.{length};
+ghost use Rattle.floats.specs.Numbers.{num};
+ghost use Rattle.floats.specs.Lists.{upto};
+ghost use Rattle.layout.specs.Layout.{rowWords, cells, axisCodes, mostHeld};
+ghost use Rattle.row_cells.specs.Row.{number, shown};
+ghost use Rattle.spline_points.specs.Points.{firstCell, startValue, weightOf, blockAt};
+ghost use Rattle.spline_points.specs.Gathers.{Codes, StartPut, NextPut, PointPut, WeightPut, PointsPut, WeightsPut, Path};
 
-// The word of the row's cell k, or the other where it is absent.
-fn cell_or(row: &[u64], k: u64, other: u64) -> u64
+// Where the row moves axis k, which was at `old`.
+fn next_value(row: &[u64], k: u64, old: f64) -> f64
     requires { ⌜ (length (now row) ≡ rowWords) × (k < cells) ⌝ }
-    ensures { λ r. ⌜ r ≡ Option·getD (cell (now (row .entry)) k) other ⌝ }
+    ensures { λ r. ⌜ r ≡ Option·getD (number (now (row .entry)) k) old ⌝ }
 {
     if has_bit(row[R_PRESENT], k) {
-        return row[R_CELLS + k as usize];
+        return of_bits(row[R_CELLS + k as usize]);
     }
-    other
+    old
 }
 
-// The word of axis k in the first held row that has it, zero where none has.
-fn first_word(store: &[u64], held: usize, k: u64) -> u64
+// The value of axis k in the first held row that has it, zero where none has.
+fn first_value(store: &[u64], held: usize, k: u64) -> f64
     requires { ⌜ (held * rowWords ≤ length (now store)) × (k < axisCodes) ⌝ }
-    ensures { λ r. ⌜ r ≡ firstCell k (upto (blockAt (now (store .entry))) held) ⌝ }
+    ensures { λ r. ⌜ r ≡ num (firstCell k (upto (blockAt (now (store .entry))) held)) ⌝ }
 {
-    let mut word: u64 = 0;
+    let mut value: f64 = 0.0;
     let mut i = held;
     while i > 0 {
         i -= 1;
-        word = cell_or(block(store, i), k, word);
+        value = next_value(block(store, i), k, value);
     }
-    word
+    value
 }
 
 // Where axis k starts: at the curve's start, else at its first programmed value.
@@ -52,7 +50,7 @@ fn start_value(start: u64, words: &[u64], store: &[u64], held: usize, k: u64) ->
     if has_bit(start, k) {
         return of_bits(words[k as usize]);
     }
-    of_bits(first_word(store, held, k))
+    first_value(store, held, k)
 }
 
 // Writes the start of each channel.
@@ -66,7 +64,7 @@ fn start_point(
 )
     requires { ⌜ (axisCodes ≤ length (now words)) × ((held * rowWords ≤ length (now store)) × (Codes (now chans))) ⌝ }
     requires { ⌜ length (now chans) ≤ length (now pts) ⌝ }
-    ensures { λ _. ⌜ Appended (map (startValue (shown start (now (words .entry))) (upto (blockAt (now (store .entry))) held)) (now (chans .entry))) 0 (now (pts .entry)) (now (pts .exit)) (length (now (chans .entry))) ⌝ }
+    ensures { λ _. ⌜ StartPut start (now (words .entry)) (now (store .entry)) held (now (chans .entry)) (now (pts .entry)) (now (pts .exit)) ⌝ }
 {
     let mut c: usize = 0;
     while c < chans.len() {
@@ -75,22 +73,11 @@ fn start_point(
     }
 }
 
-// Where the row moves axis k, which was at `old`.
-fn next_value(row: &[u64], k: u64, old: f64) -> f64
-    requires { ⌜ (length (now row) ≡ rowWords) × (k < cells) ⌝ }
-    ensures { λ r. ⌜ r ≡ Option·getD (number (now (row .entry)) k) old ⌝ }
-{
-    if has_bit(row[R_PRESENT], k) {
-        return of_bits(row[R_CELLS + k as usize]);
-    }
-    old
-}
-
 // Writes, at `at`, the point of the row, which follows the point that stands before it.
 fn next_point(row: &[u64], chans: &[u64], pts: &mut [f64], at: usize)
     requires { ⌜ (length (now row) ≡ rowWords) × (Codes (now chans)) ⌝ }
     requires { ⌜ (length (now chans) ≤ at) × (at + length (now chans) ≤ length (now pts)) ⌝ }
-    ensures { λ _. ⌜ Appended (nextPoint (now (chans .entry)) (take (length (now (chans .entry))) (drop (at - length (now (chans .entry))) (now (pts .entry)))) (now (row .entry))) at (now (pts .entry)) (now (pts .exit)) (at + length (now (chans .entry))) ⌝ }
+    ensures { λ _. ⌜ NextPut (now (chans .entry)) (now (row .entry)) at (now (pts .entry)) (now (pts .exit)) ⌝ }
 {
     let before = at - chans.len();
     let mut c: usize = 0;
@@ -120,7 +107,8 @@ fn add_point(
 ) -> usize
     requires { ⌜ (length (now row) ≡ rowWords) × (Codes (now chans)) ⌝ }
     requires { ⌜ (1 ≤ n) × (((n + 1) * length (now chans) ≤ length (now pts)) × (n < length (now ws))) ⌝ }
-    ensures { λ r. ⌜ PointAdded (geometricOf (now (axes .entry))) (now (row .entry)) (now (chans .entry)) n (now (pts .entry)) (now (pts .exit)) (now (ws .entry)) (now (ws .exit)) r ⌝ }
+    ensures { λ r. ⌜ PointPut (now (axes .entry)) (now (row .entry)) (now (chans .entry)) n (now (pts .entry)) (now (pts .exit)) r ⌝ }
+    ensures { λ r. ⌜ WeightPut (now (axes .entry)) (now (row .entry)) n (now (ws .entry)) (now (ws .exit)) r ⌝ }
 {
     if has_point(axes, row) {
         next_point(row, chans, pts, n * chans.len());
@@ -139,9 +127,10 @@ fn add_points(
     pts: &mut [f64],
     ws: &mut [f64],
 ) -> usize
-    requires { ⌜ (held * rowWords ≤ length (now store)) × ((held ≤ 256) × (Codes (now chans))) ⌝ }
-    requires { ⌜ (length (now chans) ≤ 10) × (((held + 1) * 10 ≤ length (now pts)) × (held + 1 ≤ length (now ws))) ⌝ }
-    ensures { λ r. ⌜ PointsAdded (now (chans .entry)) (keep (hasPoint (geometricOf (now (axes .entry)))) (upto (blockAt (now (store .entry))) held)) (now (pts .entry)) (now (pts .exit)) (now (ws .entry)) (now (ws .exit)) r ⌝ }
+    requires { ⌜ (held * rowWords ≤ length (now store)) × ((held ≤ mostHeld) × (Codes (now chans))) ⌝ }
+    requires { ⌜ (length (now chans) ≤ axisCodes) × (((held + 1) * axisCodes ≤ length (now pts)) × (held + 1 ≤ length (now ws))) ⌝ }
+    ensures { λ r. ⌜ PointsPut (now (axes .entry)) (now (store .entry)) held (now (chans .entry)) (now (pts .entry)) (now (pts .exit)) r ⌝ }
+    ensures { λ r. ⌜ WeightsPut (now (axes .entry)) (now (store .entry)) held (now (ws .entry)) (now (ws .exit)) r ⌝ }
 {
     let mut n: usize = 1;
     let mut i: usize = 0;
@@ -163,10 +152,10 @@ pub fn points_of(
     pts: &mut [f64],
     ws: &mut [f64],
 ) -> usize
-    requires { ⌜ (held * rowWords ≤ length (now store)) × ((held ≤ 256) × (Codes (now chans))) ⌝ }
-    requires { ⌜ (length (now chans) ≤ 10) × (((held + 1) * 10 ≤ length (now pts)) × (held + 1 ≤ length (now ws))) ⌝ }
+    requires { ⌜ (held * rowWords ≤ length (now store)) × ((held ≤ mostHeld) × (Codes (now chans))) ⌝ }
+    requires { ⌜ (length (now chans) ≤ axisCodes) × (((held + 1) * axisCodes ≤ length (now pts)) × (held + 1 ≤ length (now ws))) ⌝ }
     requires { ⌜ axisCodes ≤ length (now words) ⌝ }
-    ensures { λ r. ⌜ PointsAre (geometricOf (now (axes .entry))) (shown start (now (words .entry))) (upto (blockAt (now (store .entry))) held) (now (chans .entry)) (now (pts .exit)) (now (ws .exit)) r ⌝ }
+    ensures { λ r. ⌜ Path (now (axes .entry)) start (now (words .entry)) (now (store .entry)) held (now (chans .entry)) (now (pts .exit)) (now (ws .exit)) r ⌝ }
 {
     start_point(start, words, store, held, chans, pts);
     ws[0] = 1.0;

@@ -3,27 +3,26 @@ use layout::AXIS_CODES;
 use layout::R_CELLS;
 use layout::R_PRESENT;
 use layout::ROW_WORDS;
+use motion::G1;
 use row_cells::has_bit;
 use row_put::put_made;
 use row_put::put_row;
 use spline_places::frame::Frame;
-use spline_places::frame::both_masks;
 use spline_places::place::Place;
 use spline_places::place::before_block;
 use spline_points::channels::block;
 use spline_points::channels::has_point;
 ghost use mathlib.Core.Path.{_≡_};
-ghost use mathlib.Core.Bool.{true};
-ghost use Prim.Native.Nat.{ℕ, _+_, _*_, _≤_, _<_};
+ghost use Prim.Native.Nat.{_+_, _*_, _≤_, _<_};
 ghost use lib.ListN.{length, replicate};
-ghost use Rattle.floats.specs.Lists.{upto, filled, flatten, spliced};
-ghost use Rattle.layout.specs.Layout.{axisCodes, rowWords};
+ghost use Rattle.floats.specs.Lists.{filled};
+ghost use Rattle.layout.specs.Layout.{axisCodes, axisMasks, rowWords, mostHeld};
 ghost use Rattle.row_cells.specs.Codes.{geometricOf};
+ghost use Rattle.row_cells.specs.Row.{hasPoint};
 ghost use Rattle.spline_points.specs.Points.{blockAt};
-ghost use Rattle.spline_places.specs.Raw.{rawWord, rawMark, rawMotion, rawAt, rawRow, bareRow, rawGroup, rawBlock};
-ghost use Rattle.spline_places.specs.Puts.{Sample, Puts, OwnMask, samplesOf, Blocks, BlockPut, Spreads, heldWords};
-
-const G1: u64 = 2;
+ghost use Rattle.spline_places.specs.Sizes.{samplesOf, unmoved};
+ghost use Rattle.spline_rows.specs.Raw.{rawWord, rawMark, rawMotion};
+ghost use Rattle.spline_rows.specs.Puts.{Sample, Puts, OwnMask, RowPut, RunPut, BarePut, GroupPut, BlockPut, Blocks, HeldPut, Spreads, Laid};
 
 // The word of axis k in the sample that begins at word `from`, zero where k is no channel.
 fn sample_word(rows: &[u64], from: usize, mask: u64, places: &[usize], k: usize) -> u64
@@ -37,11 +36,11 @@ fn sample_word(rows: &[u64], from: usize, mask: u64, places: &[usize], k: usize)
 }
 
 // The words of that sample, each at its axis.
-fn sample_words(rows: &[u64], from: usize, mask: u64, places: &[usize]) -> [u64; 10]
+fn sample_words(rows: &[u64], from: usize, mask: u64, places: &[usize]) -> [u64; AXIS_CODES]
     requires { ⌜ Sample (now rows) from mask (now places) ⌝ }
     ensures { λ r. ⌜ r ≡ filled (rawWord mask (now (places .entry)) (now (rows .entry)) from) axisCodes (replicate axisCodes 0) ⌝ }
 {
-    let mut words = [0u64; 10];
+    let mut words = [0u64; AXIS_CODES];
     let mut k: usize = 0;
     while k < AXIS_CODES {
         words[k] = sample_word(rows, from, mask, places, k);
@@ -59,7 +58,7 @@ fn motion_of(j: usize) -> u64
 
 // Whether row t of c of point block j is a generated one.
 fn is_marked(o: Frame, j: usize, c: usize, t: usize) -> bool
-    requires { ⌜ (t < c) × (j < 256) ⌝ }
+    requires { ⌜ (t < c) × (j < mostHeld) ⌝ }
     ensures { λ r. ⌜ r ≡ rawMark o j c t ⌝ }
 {
     if t + 1 != c {
@@ -82,30 +81,18 @@ fn put_sample(
     rows: &mut [u64],
 )
     requires { ⌜ Puts o (now places) place c (now row) (now rows) × (t < c) ⌝ }
-    ensures { λ _. ⌜ now (rows .exit) ≡ spliced (now (rows .entry)) ((place .rows + t) * rowWords) (rawRow o (now (places .entry)) (place .points) c (now (row .entry)) (λ (u : ℕ). rawAt (o .ch) (now (rows .entry)) (place .samples + u)) t) ⌝ }
+    ensures { λ _. ⌜ RowPut o (now (places .entry)) place c (now (row .entry)) t (now (rows .entry)) (now (rows .exit)) ⌝ }
 {
     let words = sample_words(rows, (place.samples + t) * o.ch, o.mask, places);
     let motion = motion_of(place.points);
     let marked = is_marked(o, place.points, c, t);
-    put_made(
-        rows,
-        (place.rows + t) * ROW_WORDS,
-        row,
-        row_put::Made {
-            axes: o.axes,
-            mask: o.mask,
-            first: t == 0,
-            motion: motion,
-            marked: marked,
-        },
-        &words,
-    );
+    put_made(rows, (place.rows + t) * ROW_WORDS, row, row_put::Made { axes: o.axes, mask: o.mask, first: t == 0, motion: motion, marked: marked }, &words);
 }
 
 // Writes the rows of the c samples of the block at `place`.
 fn put_run(o: Frame, places: &[usize], place: Place, c: usize, row: &[u64], rows: &mut [u64])
     requires { ⌜ Puts o (now places) place c (now row) (now rows) ⌝ }
-    ensures { λ _. ⌜ now (rows .exit) ≡ spliced (now (rows .entry)) (place .rows * rowWords) (flatten (upto (rawRow o (now (places .entry)) (place .points) c (now (row .entry)) (λ (u : ℕ). rawAt (o .ch) (now (rows .entry)) (place .samples + u))) c)) ⌝ }
+    ensures { λ _. ⌜ RunPut o (now (places .entry)) place c (now (row .entry)) (now (rows .entry)) (now (rows .exit)) ⌝ }
 {
     let mut t = c;
     while t > 0 {
@@ -116,42 +103,30 @@ fn put_run(o: Frame, places: &[usize], place: Place, c: usize, row: &[u64], rows
 
 // The mask of the axis cells that a block without samples keeps: its own, and a B-spline's block none.
 fn own_mask(o: Frame, row: &[u64]) -> u64
-    requires { ⌜ length (now row) ≡ rowWords ⌝ }
+    requires { ⌜ (o .axes < axisMasks) × (length (now row) ≡ rowWords) ⌝ }
     ensures { λ r. ⌜ OwnMask o (now (row .entry)) r ⌝ }
 {
     if o.basis {
         return 0;
     }
-    both_masks(o.axes, row[R_PRESENT])
+    o.axes & row[R_PRESENT]
 }
 
 // Writes the one row of a block without samples.
 fn put_bare(o: Frame, place: Place, row: &[u64], rows: &mut [u64])
-    requires { ⌜ (o .axes < 1024) × (length (now row) ≡ rowWords) ⌝ }
+    requires { ⌜ (o .axes < axisMasks) × (length (now row) ≡ rowWords) ⌝ }
     requires { ⌜ place .rows * rowWords + rowWords ≤ length (now rows) ⌝ }
-    ensures { λ _. ⌜ now (rows .exit) ≡ spliced (now (rows .entry)) (place .rows * rowWords) (bareRow o (place .points) (now (row .entry))) ⌝ }
+    ensures { λ _. ⌜ BarePut o place (now (row .entry)) (now (rows .entry)) (now (rows .exit)) ⌝ }
 {
     let mask = own_mask(o, row);
     let motion = motion_of(place.points);
-    put_made(
-        rows,
-        place.rows * ROW_WORDS,
-        row,
-        row_put::Made {
-            axes: o.axes,
-            mask: mask,
-            first: true,
-            motion: motion,
-            marked: false,
-        },
-        &row[R_CELLS..],
-    );
+    put_made(rows, place.rows * ROW_WORDS, row, row_put::Made { axes: o.axes, mask: mask, first: true, motion: motion, marked: false }, &row[R_CELLS..]);
 }
 
 // Writes the group of a point block with c samples.
 fn put_point(o: Frame, places: &[usize], place: Place, c: usize, row: &[u64], rows: &mut [u64])
     requires { ⌜ Puts o (now places) place c (now row) (now rows) ⌝ }
-    ensures { λ _. ⌜ now (rows .exit) ≡ spliced (now (rows .entry)) (place .rows * rowWords) (flatten (rawGroup o (now (places .entry)) (place .points) c (now (row .entry)) (λ (u : ℕ). rawAt (o .ch) (now (rows .entry)) (place .samples + u)))) ⌝ }
+    ensures { λ _. ⌜ GroupPut o (now (places .entry)) place c (now (row .entry)) (now (rows .entry)) (now (rows .exit)) ⌝ }
 {
     if c == 0 {
         put_bare(o, place, row, rows);
@@ -171,7 +146,7 @@ fn put_block(
     rows: &mut [u64],
 )
     requires { ⌜ Puts o (now places) place c (now row) (now rows) ⌝ }
-    ensures { λ _. ⌜ now (rows .exit) ≡ spliced (now (rows .entry)) (place .rows * rowWords) (flatten (rawBlock o (now (places .entry)) point (place .points) c (now (row .entry)) (λ (u : ℕ). rawAt (o .ch) (now (rows .entry)) (place .samples + u)))) ⌝ }
+    ensures { λ _. ⌜ BlockPut o (now (places .entry)) point place c (now (row .entry)) (now (rows .entry)) (now (rows .exit)) ⌝ }
 {
     if point {
         put_point(o, places, place, c, row, rows);
@@ -199,7 +174,8 @@ fn spread_block(
     rows: &mut [u64],
 ) -> Place
     requires { ⌜ Blocks o (geometricOf (now axes)) (now places) (now counts) (now row) place (now rows) ⌝ }
-    ensures { λ r. ⌜ BlockPut o (geometricOf (now (axes .entry))) (now (places .entry)) (now (counts .entry)) (now (row .entry)) place (now (rows .entry)) (now (rows .exit)) r ⌝ }
+    ensures { λ r. ⌜ r ≡ unmoved (hasPoint (geometricOf (now (axes .entry))) (now (row .entry))) (now (counts .entry)) place ⌝ }
+    ensures { λ r. ⌜ HeldPut o (now (axes .entry)) (now (places .entry)) (now (counts .entry)) (now (row .entry)) r (now (rows .entry)) (now (rows .exit)) ⌝ }
 {
     let point = has_point(axes, row);
     let before = before_block(point, counts, place);
@@ -221,7 +197,7 @@ pub fn spread(
 )
     requires { ⌜ Spreads o (geometricOf (now axes)) (now places) (now counts) (blockAt (now store)) held total (now rows) ⌝ }
     requires { ⌜ held * rowWords ≤ length (now store) ⌝ }
-    ensures { λ _. ⌜ now (rows .exit) ≡ spliced (now (rows .entry)) 0 (flatten (upto (heldWords o (geometricOf (now (axes .entry))) (now (places .entry)) (now (counts .entry)) (blockAt (now (store .entry))) (now (rows .entry))) held)) ⌝ }
+    ensures { λ _. ⌜ Laid o (now (axes .entry)) (now (places .entry)) (now (counts .entry)) (now (store .entry)) held (now (rows .entry)) (now (rows .exit)) ⌝ }
 {
     let mut place = total;
     let mut i = held;

@@ -1,5 +1,6 @@
+-- `spline_rows::is_marked` meets its contract. Assumes nothing.
 use borrow.Author.Tests.{not-true, not-false}
-use Rattle.spline_places.specs.Puts.{mark-inner, mark-end, mark-basis}
+use Rattle.spline_rows.proofs.Leaves.{mark-inner, mark-end, mark-basis}
 use borrow.Author.Needs.{needs}
 use Rattle.spline_rows.proofs.is_marked.Statement.{statement}
 use Rattle.spline_rows.proofs.is_marked.Tie as tie

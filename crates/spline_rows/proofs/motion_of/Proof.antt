@@ -1,4 +1,5 @@
-use Rattle.spline_places.specs.Puts.{motion-first, motion-later}
+-- `spline_rows::motion_of` meets its contract. Assumes nothing.
+use Rattle.spline_rows.proofs.Leaves.{motion-first, motion-later}
 use Rattle.spline_rows.proofs.motion_of.Statement.{statement}
 use Rattle.spline_rows.proofs.motion_of.Tie as tie
 

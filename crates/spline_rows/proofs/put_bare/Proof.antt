@@ -1,12 +1,9 @@
-use mathlib.Core.Path.{ap, _∙_}
-use Rattle.floats.specs.Lists.{spliced}
-use Rattle.spline_places.specs.Puts.{bare-row, cells-of}
+-- `spline_rows::put_bare` meets its contract. Assumes nothing.
+use Rattle.spline_rows.proofs.Made.{bare-put}
+use Rattle.spline_rows.proofs.Leaves.{cells-of}
 use borrow.Author.Needs.{needs}
 use Rattle.spline_rows.proofs.put_bare.Statement.{statement}
 use Rattle.spline_rows.proofs.put_bare.Tie as tie
-use Rattle.row_put.proofs.put_made.Reads as put-made-reads
-use Rattle.spline_rows.proofs.motion_of.Reads as motion-of-reads
-use Rattle.spline_rows.proofs.own_mask.Reads as own-mask-reads
 
 own-mask-requires : tie.Need-own-mask-requires
 own-mask-requires c κs = search needs
@@ -33,7 +30,12 @@ same-length : tie.Need-same-length
 same-length c = search needs
 
 returns : tie.Need-returns
-returns c = (c .before .before .put-made .ensures) ∙ ap (spliced _ _) (bare-row _ _ _ _ _ _ ((c .before .before .before .before .before .before .before .before .before .before .pre) .0 .0) (c .before .before .before .before .before .before .before .own-mask .ensures) (c .before .before .before .before .before .before .motion-of .ensures) (cells-of (c .before .before .before .before .before .before .before .before .before .before .args .row .now)))
+returns c =
+    let d = c .before .before .before .before .before .before in
+    let own = d .before .own-mask .ensures in
+    let f = d .before .before .before .before .args in
+    let cells = cells-of (f .row .now) in
+    bare-put _ (f .place) _ _ _ _ own (d .motion-of .ensures) cells _ _ (c .before .before .put-made .ensures)
 
 pub put-bare-spec : {M : Type 1} → statement M
 put-bare-spec =

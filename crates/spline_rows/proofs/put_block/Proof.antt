@@ -1,13 +1,12 @@
+-- `spline_rows::put_block` meets its contract. Assumes nothing.
 use mathlib.Core.Path.{ap, _∙_}
-use Rattle.spline_places.specs.Sizes.{size-least}
+use Rattle.spline_places.specs.SizeLaws.{size-least}
 use native.Mathlib.Omega.{arith}
 use Rattle.floats.specs.Lists.{spliced}
-use Rattle.spline_places.specs.Puts.{block-point, block-out}
+use Rattle.spline_rows.proofs.Leaves.{block-point, block-out}
 use borrow.Author.Needs.{needs}
 use Rattle.spline_rows.proofs.put_block.Statement.{statement}
 use Rattle.spline_rows.proofs.put_block.Tie as tie
-use Rattle.row_put.proofs.put_row.Reads as put-row-reads
-use Rattle.spline_rows.proofs.put_point.Reads as put-point-reads
 
 put-point-requires : tie.Need-put-point-requires
 put-point-requires c κs = search needs
@@ -22,7 +21,9 @@ mul-put-row : tie.Need-mul-put-row
 mul-put-row c = search needs
 
 put-row-requires : tie.Need-put-row-requires
-put-row-requires c κs = ((c .before .before .before .before .before .before .pre) .long, omega (arith, (c .before .before .before .before .before .before .pre) .room, size-least (c .before .before .before .before .before .before .args .c)))
+put-row-requires c κs =
+    let d = c .before .before .before .before .before .before in
+    ((d .pre) .long, omega (arith, (d .pre) .room, size-least (d .args .c)))
 
 same-length-2 : tie.Need-same-length-2
 same-length-2 c = search needs

@@ -1,16 +1,17 @@
+-- `spline_rows::put_point` meets its contract. Assumes nothing.
 use mathlib.Core.Path.{ap, _∙_}
-use Rattle.spline_places.specs.Sizes.{size-least}
+use Rattle.spline_places.specs.SizeLaws.{size-least}
 use native.Mathlib.Omega.{arith}
 use Rattle.floats.specs.Lists.{spliced}
-use Rattle.spline_places.specs.Puts.{group-bare, group-run}
+use Rattle.spline_rows.proofs.Leaves.{group-bare, group-run}
 use borrow.Author.Needs.{needs}
 use Rattle.spline_rows.proofs.put_point.Statement.{statement}
 use Rattle.spline_rows.proofs.put_point.Tie as tie
-use Rattle.spline_rows.proofs.put_bare.Reads as put-bare-reads
-use Rattle.spline_rows.proofs.put_run.Reads as put-run-reads
 
 put-bare-requires : tie.Need-put-bare-requires
-put-bare-requires c κs = (((c .before .before .before .before .before .pre) .sound .axes, (c .before .before .before .before .before .pre) .long), omega (arith, (c .before .before .before .before .before .pre) .room, size-least (c .before .before .before .before .before .args .c)))
+put-bare-requires c κs =
+    let d = c .before .before .before .before .before in
+    (((d .pre) .sound .axes, (d .pre) .long), omega (arith, (d .pre) .room, size-least (d .args .c)))
 
 same-length : tie.Need-same-length
 same-length c = search needs

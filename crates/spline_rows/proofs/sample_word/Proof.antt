@@ -1,10 +1,10 @@
+-- `spline_rows::sample_word` meets its contract. Assumes nothing.
 use mathlib.Core.Path.{sym, _∙_}
 use native.Mathlib.Omega.{arith}
-use Rattle.spline_places.specs.Puts.{word-yes, word-no}
+use Rattle.spline_rows.proofs.Leaves.{word-yes, word-no}
 use borrow.Author.Needs.{needs}
 use Rattle.spline_rows.proofs.sample_word.Statement.{statement}
 use Rattle.spline_rows.proofs.sample_word.Tie as tie
-use Rattle.row_cells.proofs.has_bit.Reads as has-bit-reads
 
 has-bit-requires : tie.Need-has-bit-requires
 has-bit-requires c κs = search needs
@@ -16,13 +16,19 @@ shared-slice-read-result : tie.Need-shared-slice-read-result
 shared-slice-read-result c = search needs
 
 add-result : tie.Need-add-result
-add-result c = omega (arith, (c .before .before .before .before .before .pre) .0 .inside (c .before .before .before .before .before .args .k) (sym (c .before .before .has-bit .ensures) ∙ (c .before .if1 .taken)))
+add-result c =
+    let d = c .before .before .before .before .before in
+    omega (arith, (d .pre) .0 .inside (d .args .k) (sym (c .before .before .has-bit .ensures) ∙ (c .before .if1 .taken)))
 
 mul-result-2 : tie.Need-mul-result-2
-mul-result-2 c = omega (arith, (c .before .before .before .before .before .pre) .0 .inside (c .before .before .before .before .before .args .k) (sym (c .before .before .has-bit .ensures) ∙ (c .before .if1 .taken)))
+mul-result-2 c =
+    let d = c .before .before .before .before .before in
+    omega (arith, (d .pre) .0 .inside (d .args .k) (sym (c .before .before .has-bit .ensures) ∙ (c .before .if1 .taken)))
 
 shared-slice-read-result-2 : tie.Need-shared-slice-read-result-2
-shared-slice-read-result-2 c = (c .before .before .before .before .before .before .pre) .0 .inside (c .before .before .before .before .before .before .args .k) (sym (c .before .before .before .has-bit .ensures) ∙ (c .before .before .if1 .taken))
+shared-slice-read-result-2 c =
+    let d = c .before .before .before .before .before .before in
+    (d .pre) .0 .inside (d .args .k) (sym (c .before .before .before .has-bit .ensures) ∙ (c .before .before .if1 .taken))
 
 returns : tie.Need-returns
 returns c = word-yes _ _ _ _ _ (sym (c .before .before .before .has-bit .ensures) ∙ (c .before .before .if1 .taken))

@@ -1,19 +1,20 @@
+-- `spline_rows::sample_words` meets its contract. Assumes nothing.
 use mathlib.Core.Path.{_≡_}
 use Prim.Native.Nat.{_≤_, _-_}
 use native.Mathlib.Omega.{arith}
 use lib.ListN.{replicate}
 use Rattle.floats.specs.Fill.{Filling, filling-none, filling-more}
-use Rattle.spline_places.specs.Raw.{rawWord}
+use Rattle.layout.specs.Layout.{axisCodes}
+use Rattle.spline_rows.specs.Raw.{rawWord}
 use borrow.Author.Needs.{needs}
 use Rattle.spline_rows.proofs.sample_words.Statement.{statement}
 use Rattle.spline_rows.proofs.sample_words.Tie as tie
-use Rattle.spline_rows.proofs.sample_word.Reads as sample-word-reads
 
 abbrev Inv-loop : tie.InvT-loop
-Inv-loop rows from mask places words₀ k₀ words k = (k ≤ 10) × Filling (rawWord mask places rows from) k (replicate 10 0) words
+Inv-loop rows from mask places words₀ k₀ words k = (k ≤ axisCodes) × Filling (rawWord mask places rows from) k (replicate axisCodes 0) words
 
 abbrev μ-loop : tie.MeasureT-loop
-μ-loop rows from mask places words₀ k₀ words k = 10 - k
+μ-loop rows from mask places words₀ k₀ words k = axisCodes - k
 
 loop-holds : tie.Need-loop-holds Inv-loop μ-loop
 loop-holds c = (omega arith, filling-none)
@@ -37,7 +38,7 @@ loop-again : tie.Need-loop-again Inv-loop μ-loop
 loop-again c = (omega arith, filling-more ((c .before .before .loop .inv) .1) (omega arith) (c .sample-word .ensures))
 
 returns : tie.Need-returns Inv-loop μ-loop
-returns c = let e : (c .before .loop .k) ≡ 10 = omega arith in rw e at ((c .before .loop .inv) .1 .is)
+returns c = let e : (c .before .loop .k) ≡ axisCodes = omega arith in rw e at ((c .before .loop .inv) .1 .is)
 
 pub sample-words-spec : {M : Type 1} → statement M
 sample-words-spec =

@@ -1,4 +1,5 @@
-use Rattle.spline_places.specs.Puts.{samples-point, samples-none}
+-- `spline_rows::samples_of` meets its contract. Assumes nothing.
+use Rattle.spline_rows.proofs.Leaves.{samples-point, samples-none}
 use borrow.Author.Needs.{needs}
 use Rattle.spline_rows.proofs.samples_of.Statement.{statement}
 use Rattle.spline_rows.proofs.samples_of.Tie as tie

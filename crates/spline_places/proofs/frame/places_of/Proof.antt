@@ -1,18 +1,19 @@
+-- `spline_places::frame::places_of` meets its contract. Assumes nothing.
 use mathlib.Core.Path.{_≡_}
 use Prim.Native.Nat.{ℕ, _≤_, _-_}
 use native.Mathlib.Omega.{arith}
 use Rattle.floats.specs.Fill.{Filling, filling-none, filling-more}
-use Rattle.spline_places.specs.Groups.{placeOf}
+use Rattle.layout.specs.Layout.{axisCodes}
+use Rattle.spline_points.specs.Points.{placeOf}
 use borrow.Author.Needs.{needs}
 use Rattle.spline_places.proofs.frame.places_of.Statement.{statement}
 use Rattle.spline_places.proofs.frame.places_of.Tie as tie
-use Rattle.spline_places.proofs.frame.place_of.Reads as place-of-reads
 
 abbrev Inv-loop : tie.InvT-loop
-Inv-loop chans places₀ k₀ places k = (k ≤ 10) × Filling (λ (k : ℕ). placeOf k chans) k places₀ places
+Inv-loop chans places₀ k₀ places k = (k ≤ axisCodes) × Filling (λ (k : ℕ). placeOf k chans) k places₀ places
 
 abbrev μ-loop : tie.MeasureT-loop
-μ-loop chans places₀ k₀ places k = 10 - k
+μ-loop chans places₀ k₀ places k = axisCodes - k
 
 loop-holds : tie.Need-loop-holds Inv-loop μ-loop
 loop-holds c = (omega arith, filling-none)
@@ -39,7 +40,7 @@ same-length : tie.Need-same-length Inv-loop μ-loop
 same-length c = (c .before .loop .inv) .1 .same
 
 returns : tie.Need-returns Inv-loop μ-loop
-returns c = let e : (c .before .loop .k) ≡ 10 = omega arith in rw e at ((c .before .loop .inv) .1 .is)
+returns c = let e : (c .before .loop .k) ≡ axisCodes = omega arith in rw e at ((c .before .loop .inv) .1 .is)
 
 pub places-of-spec : {M : Type 1} → statement M
 places-of-spec =

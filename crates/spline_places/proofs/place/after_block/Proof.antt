@@ -1,11 +1,11 @@
+-- `spline_places::place::after_block` meets its contract. Assumes nothing.
 use lib.ListN.{getD}
 use native.Mathlib.Omega.{arith}
 use borrow.Author.Tests.{not-true, not-false}
-use Rattle.spline_places.specs.Sizes.{moved-plain, moved-point, size-most}
+use Rattle.spline_places.specs.SizeLaws.{moved-plain, moved-point, size-most}
 use borrow.Author.Needs.{needs}
 use Rattle.spline_places.proofs.place.after_block.Statement.{statement}
 use Rattle.spline_places.proofs.place.after_block.Tie as tie
-use Rattle.spline_places.proofs.place.size_of.Reads as size-of-reads
 
 add-t7 : tie.Need-add-t7
 add-t7 c = search needs
@@ -23,10 +23,16 @@ size-of-requires : tie.Need-size-of-requires
 size-of-requires c κs = search needs
 
 add-t10 : tie.Need-add-t10
-add-t10 c = omega (arith, (c .before .before .before .before .before .pre) .1 .0, (c .before .size-of .ensures), size-most (getD (c .before .before .before .before .before .args .counts .now) (c .before .before .before .before .before .args .place .points) 0) .1, (c .before .before .before .before .before .pre) .0 .1 .few (c .before .before .before .before .before .args .place .points))
+add-t10 c =
+    let d = c .before .before .before .before .before in
+    let j = d .args .place .points in
+    let few = (d .pre) .0 .1 .few j in
+    omega (arith, (d .pre) .1 .0, (c .before .size-of .ensures), size-most (getD (d .args .counts .now) j 0) .1, few)
 
 add-t11 : tie.Need-add-t11
-add-t11 c = omega (arith, (c .before .before .before .before .before .before .pre) .1 .1, (c .before .before .before .before .before .before .pre) .0 .1 .few (c .before .before .before .before .before .before .args .place .points))
+add-t11 c =
+    let d = c .before .before .before .before .before .before in
+    omega (arith, (d .pre) .1 .1, (d .pre) .0 .1 .few (d .args .place .points))
 
 add-t12 : tie.Need-add-t12
 add-t12 c = search needs

@@ -1,4 +1,5 @@
-use Rattle.spline_places.specs.Sizes.{size-zero, size-some}
+-- `spline_places::place::size_of` meets its contract. Assumes nothing.
+use Rattle.spline_places.specs.SizeLaws.{size-zero, size-some}
 use Rattle.spline_places.proofs.place.size_of.Statement.{statement}
 use Rattle.spline_places.proofs.place.size_of.Tie as tie
 

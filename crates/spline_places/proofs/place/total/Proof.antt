@@ -1,3 +1,4 @@
+-- `spline_places::place::total` meets its contract. Assumes nothing.
 use mathlib.Core.Path.{_≡_, refl, ap, _∙_}
 use Prim.Native.Nat.{_≤_, _-_}
 use native.Mathlib.Omega.{arith}
@@ -5,13 +6,11 @@ use lib.ListN.{length}
 use Rattle.row_cells.specs.Codes.{geometricOf}
 use Rattle.spline_points.specs.Points.{blockAt}
 use Rattle.spline_points.specs.Channels.{block-length}
-use Rattle.spline_places.specs.Sizes.{placeTo, place-step, place-room}
+use Rattle.spline_places.specs.Sizes.{placeTo}
+use Rattle.spline_places.specs.SizeLaws.{place-step, place-room}
 use borrow.Author.Needs.{needs}
 use Rattle.spline_places.proofs.place.total.Statement.{statement}
 use Rattle.spline_places.proofs.place.total.Tie as tie
-use Rattle.spline_points.proofs.channels.block.Reads as block-reads
-use Rattle.spline_points.proofs.channels.has_point.Reads as has-point-reads
-use Rattle.spline_places.proofs.place.after_block.Reads as after-block-reads
 
 abbrev Inv-loop : tie.InvT-loop
 Inv-loop axes store held counts place₀ i₀ place i = (i ≤ held) × (place ≡ placeTo (geometricOf axes) counts (blockAt store) i)
@@ -30,7 +29,9 @@ has-point-requires : tie.Need-has-point-requires Inv-loop μ-loop
 has-point-requires c κs = ap length (c .block .ensures) ∙ block-length _ _ (omega arith)
 
 after-block-requires : tie.Need-after-block-requires Inv-loop μ-loop
-after-block-requires c κs = place-room _ _ _ _ _ ((c .before .before .before .before .before .before .before .pre) .1) (omega arith) (omega arith) ((c .before .before .before .loop .inv) .1)
+after-block-requires c κs =
+    let d = c .before .before .before in
+    place-room _ _ _ _ _ ((d .before .before .before .before .pre) .1) (omega arith) (omega arith) ((d .loop .inv) .1)
 
 add-i : tie.Need-add-i Inv-loop μ-loop
 add-i c = search needs
@@ -39,7 +40,9 @@ loop-less : tie.Need-loop-less Inv-loop μ-loop
 loop-less c = search needs
 
 loop-again : tie.Need-loop-again Inv-loop μ-loop
-loop-again c = (omega arith, place-step _ _ _ _ _ _ _ _ (c .after-block .ensures) (c .before .has-point .ensures) (c .before .before .block .ensures) ((c .before .before .before .before .loop .inv) .1))
+loop-again c =
+    let d = c .before .before in
+    (omega arith, place-step _ _ _ _ _ _ _ _ (c .after-block .ensures) (c .before .has-point .ensures) (d .block .ensures) ((d .before .before .loop .inv) .1))
 
 returns : tie.Need-returns Inv-loop μ-loop
 returns c = let e : (c .before .loop .i) ≡ (c .before .before .before .before .before .args .held) = omega arith in rw e at ((c .before .loop .inv) .1)

@@ -1,14 +1,14 @@
+-- `spline_points::channels::add_channel` meets its contract. Assumes nothing.
 use mathlib.Core.Path.{sym, ap, _∙_}
 use native.Mathlib.Omega.{arith}
 use lib.ListN.{length, take}
 use lib.Seq.{length-take-le}
-use Rattle.spline_points.specs.Channels.{isNew}
+use Rattle.spline_points.specs.Gathers.{isNew}
 use Rattle.spline_points.specs.Keeps.{keep-yes}
 use Rattle.spline_points.specs.Append.{appended-kept, appended-left}
 use borrow.Author.Needs.{needs}
 use Rattle.spline_points.proofs.channels.add_channel.Statement.{statement}
 use Rattle.spline_points.proofs.channels.add_channel.Tie as tie
-use Rattle.spline_points.proofs.channels.is_new.Reads as is-new-reads
 
 slice-reshare-prefix-is-new : tie.Need-slice-reshare-prefix-is-new
 slice-reshare-prefix-is-new c = search needs
@@ -23,7 +23,10 @@ mul-chans : tie.Need-mul-chans
 mul-chans c = search needs
 
 slice-write-chans : tie.Need-slice-write-chans
-slice-write-chans c = omega (arith, ap length (keep-yes (isNew (c .before .before .before .before .args .present) (take (c .before .before .before .before .args .n) (c .before .before .before .before .args .chans .now))) (c .before .before .before .before .args .k) (sym (c .before .is-new .ensures) ∙ (c .if1 .taken))))
+slice-write-chans c =
+    let f = c .before .before .before .before .args in
+    let new = sym (c .before .is-new .ensures) ∙ (c .if1 .taken) in
+    omega (arith, ap length (keep-yes (isNew (f .present) (take (f .n) (f .chans .now))) (f .k) new))
 
 add-result : tie.Need-add-result
 add-result c = search needs
@@ -32,7 +35,10 @@ same-length : tie.Need-same-length
 same-length c = search needs
 
 returns : tie.Need-returns
-returns c = appended-kept _ _ (sym (c .before .is-new .ensures) ∙ (c .if1 .taken)) (omega (arith, ap length (keep-yes (isNew (c .before .before .before .before .args .present) (take (c .before .before .before .before .args .n) (c .before .before .before .before .args .chans .now))) (c .before .before .before .before .args .k) (sym (c .before .is-new .ensures) ∙ (c .if1 .taken)))))
+returns c =
+    let f = c .before .before .before .before .args in
+    let new = sym (c .before .is-new .ensures) ∙ (c .if1 .taken) in
+    appended-kept _ _ new (omega (arith, ap length (keep-yes (isNew (f .present) (take (f .n) (f .chans .now))) (f .k) new)))
 
 same-length-2 : tie.Need-same-length-2
 same-length-2 c = search needs

@@ -1,3 +1,4 @@
+-- `spline_points::channels::block` meets its contract. Assumes nothing.
 use Rattle.spline_points.specs.Channels.{block-is}
 use borrow.Author.Needs.{needs}
 use Rattle.spline_points.proofs.channels.block.Statement.{statement}

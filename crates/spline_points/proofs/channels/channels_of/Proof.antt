@@ -1,19 +1,18 @@
+-- `spline_points::channels::channels_of` meets its contract. Assumes nothing.
 use mathlib.Core.Path.{_≡_}
-use mathlib.Core.List.{[]}
 use Prim.Native.Nat.{_≤_, _-_}
 use native.Mathlib.Omega.{arith}
 use Rattle.floats.specs.Lists.{upto}
-use Rattle.row_cells.specs.Codes.{geometricOf}
-use Rattle.spline_points.specs.Points.{channelsFrom, blockAt}
+use Rattle.spline_points.specs.Points.{channelsFrom}
+use Rattle.spline_points.specs.Gathers.{ChannelsPut}
 use Rattle.spline_points.specs.Channels.{channels-room, channels-step}
-use Rattle.spline_points.specs.Append.{Appended, appended-none}
+use Rattle.spline_points.specs.Append.{appended-none}
 use borrow.Author.Needs.{needs}
 use Rattle.spline_points.proofs.channels.channels_of.Statement.{statement}
 use Rattle.spline_points.proofs.channels.channels_of.Tie as tie
-use Rattle.spline_points.proofs.channels.add_channels.Reads as add-channels-reads
 
 abbrev Inv-loop : tie.InvT-loop
-Inv-loop axes store held chans₀ n₀ i₀ chans n i = (i ≤ held) × Appended (channelsFrom (geometricOf axes) [] (upto (blockAt store) i)) 0 chans₀ chans n
+Inv-loop axes store held chans₀ n₀ i₀ chans n i = (i ≤ held) × ChannelsPut axes store i chans₀ chans n
 
 abbrev μ-loop : tie.MeasureT-loop
 μ-loop axes store held chans₀ n₀ i₀ chans n i = held - i
@@ -35,7 +34,9 @@ shared-slice-read-add-channels : tie.Need-shared-slice-read-add-channels Inv-loo
 shared-slice-read-add-channels c = search needs
 
 add-channels-requires : tie.Need-add-channels-requires Inv-loop μ-loop
-add-channels-requires c κs = channels-room _ _ (c .before .before .before .before .before .before .before .args .held) _ ((c .before .before .before .before .before .before .before .pre) .0) ((c .before .before .before .before .before .before .before .pre) .1 .1) _ ((c .before .before .before .loop .inv) .1)
+add-channels-requires c κs =
+    let pre = c .before .before .before .before .before .before .before .pre in
+    channels-room _ _ _ (pre .0) (pre .1 .1) _ ((c .before .before .before .loop .inv) .1)
 
 add-i : tie.Need-add-i Inv-loop μ-loop
 add-i c = search needs
@@ -44,7 +45,10 @@ loop-less : tie.Need-loop-less Inv-loop μ-loop
 loop-less c = search needs
 
 loop-again : tie.Need-loop-again Inv-loop μ-loop
-loop-again c = (omega arith, channels-step _ _ (c .before .before .before .before .before .before .before .before .before .before .args .held) _ ((c .before .before .before .before .before .before .before .before .before .before .pre) .0) ((c .before .before .before .before .before .before .before .before .before .before .pre) .1 .1) _ ((c .before .before .before .before .before .before .loop .inv) .1) (c .before .before .add-channels .ensures))
+loop-again c =
+    let d = c .before .before .before .before .before .before in
+    let pre = d .before .before .before .before .pre in
+    (omega arith, channels-step _ _ _ (pre .0) (pre .1 .1) _ ((d .loop .inv) .1) (c .before .before .add-channels .ensures))
 
 same-length : tie.Need-same-length Inv-loop μ-loop
 same-length c = (c .before .loop .inv) .1 .same

@@ -1,3 +1,4 @@
+-- `spline_points::channels::has_point` meets its contract. Assumes nothing.
 use mathlib.Core.Path.{_≡_, sym, _∙_}
 use mathlib.Core.Bool.{_&&_}
 use Prim.Native.Nat.{ℕ, _≤_, _-_}
@@ -13,7 +14,6 @@ use Rattle.spline_points.specs.Keeps.{any-keep, any-hit, any-miss, any-n
 use borrow.Author.Needs.{needs}
 use Rattle.spline_points.proofs.channels.has_point.Statement.{statement}
 use Rattle.spline_points.proofs.channels.has_point.Tie as tie
-use Rattle.spline_points.proofs.channels.programs.Reads as programs-reads
 
 abbrev Inv-loop : tie.InvT-loop
 Inv-loop axes row present i₀ i = (i ≤ length axes) × (hasPoint (geometricOf axes) row ≡ anyOf (λ (k : ℕ). ltb k axisCodes && has present k) (drop i axes))
@@ -38,7 +38,9 @@ programs-requires : tie.Need-programs-requires Inv-loop μ-loop
 programs-requires c κs = search needs
 
 returns : tie.Need-returns Inv-loop μ-loop
-returns c = sym ((c .before .before .before .before .loop .inv) .1 ∙ any-hit _ _ _ 0 (c .before .before .before .loop-test .taken) (sym (c .before .programs .ensures) ∙ (c .if1 .taken)))
+returns c =
+    let d = c .before .before .before in
+    sym ((d .before .loop .inv) .1 ∙ any-hit _ _ _ 0 (d .loop-test .taken) (sym (c .before .programs .ensures) ∙ (c .if1 .taken)))
 
 add-i : tie.Need-add-i Inv-loop μ-loop
 add-i c = search needs
@@ -47,7 +49,9 @@ loop-less : tie.Need-loop-less Inv-loop μ-loop
 loop-less c = search needs
 
 loop-again : tie.Need-loop-again Inv-loop μ-loop
-loop-again c = (omega arith, (c .before .before .before .before .loop .inv) .1 ∙ any-miss _ _ _ 0 (c .before .before .before .loop-test .taken) (sym (c .before .programs .ensures) ∙ (c .if1 .left)))
+loop-again c =
+    let d = c .before .before .before in
+    (omega arith, (d .before .loop .inv) .1 ∙ any-miss _ _ _ 0 (d .loop-test .taken) (sym (c .before .programs .ensures) ∙ (c .if1 .left)))
 
 returns-2 : tie.Need-returns-2 Inv-loop μ-loop
 returns-2 c = sym ((c .before .loop .inv) .1 ∙ any-none _ _ _ (c .loop-test .left))

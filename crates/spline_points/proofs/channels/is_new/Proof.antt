@@ -1,3 +1,4 @@
+-- `spline_points::channels::is_new` meets its contract. Assumes nothing.
 use mathlib.Core.Path.{sym, ap, _∙_}
 use mathlib.Core.Bool.{not}
 use borrow.Author.Tests.{not-true, not-false}
@@ -5,8 +6,6 @@ use Rattle.spline_points.specs.Channels.{not-new, maybe-new}
 use borrow.Author.Needs.{needs}
 use Rattle.spline_points.proofs.channels.is_new.Statement.{statement}
 use Rattle.spline_points.proofs.channels.is_new.Tie as tie
-use Rattle.spline_points.proofs.channels.is_listed.Reads as is-listed-reads
-use Rattle.spline_points.proofs.channels.programs.Reads as programs-reads
 
 programs-requires : tie.Need-programs-requires
 programs-requires c κs = search needs

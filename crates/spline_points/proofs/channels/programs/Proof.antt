@@ -1,10 +1,10 @@
+-- `spline_points::channels::programs` meets its contract. Assumes nothing.
 use Rattle.layout.specs.Layout.{axisCodes}
 use mathlib.Core.Path.{_∙_}
 use borrow.Author.Tests.{lt-ltb, le-ltb}
 use borrow.Author.Needs.{needs}
 use Rattle.spline_points.proofs.channels.programs.Statement.{statement}
 use Rattle.spline_points.proofs.channels.programs.Tie as tie
-use Rattle.row_cells.proofs.has_bit.Reads as has-bit-reads
 
 returns : tie.Need-returns
 returns c = rw (le-ltb _ axisCodes (c .if1 .taken))

@@ -1,3 +1,4 @@
+-- `spline_points::metric::add_place` meets its contract. Assumes nothing.
 use Rattle.spline_points.specs.Channels.{xyz-yes, xyz-no}
 use Rattle.spline_points.specs.Append.{appended-kept, appended-left}
 use borrow.Author.Needs.{needs}

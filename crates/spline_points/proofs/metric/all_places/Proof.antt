@@ -1,8 +1,10 @@
+-- `spline_points::metric::all_places` meets its contract. Assumes nothing.
 use mathlib.Core.Path.{_≡_}
 use Prim.Native.Nat.{ℕ, _≤_, _-_}
 use native.Mathlib.Omega.{arith}
 use Rattle.floats.specs.Lists.{upto}
-use Rattle.spline_points.specs.Append.{Appended, appended-one, appended-none, appended-upto}
+use Rattle.spline_points.specs.Gathers.{Appended}
+use Rattle.spline_points.specs.Append.{appended-one, appended-none, appended-upto}
 use borrow.Author.Needs.{needs}
 use Rattle.spline_points.proofs.metric.all_places.Statement.{statement}
 use Rattle.spline_points.proofs.metric.all_places.Tie as tie

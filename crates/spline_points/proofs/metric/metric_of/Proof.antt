@@ -1,11 +1,10 @@
+-- `spline_points::metric::metric_of` meets its contract. Assumes nothing.
 use native.Mathlib.Omega.{arith}
 use Rattle.spline_points.specs.Channels.{metric-all, metric-xyz}
 use Rattle.spline_points.specs.Append.{appended-fresh, appended-as}
 use borrow.Author.Needs.{needs}
 use Rattle.spline_points.proofs.metric.metric_of.Statement.{statement}
 use Rattle.spline_points.proofs.metric.metric_of.Tie as tie
-use Rattle.spline_points.proofs.metric.all_places.Reads as all-places-reads
-use Rattle.spline_points.proofs.metric.xyz_places.Reads as xyz-places-reads
 
 xyz-places-requires : tie.Need-xyz-places-requires
 xyz-places-requires c κs = search needs
@@ -17,13 +16,18 @@ same-length : tie.Need-same-length
 same-length c = search needs
 
 returns : tie.Need-returns
-returns c = appended-as (metric-all _ (omega (arith, (c .before .before .before .before .before .before .before .xyz-places .ensures) .count, (c .before .before .before .before .if1 .taken)))) (appended-fresh ((c .before .before .before .before .before .before .before .xyz-places .ensures) .same) (c .before .before .all-places .ensures))
+returns c =
+    let xyz = c .before .before .before .before .before .before .before .xyz-places .ensures in
+    let none = c .before .before .before .before .if1 .taken in
+    appended-as (metric-all _ (omega (arith, xyz .count, none))) (appended-fresh (xyz .same) (c .before .before .all-places .ensures))
 
 same-length-2 : tie.Need-same-length-2
 same-length-2 c = search needs
 
 returns-2 : tie.Need-returns-2
-returns-2 c = appended-as (metric-xyz _ (λ e. (c .if1 .left) (omega (arith, (c .before .before .before .xyz-places .ensures) .count)))) (c .before .before .before .xyz-places .ensures)
+returns-2 c =
+    let xyz = c .before .before .before .xyz-places .ensures in
+    appended-as (metric-xyz _ (λ e. (c .if1 .left) (omega (arith, xyz .count)))) xyz
 
 pub metric-of-spec : {M : Type 1} → statement M
 metric-of-spec =

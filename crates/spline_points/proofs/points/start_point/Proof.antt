@@ -1,21 +1,25 @@
+-- `spline_points::points::start_point` meets its contract. Assumes nothing.
 use mathlib.Core.Path.{ap}
 use mathlib.Core.List.{map}
-use Prim.Native.Nat.{_≤_, _-_}
+use Prim.Native.Nat.{ℕ, _≤_, _-_}
 use native.Mathlib.Omega.{arith}
 use lib.ListN.{length, take}
 use lib.Seq.{take-all}
+use lib.Ieee.{Float}
 use Rattle.floats.specs.Lists.{upto}
 use Rattle.row_cells.specs.Row.{shown}
 use Rattle.spline_points.specs.Points.{startValue, blockAt}
-use Rattle.spline_points.specs.Append.{Appended, appended-none, appended-to, appended-as}
+use Rattle.spline_points.specs.Gathers.{Appended}
+use Rattle.spline_points.specs.Append.{appended-none, appended-to, appended-as}
 use Rattle.spline_points.specs.Curve.{start-step}
 use borrow.Author.Needs.{needs}
 use Rattle.spline_points.proofs.points.start_point.Statement.{statement}
 use Rattle.spline_points.proofs.points.start_point.Tie as tie
-use Rattle.spline_points.proofs.points.start_value.Reads as start-value-reads
 
 abbrev Inv-loop : tie.InvT-loop
-Inv-loop start words store held chans pts₀ c₀ pts c = (c ≤ length chans) × Appended (map (startValue (shown start words) (upto (blockAt store) held)) (take c chans)) 0 pts₀ pts c
+Inv-loop start words store held chans pts₀ c₀ pts c =
+    let f : ℕ → Float = startValue (shown start words) (upto (blockAt store) held) in
+    (c ≤ length chans) × Appended (map f (take c chans)) 0 pts₀ pts c
 
 abbrev μ-loop : tie.MeasureT-loop
 μ-loop start words store held chans pts₀ c₀ pts c = length chans - c
@@ -30,7 +34,9 @@ shared-slice-read-start-value : tie.Need-shared-slice-read-start-value Inv-loop 
 shared-slice-read-start-value c = search needs
 
 start-value-requires : tie.Need-start-value-requires Inv-loop μ-loop
-start-value-requires c κs = (search needs, (search needs, (c .before .before .before .before .before .before .before .pre) .0 .1 .1 .axis _ (c .before .loop-test .taken)))
+start-value-requires c κs =
+    let codes = (c .before .before .before .before .before .before .before .pre) .0 .1 .1 in
+    (search needs, (search needs, codes .axis _ (c .before .loop-test .taken)))
 
 mul-pts : tie.Need-mul-pts Inv-loop μ-loop
 mul-pts c = search needs
@@ -45,7 +51,9 @@ loop-less : tie.Need-loop-less Inv-loop μ-loop
 loop-less c = search needs
 
 loop-again : tie.Need-loop-again Inv-loop μ-loop
-loop-again c = (omega arith, start-step _ _ _ (c .before .before .loop-test .taken) (omega arith) (c .start-value .ensures) ((c .before .before .before .loop .inv) .1))
+loop-again c =
+    let d = c .before .before in
+    (omega arith, start-step _ _ _ (d .loop-test .taken) (omega arith) (c .start-value .ensures) ((d .before .loop .inv) .1))
 
 same-length : tie.Need-same-length Inv-loop μ-loop
 same-length c = (c .before .loop .inv) .1 .same

@@ -1,8 +1,8 @@
+-- `spline_points::points::weight_of` meets its contract. Assumes nothing.
 use Rattle.spline_points.specs.Curve.{weight-low, weight-high}
 use borrow.Author.Needs.{needs}
 use Rattle.spline_points.proofs.points.weight_of.Statement.{statement}
 use Rattle.spline_points.proofs.points.weight_of.Tie as tie
-use Rattle.spline_points.proofs.points.next_value.Reads as next-value-reads
 
 next-value-requires : tie.Need-next-value-requires
 next-value-requires c κs = search needs

@@ -1,17 +1,19 @@
+-- `spline_points::channels::place_of` meets its contract. Assumes nothing.
 use mathlib.Core.Path.{_≡_, sym, _∙_}
 use Prim.Native.Nat.{_+_, _≤_, _-_}
 use native.Mathlib.Omega.{arith}
 use lib.ListN.{length, drop}
-use Rattle.spline_places.specs.Groups.{placeOf, place-hit, place-miss, place-end}
+use Rattle.spline_points.specs.Points.{placeOf}
+use Rattle.spline_points.specs.Keeps.{place-hit, place-miss, place-end}
 use borrow.Author.Needs.{needs}
-use Rattle.spline_places.proofs.frame.place_of.Statement.{statement}
-use Rattle.spline_places.proofs.frame.place_of.Tie as tie
+use Rattle.spline_points.proofs.channels.place_of.Statement.{statement}
+use Rattle.spline_points.proofs.channels.place_of.Tie as tie
 
 abbrev Inv-loop : tie.InvT-loop
-Inv-loop chans k i₀ i = (i ≤ length chans) × (placeOf k chans ≡ i + placeOf k (drop i chans))
+Inv-loop codes k i₀ i = (i ≤ length codes) × (placeOf k codes ≡ i + placeOf k (drop i codes))
 
 abbrev μ-loop : tie.MeasureT-loop
-μ-loop chans k i₀ i = length chans - i
+μ-loop codes k i₀ i = length codes - i
 
 loop-holds : tie.Need-loop-holds Inv-loop μ-loop
 loop-holds c = (omega arith, omega arith)

@@ -1,0 +1,5 @@
+pub mod Leaves
+pub mod SharedBits
+pub mod Made
+pub mod Backward
+pub mod Spreading
