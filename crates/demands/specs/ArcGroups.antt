@@ -21,11 +21,11 @@ use Rattle.floats.specs.Truth.{by-bit, cond-t, cond-f}
 use Rattle.arc_rows.specs.Arc.{Answer, passed, silent, Centre, centred, warned, Ends, Arc, wantedOf, countOf, lastCell, midCell, arcRow, arcRows, fromCentre}
 use Rattle.arc_rows.specs.Arc.{fromStart, arcAnswer}
 use Rattle.push_rows.specs.Answer.{answerAs}
-use Rattle.demands.specs.Demands.{Bare, Carries}
+use Rattle.demands.specs.Demands.{Formed, Bare, Carries}
 use Rattle.demands.specs.Laws.{none-some, cond-both}
 use Rattle.demands.specs.Accepted.{Fine}
 use Rattle.demands.specs.InRange.{shown-bits}
-use Rattle.demands.specs.Shapes.{Shaped, upto-shaped, made-line, made-mark, made-shows, made-bare, made-carries, out-shaped, programmed, same-number}
+use Rattle.demands.specs.Shapes.{Shaped, upto-shaped, made-line, made-mark, made-formed, made-shows, made-bare, made-carries, out-shaped, programmed, same-number}
 
 module _ (gs r : List ℕ) (fine : Fine r) (small : (k : ℕ) → member k gs ≡ true → k < axisCodes) (plane : ℕ) (pos : ℕ → Option ℕ) where
   -- ---- the rows of an arc whose plane axes are listed
@@ -80,6 +80,12 @@ module _ (gs r : List ℕ) (fine : Fine r) (small : (k : ℕ) → member k gs �
           (λ a. ap lineOf (row-last i (eqb-true _ _ a)) ∙ made-line gs r _ _ _ _)
           (λ a. ap lineOf (row-mid i (eqb-false _ _ a)) ∙ made-line gs r _ _ _ _)
 
+      row-formed : (i : ℕ) → Formed (row i)
+      row-formed i =
+          by-bit (eqb (i + 1) n)
+          (λ a. subst (λ (l : List ℕ). Formed l) (sym (row-last i (eqb-true _ _ a))) (made-formed gs r _ _ _ _))
+          (λ a. subst (λ (l : List ℕ). Formed l) (sym (row-mid i (eqb-false _ _ a))) (made-formed gs r _ _ _ _))
+
       row-bare : (i : ℕ) → 0 < i → Bare gs (row i)
       row-bare i p =
           let f : eqb (i + 1) 1 ≡ false = ne-eqb (i + 1) 1 (λ q. omega arith) in
@@ -102,7 +108,7 @@ module _ (gs r : List ℕ) (fine : Fine r) (small : (k : ℕ) → member k gs �
       row-marked i h = ap markOf (row-mid i (λ q. omega arith)) ∙ made-mark gs r _ _ _ _
 
       rows-shaped : {asks : Type 0} → 0 < n → Shaped gs r asks (upto row n)
-      rows-shaped p = upto-shaped row n p (λ i h. row-line i) first-carries (λ i q h. row-bare i q) row-marked
+      rows-shaped p = upto-shaped row n p (λ i h. row-formed i) (λ i h. row-line i) first-carries (λ i q h. row-bare i q) row-marked
           (λ u a k v w h pv cw.
           let z : n - 1 + 1 ≡ n = omega arith in
           made-shows gs r fine _ gOne false (lastCell gs plane e r) last-off last-ends k v w h pv

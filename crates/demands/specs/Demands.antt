@@ -115,9 +115,15 @@ rowAt g j = getD g j []
 abbrev pub lastRow : List (List ℕ) → List ℕ
 lastRow g = rowAt g (length g - 1)
 
+-- a row of its full number of words, with a mark of 0 or 1
+pub record Formed (row : List ℕ) : Type 0 where
+  pub wide : length row ≡ rowWords
+  pub mark : markOf row ≤ 1
+
 -- the group of a block: not empty, "each row with its block's line number", "Only its last row may be unmarked"; "on the last point of a B-spline this needs weight 1"
 pub record Group (gs : List ℕ) (p : Piece) : Type 0 where
   pub filled : 0 < length (p .rows)
+  pub formed : (j : ℕ) → j < length (p .rows) → Formed (rowAt (p .rows) j)
   pub lines : (j : ℕ) → j < length (p .rows) → lineOf (rowAt (p .rows) j) ≡ lineOf (p .block)
   pub carries : Carries gs (p .block) (rowAt (p .rows) 0)
   pub bare : (j : ℕ) → 0 < j → j < length (p .rows) → Bare gs (rowAt (p .rows) j)

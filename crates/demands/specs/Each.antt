@@ -13,7 +13,7 @@ use Rattle.floats.specs.Numbers.{num, f1, 1e-4}
 use Rattle.floats.specs.Lists.{keep, member, anyOf, opt}
 use Rattle.floats.specs.Fill.{at-upto}
 use Rattle.layout.specs.Layout.{axisCodes, cPW, mostHeld}
-use Rattle.motion.specs.Motion.{isSpline}
+use Rattle.motion.specs.Motion.{isSpline, isBasis}
 use Rattle.row_cells.specs.Bits.{has}
 use Rattle.row_cells.specs.Row.{cell, number, presentOf, hasPoint, outRow}
 use Rattle.row_check.specs.Check.{within}
@@ -110,12 +110,13 @@ no-points gs (r ∷ rs) (more f fs) e = by-point (hasPoint gs r) refl (no-points
 module _ (tol : ℕ) (gs : List ℕ) (small : (k : ℕ) → member k gs ≡ true → k < axisCodes) where
   shaped-group : (p : Piece) → Shaped gs (p .block) (p .last ≡ true → eq (weightOf (p .block)) f1 ≡ true) (p .rows) → Group gs p
   shaped-group p h =
-      record { filled = h .filled; lines = h .lines; carries = h .carries; bare = h .bare; marked = h .marked; ends = λ u a. record { equal = h .ends u a } }
+      record { filled = h .filled; formed = h .formed; lines = h .lines; carries = h .carries; bare = h .bare; marked = h .marked; ends = λ u a. record { equal = h .ends u a } }
 
   -- the shape of the row that came, by that of the row that the store holds
   came-shaped : (r : List ℕ) {asks : Type 0} {g : List (List ℕ)} → Shaped gs (outRow r) asks g → Shaped gs r asks g
   came-shaped r h = record {
     filled = h .filled;
+    formed = h .formed;
     lines = λ j l. h .lines j l ∙ out-line r;
     carries = record {
       plane = h .carries .plane ∙ out-plane r;
@@ -160,7 +161,7 @@ module _ (tol : ℕ) (gs : List ℕ) (small : (k : ℕ) → member k gs ≡ true
       unfolding whole splineWith now later
       all-fine = outs-fine (now .curve ++ later) (every-append (keeps-block gs small s r f q .curve) rest)
 
-      few-blocks : length (whole .blocks) ≤ 256
+      few-blocks : length (whole .blocks) ≤ mostHeld
       unfolding whole splineWith now later
       few-blocks = omega (arith, length-map (now .curve ++ later) outRow, length-append (now .curve) later)
 
@@ -172,11 +173,11 @@ module _ (tol : ℕ) (gs : List ℕ) (small : (k : ℕ) → member k gs ≡ true
           ∙ ap (heldGroup whole (runsOf whole)) (sym (length-map (goesOn s r) outRow))
 
       -- "on the last point of a B-spline this needs weight 1"
-      asked : pieceOf tol gs s r es .last ≡ (eqb (now .motion) 6 && (hasPoint gs r && not (anyOf (hasPoint gs) later)))
+      asked : pieceOf tol gs s r es .last ≡ (isBasis (now .motion) && (hasPoint gs r && not (anyOf (hasPoint gs) later)))
       unfolding pieceOf now later
       asked = refl
 
-      weight : eqb (whole .motion) 6 ≡ true → hasPoint gs (outRow r) ≡ true → length (keep (hasPoint gs) (map outRow later)) ≡ 0
+      weight : isBasis (whole .motion) ≡ true → hasPoint gs (outRow r) ≡ true → length (keep (hasPoint gs) (map outRow later)) ≡ 0
           → (pieceOf tol gs s r es .last ≡ true → eq (weightOf r) f1 ≡ true) → eq (weightOf (outRow r)) f1 ≡ true
       unfolding whole splineWith now later
       weight b h z a =

@@ -8,8 +8,8 @@ use lib.Dec.{eqb}
 use Rattle.floats.specs.Numbers.{num}
 use Rattle.floats.specs.Lists.{member, anyOf}
 use Rattle.layout.specs.Layout.{cSD}
-use Rattle.motion.specs.Motion.{gOne, isSpline, kindOf}
-use Rattle.row_cells.specs.Codes.{geometricOf}
+use Rattle.motion.specs.Motion.{gOne, isSpline, isBasis, kindOf}
+use Rattle.row_cells.specs.Codes.{planeXY, geometricOf}
 use Rattle.row_cells.specs.Row.{cell, number, motionOf, planeOf, presentOf, hasPoint, outRow}
 use Rattle.row_cells.specs.Bits.{has}
 use Rattle.spline_emission.specs.Emission.{Spline, splineGroups}
@@ -39,7 +39,7 @@ pub record Standing : Type 0 where
 
 -- "Fresh state: linear, plane 17, no position known"
 unfoldable pub atFirst : Standing
-atFirst = record { place = λ (k : ℕ). none; motion = gOne; plane = 17; curve = []; start = λ (k : ℕ). none }
+atFirst = record { place = λ (k : ℕ). none; motion = gOne; plane = planeXY; curve = []; start = λ (k : ℕ). none }
 
 -- "In every motion positions take the geometric cells present"; a seed of a listed axis too
 unfoldable pub movedByBlock : List ℕ → (ℕ → Option ℕ) → List ℕ → ℕ → Option ℕ
@@ -108,7 +108,7 @@ pieceOf tol gs s r es =
     record {
       block = r;
       motion = now .motion;
-      last = eqb (now .motion) 6 && (hasPoint gs r && not (anyOf (hasPoint gs) more));
+      last = isBasis (now .motion) && (hasPoint gs r && not (anyOf (hasPoint gs) more));
       rows = cond (isSpline (now .motion)) curve own;
     }
 

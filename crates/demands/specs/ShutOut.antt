@@ -1,11 +1,16 @@
 -- Wrong programs that document 01 names, each shut out by what a push has to answer: refusing always, writing nothing, one fixed row for every block, only the first block's rows, an invented needed count. Assumes nothing.
-use Prim.Native.Nat.{ℕ}
+use Prim.Native.Nat.{ℕ, _*_, _≤_, _<_}
 use mathlib.Core.Path.{_≡_, refl, sym, _∙_, ap}
 use mathlib.Core.List.{List, [], _∷_}
 use native.Mathlib.Omega.{arith}
-use lib.ListN.{length, getD, replicate}
+use lib.ListN.{length, getD, replicate, set, length-append, length-map}
+use Rattle.row_cells.specs.Codes.{geometricOf}
+use Rattle.demands.specs.Demands.{Group, Formed, rowAt, Written}
+use Rattle.demands.specs.Groups.{Event, Piece, pieces, groups, blocksOf}
+use Rattle.demands.specs.Laws.{Every, nil, more, flatten-append}
+use Rattle.layout.specs.Layout.{rowWords, rLine}
 use Rattle.floats.specs.Lists as Lists
-use Rattle.floats.specs.Lists.{spliced}
+use Rattle.floats.specs.Lists.{spliced, flatten}
 use Rattle.motion.specs.Motion as Motion
 use Rattle.row_cells.specs.Codes as Codes
 use Rattle.row_cells.specs.Row as Row
@@ -35,10 +40,10 @@ abbrev begun : List ℕ
 begun = fresh 0x3fb999999999999a (0 ∷ 1 ∷ 2 ∷ [])
 
 abbrev room : List ℕ
-room = replicate 29 7
+room = replicate rowWords 7
 
 abbrev line : ℕ → List ℕ
-line n = n ∷ replicate 28 0
+line n = set (replicate rowWords 0) rLine n
 
 abbrev pushedLine : ℕ → After
 pushedLine n = pushSpec begun [] room (line n)
@@ -108,3 +113,43 @@ module _ (f : Program) (m : Meets f) where
   no-invented-count st store rows r z =
       ap (λ (a : After). a .reply .count) (m st store rows r)
       ∙ push-count st store r rows (sym (ap (λ (a : After). a .reply .code) (m st store rows r)) ∙ z) .1
+
+-- ---- Demand 3 by itself: whatever program wrote `out` for these events, if it is as the demand says
+each-wide : {gs : List ℕ} (p : Piece) → Group gs p → rowWords ≤ length (flatten (p .rows))
+each-wide p g = first-wide (p .rows) (g .filled) (g .formed 0 (g .filled) .wide)
+  where
+    first-wide : (rows : List (List ℕ)) → 0 < length rows → length (rowAt rows 0) ≡ rowWords → rowWords ≤ length (flatten rows)
+    unfolding flatten
+    first-wide [] h e = absurd (omega arith)
+    first-wide (x ∷ xs) h e = omega (arith, e, length-append x (flatten xs))
+
+all-wide : {gs : List ℕ} (ps : List Piece) → Every (Group gs) ps → length ps * rowWords ≤ length (flatten (flatten (groups ps)))
+unfolding flatten
+all-wide [] nil = omega arith
+all-wide (p ∷ ps) (more g gs) =
+    omega (arith, each-wide p g, all-wide ps gs, ap length (flatten-append (p .rows) (flatten (groups ps))),
+    length-append (flatten (p .rows)) (flatten (flatten (groups ps))))
+
+module _ (tol : ℕ) (axes : List ℕ) (es : List Event) (out : List ℕ) (w : Written tol axes es out) where
+  as-many : length (pieces tol axes es) ≡ length (blocksOf es)
+  as-many = sym (length-map (pieces tol axes es) (λ (p : Piece). p .block)) ∙ ap length (w .order)
+
+  -- each block has a row at least
+  pub a-row-each : length (blocksOf es) * rowWords ≤ length out
+  a-row-each = rw (w .groups, sym as-many) (all-wide (pieces tol axes es) (w .each))
+
+  -- writing nothing
+  pub nothing-written : 0 < length (blocksOf es) → out ≡ [] → ⊥
+  nothing-written h e = omega (arith, a-row-each, ap length e)
+
+  -- writing only the first block's rows
+  pub only-first-written : 1 < length (blocksOf es) → out ≡ flatten (getD (groups (pieces tol axes es)) 0 []) → ⊥
+  only-first-written h e = first-alone (pieces tol axes es) (w .each) (omega (arith, as-many)) (sym (w .groups) ∙ e)
+    where
+      first-alone : (ps : List Piece) → Every (Group (geometricOf axes)) ps → 1 < length ps
+          → flatten (flatten (groups ps)) ≡ flatten (getD (groups ps) 0 []) → ⊥
+      unfolding flatten
+      first-alone [] nil l q = omega arith
+      first-alone (p ∷ ps) (more g gs) l q =
+          omega (arith, all-wide ps gs, ap length q, ap length (flatten-append (p .rows) (flatten (groups ps))),
+          length-append (flatten (p .rows)) (flatten (flatten (groups ps))))

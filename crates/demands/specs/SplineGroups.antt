@@ -18,7 +18,7 @@ use Rattle.floats.specs.Numbers.{num, bits, at, f1, ofNat}
 use Rattle.floats.specs.Lists.{upto, keep, member}
 use Rattle.floats.specs.Fill.{at-upto}
 use Rattle.floats.specs.FloatLaws.{one, one-is, tidy, fits-unique}
-use Rattle.layout.specs.Layout.{axisCodes}
+use Rattle.layout.specs.Layout.{axisCodes, mostHeld}
 use Rattle.motion.specs.Motion.{gOne}
 use Rattle.row_cells.specs.Row.{cell, hasPoint, markOf, outRow}
 use Rattle.row_put.specs.Made.{madeRow}
@@ -39,7 +39,7 @@ use Rattle.demands.specs.Demands.{Bare}
 use Rattle.demands.specs.Laws.{some-same, none-some, Every, every-head, every-tail, every-keep}
 use Rattle.demands.specs.Accepted.{Fine}
 use Rattle.demands.specs.InRange.{in-range, tidy-eq, num-bits, shown-bits}
-use Rattle.demands.specs.Shapes.{Shaped, one-shaped, upto-shaped, made-line, made-mark, made-shows, made-bare, made-carries, out-shaped, programmed}
+use Rattle.demands.specs.Shapes.{Shaped, one-shaped, upto-shaped, made-line, made-mark, made-formed, made-shows, made-bare, made-carries, out-shaped, programmed}
 use Rattle.demands.specs.Shapes.{same-number}
 use Rattle.demands.specs.SplineRuns.{fit-length, fit-ends, points-length, PointOf, point-of, place-of, Placed, point-number}
 use Rattle.demands.specs.SplinePoints.{channels-listed, Word, word-modest, word-fits, Words, start-words, all-words, all-weights}
@@ -149,7 +149,7 @@ module _ (sp : Spline) (B : List (List ℕ)) (r : List ℕ) (M : List (List ℕ)
 
   -- ---- the end of its run
   module _ (fs : Every Fine (sp .blocks)) (start : (k x : ℕ) → sp .start k ≡ some x → within x ≡ true)
-      (small : (k : ℕ) → member k (sp .axes) ≡ true → k < axisCodes) (few : length (sp .blocks) ≤ 256) where
+      (small : (k : ℕ) → member k (sp .axes) ≡ true → k < axisCodes) (few : length (sp .blocks) ≤ mostHeld) where
     fine : Fine r
     fine = every-mid B r M (subst (Every Fine) is fs)
 
@@ -326,13 +326,13 @@ module _ (sp : Spline) (B : List (List ℕ)) (r : List ℕ) (M : List (List ℕ)
         unfolding row end
         made-shaped has =
             let p : 0 < length run = omega (arith, has) in
-            upto-shaped row (length run) p (λ i h. made-line (sp .axes) r _ _ _ _) (made-carries (sp .axes) r word0 _ _) (λ i q h. row-bare i q) row-marked
+            upto-shaped row (length run) p (λ i h. made-formed (sp .axes) r _ _ _ _) (λ i h. made-line (sp .axes) r _ _ _ _) (made-carries (sp .axes) r word0 _ _) (λ i q h. row-bare i q) row-marked
             (λ u a. made-shows (sp .axes) r fine _ word0 _ _ (off end) (end-shows (row-end p u) has a))
 
         bare-shaped : Shaped (sp .axes) r asks (madeRow (sp .axes) r true word0 false (ownCell sp r) ∷ [])
         unfolding ownCell
         bare-shaped =
-            one-shaped _ (made-line (sp .axes) r _ _ _ _) (made-carries (sp .axes) r word0 false (ownCell sp r))
+            one-shaped _ (made-formed (sp .axes) r _ _ _ _) (made-line (sp .axes) r _ _ _ _) (made-carries (sp .axes) r word0 false (ownCell sp r))
             (λ a. made-shows (sp .axes) r fine true word0 false (ownCell sp r)
             (λ k m. cond-f (cell r k) none (ap (λ (b : Bool). b && not (isBasis sp)) m))
             (λ k v w g e c. let h : k < axisCodes = small k g in

@@ -4,6 +4,7 @@ use mathlib.Core.Path.{_≡_, refl}
 use mathlib.Core.List.{List, [], _∷_, _++_, map}
 use lib.ListN.{getD, set, replicate}
 use lib.Ieee as Ieee
+use Rattle.layout.specs.Layout.{rowWords, rLine, rMotion, rPresent, rCells}
 use Rattle.floats.specs.Lists as Lists
 use Rattle.root.specs.Root as Root
 use Rattle.whole.specs.Whole as Whole
@@ -52,11 +53,11 @@ w100 = 0x4059000000000000
 unfoldable pub celled : List ℕ → List ℕ → List ℕ
 celled r [] = r
 celled r (k ∷ []) = r
-celled r (k ∷ w ∷ cs) = celled (set (set r 5 (getD r 5 0 + 2 ^ k)) (6 + k) w) cs
+celled r (k ∷ w ∷ cs) = celled (set (set r rPresent (getD r rPresent 0 + 2 ^ k)) (rCells + k) w) cs
 
 unfoldable pub row : ℕ → ℕ → List ℕ → List ℕ
 unfolding celled
-row line motion cs = celled (line ∷ motion ∷ replicate 27 0) cs
+row line motion cs = celled (set (set (replicate rowWords 0) rLine line) rMotion motion) cs
 
 -- the code, count and warning of the last of some calls, and all that it wrote
 unfoldable pub lastOf : List ℕ → List ℕ → List Call → List ℕ

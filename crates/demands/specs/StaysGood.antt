@@ -9,7 +9,7 @@ use lib.Dec.{leb, eqb}
 use borrow.Author.Tests.{eqb-true, le-leb}
 use Rattle.floats.specs.Lists.{member, all}
 use Rattle.floats.specs.Fill.{length-upto}
-use Rattle.layout.specs.Layout.{rowWords, wAxes, wMotion, wPlane, wKnown, wStart, wDegree, wHeld, stateWords}
+use Rattle.layout.specs.Layout.{rowWords, wAxes, wMotion, wPlane, wKnown, wStart, wDegree, wHeld, stateWords, mostDegree}
 use Rattle.row_check.specs.Check.{within, rowCheck}
 use Rattle.row_cells.specs.Row.{motionOf}
 use Rattle.floats.specs.Truth.{by-bit, cond-t, cond-f, and-i, all-ext}
@@ -52,7 +52,7 @@ module _ (tol : ℕ) (axes : List ℕ) (t : tolOk tol ≡ true) (ok : codesOk ax
         plane = ap (λ (m : ℕ). leb 17 m && leb m 19) (w wPlane (omega arith));
         known = no-point (fresh tol axes) wKnown (w wKnown (omega arith));
         start = no-point (fresh tol axes) wStart (w wStart (omega arith));
-        power = ap (λ (m : ℕ). leb 1 m && leb m 256) (w wDegree (omega arith));
+        power = ap (λ (m : ℕ). leb 1 m && leb m mostDegree) (w wDegree (omega arith));
         count = none-held (fresh tol axes) (w wHeld (omega arith));
       }
 

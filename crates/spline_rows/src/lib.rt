@@ -86,7 +86,19 @@ fn put_sample(
     let words = sample_words(rows, (place.samples + t) * o.ch, o.mask, places);
     let motion = motion_of(place.points);
     let marked = is_marked(o, place.points, c, t);
-    put_made(rows, (place.rows + t) * ROW_WORDS, row, row_put::Made { axes: o.axes, mask: o.mask, first: t == 0, motion: motion, marked: marked }, &words);
+    put_made(
+        rows,
+        (place.rows + t) * ROW_WORDS,
+        row,
+        row_put::Made {
+            axes: o.axes,
+            mask: o.mask,
+            first: t == 0,
+            motion: motion,
+            marked: marked,
+        },
+        &words,
+    );
 }
 
 // Writes the rows of the c samples of the block at `place`.
@@ -120,7 +132,19 @@ fn put_bare(o: Frame, place: Place, row: &[u64], rows: &mut [u64])
 {
     let mask = own_mask(o, row);
     let motion = motion_of(place.points);
-    put_made(rows, place.rows * ROW_WORDS, row, row_put::Made { axes: o.axes, mask: mask, first: true, motion: motion, marked: false }, &row[R_CELLS..]);
+    put_made(
+        rows,
+        place.rows * ROW_WORDS,
+        row,
+        row_put::Made {
+            axes: o.axes,
+            mask: mask,
+            first: true,
+            motion: motion,
+            marked: false,
+        },
+        &row[R_CELLS..],
+    );
 }
 
 // Writes the group of a point block with c samples.
