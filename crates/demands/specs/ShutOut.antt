@@ -116,10 +116,10 @@ module _ (f : Program) (m : Meets f) where
 
 -- ---- Demand 3 by itself: whatever program wrote `out` for these events, if it is as the demand says
 each-wide : {gs : List ℕ} (p : Piece) → Group gs p → rowWords ≤ length (flatten (p .rows))
+unfolding flatten
 each-wide p g = first-wide (p .rows) (g .filled) (g .formed 0 (g .filled) .wide)
   where
     first-wide : (rows : List (List ℕ)) → 0 < length rows → length (rowAt rows 0) ≡ rowWords → rowWords ≤ length (flatten rows)
-    unfolding flatten
     first-wide [] h e = absurd (omega arith)
     first-wide (x ∷ xs) h e = omega (arith, e, length-append x (flatten xs))
 
@@ -127,8 +127,13 @@ all-wide : {gs : List ℕ} (ps : List Piece) → Every (Group gs) ps → length 
 unfolding flatten
 all-wide [] nil = omega arith
 all-wide (p ∷ ps) (more g gs) =
-    omega (arith, each-wide p g, all-wide ps gs, ap length (flatten-append (p .rows) (flatten (groups ps))),
-    length-append (flatten (p .rows)) (flatten (flatten (groups ps))))
+    omega (
+      arith,
+      each-wide p g,
+      all-wide ps gs,
+      ap length (flatten-append (p .rows) (flatten (groups ps))),
+      length-append (flatten (p .rows)) (flatten (flatten (groups ps))),
+    )
 
 module _ (tol : ℕ) (axes : List ℕ) (es : List Event) (out : List ℕ) (w : Written tol axes es out) where
   as-many : length (pieces tol axes es) ≡ length (blocksOf es)
@@ -144,12 +149,17 @@ module _ (tol : ℕ) (axes : List ℕ) (es : List Event) (out : List ℕ) (w : W
 
   -- writing only the first block's rows
   pub only-first-written : 1 < length (blocksOf es) → out ≡ flatten (getD (groups (pieces tol axes es)) 0 []) → ⊥
+  unfolding flatten
   only-first-written h e = first-alone (pieces tol axes es) (w .each) (omega (arith, as-many)) (sym (w .groups) ∙ e)
     where
       first-alone : (ps : List Piece) → Every (Group (geometricOf axes)) ps → 1 < length ps
           → flatten (flatten (groups ps)) ≡ flatten (getD (groups ps) 0 []) → ⊥
-      unfolding flatten
       first-alone [] nil l q = omega arith
       first-alone (p ∷ ps) (more g gs) l q =
-          omega (arith, all-wide ps gs, ap length q, ap length (flatten-append (p .rows) (flatten (groups ps))),
-          length-append (flatten (p .rows)) (flatten (flatten (groups ps))))
+          omega (
+            arith,
+            all-wide ps gs,
+            ap length q,
+            ap length (flatten-append (p .rows) (flatten (groups ps))),
+            length-append (flatten (p .rows)) (flatten (flatten (groups ps))),
+          )
