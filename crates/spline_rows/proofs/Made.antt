@@ -19,12 +19,12 @@ use Rattle.row_cells.specs.Row.{presentOf, cell, shown, axesOf}
 use Rattle.row_put.specs.Made.{madeRow}
 use Rattle.row_put.specs.MadeLaws.{made-same}
 use Rattle.row_cells.specs.Masks.{has-past, has-none}
+use Rattle.row_cells.specs.BitOps.{has-and}
 use Rattle.spline_places.specs.declared.frame.Frame.{Frame}
 use Rattle.spline_places.specs.declared.place.Place.{Place}
 use Rattle.spline_places.specs.SizeLaws.{size-most}
 use Rattle.spline_rows.specs.Raw.{rawCell, rawOwn, rawWord, rawMark, rawMotion, rawAt, samplesAt, rawRow, bareRow}
 use Rattle.spline_rows.specs.Puts.{Sound, Sample, Puts, OwnMask, Written, RowPut, BarePut}
-use Rattle.spline_rows.proofs.SharedBits.{has-and}
 
 -- ---- a sample stands before the row that it goes to: it has no more words than a row
 pub raw-before : (s w ch : ℕ) → s ≤ w → ch ≤ axisCodes → s * ch + ch ≤ w * rowWords + rowWords

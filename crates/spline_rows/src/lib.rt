@@ -5,6 +5,7 @@ use layout::R_PRESENT;
 use layout::ROW_WORDS;
 use motion::G1;
 use row_cells::has_bit;
+use row_put::Made;
 use row_put::put_made;
 use row_put::put_row;
 use spline_places::frame::Frame;
@@ -84,21 +85,14 @@ fn put_sample(
     ensures { λ _. ⌜ RowPut o (now (places .entry)) place c (now (row .entry)) t (now (rows .entry)) (now (rows .exit)) ⌝ }
 {
     let words = sample_words(rows, (place.samples + t) * o.ch, o.mask, places);
-    let motion = motion_of(place.points);
-    let marked = is_marked(o, place.points, c, t);
-    put_made(
-        rows,
-        (place.rows + t) * ROW_WORDS,
-        row,
-        row_put::Made {
-            axes: o.axes,
-            mask: o.mask,
-            first: t == 0,
-            motion: motion,
-            marked: marked,
-        },
-        &words,
-    );
+    let made = Made {
+        axes: o.axes,
+        mask: o.mask,
+        first: t == 0,
+        motion: motion_of(place.points),
+        marked: is_marked(o, place.points, c, t),
+    };
+    put_made(rows, (place.rows + t) * ROW_WORDS, row, made, &words);
 }
 
 // Writes the rows of the c samples of the block at `place`.
@@ -130,21 +124,14 @@ fn put_bare(o: Frame, place: Place, row: &[u64], rows: &mut [u64])
     requires { ⌜ place .rows * rowWords + rowWords ≤ length (now rows) ⌝ }
     ensures { λ _. ⌜ BarePut o place (now (row .entry)) (now (rows .entry)) (now (rows .exit)) ⌝ }
 {
-    let mask = own_mask(o, row);
-    let motion = motion_of(place.points);
-    put_made(
-        rows,
-        place.rows * ROW_WORDS,
-        row,
-        row_put::Made {
-            axes: o.axes,
-            mask: mask,
-            first: true,
-            motion: motion,
-            marked: false,
-        },
-        &row[R_CELLS..],
-    );
+    let made = Made {
+        axes: o.axes,
+        mask: own_mask(o, row),
+        first: true,
+        motion: motion_of(place.points),
+        marked: false,
+    };
+    put_made(rows, place.rows * ROW_WORDS, row, made, &row[R_CELLS..]);
 }
 
 // Writes the group of a point block with c samples.
