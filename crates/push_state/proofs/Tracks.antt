@@ -1,52 +1,29 @@
 -- Tracking by the bits of a mask, the lowest first. Assumes nothing.
-use Prim.Native.Nat.{ℕ, zero, suc, _+_, _-_, _/_, _%_, _^_, _<_, _≤_, min}
+use Prim.Native.Nat.{ℕ, zero, suc, _+_, _-_, _^_, _<_, _≤_}
 use mathlib.Core.Path.{_≡_, refl, sym, _∙_, ap, subst}
 use mathlib.Core.Bool.{Bool, true, false, _&&_, false≢true}
 use mathlib.Core.List.{List}
 use mathlib.Core.Logic.{⊎-elim}
 use native.Mathlib.Omega.{arith}
 use native.Mathlib.Nat.{eq-or-lt-of-le, le-of-suc-le-suc}
-use lib.Bits.{bitAnd, and-step, and-shr, and-le-r}
+use lib.Bits.{bitAnd, and-le-r}
 use lib.Pow.{pow-pos}
 use lib.ListN.{length, getD}
 use lib.Dec.{ltb}
-use borrow.Author.Tests.{eq-eqb, ne-eqb, ltb-true, ltb-false}
+use borrow.Author.Tests.{ltb-true, ltb-false}
 use Rattle.floats.specs.Lists.{member}
 use Rattle.layout.specs.Layout.{axisCodes, rCells}
 use Rattle.row_cells.specs.Bits.{has, lowest, others}
 use Rattle.row_cells.specs.Row.{presentOf}
 use Rattle.floats.specs.Truth.{by-bit, cond-t, cond-f, and-right}
-use Rattle.row_cells.specs.Masks.{bit-0, bit-1, has-none, out-same, out-other}
+use Rattle.row_cells.specs.Masks.{has-none, out-same, out-other}
+use Rattle.row_cells.specs.BitOps.{has-and}
 use Rattle.row_cells.specs.BitWalk.{Lowest, lowest-is}
 use Rattle.saved_state.specs.State.{geometric, placed, geometricMask}
 use Rattle.saved_state.specs.StateLaws.{geometric-small}
 use Rattle.push_state.specs.Pushed.{trackTo}
 use Rattle.push_state.specs.PushLaws.{same-to}
 use Rattle.saved_state.specs.Axes.{geometric-mask-small, mask-has-axis}
-
--- ---- the bits that two numbers share
-and-bit : (x y c d : ℕ) → x % 2 ≡ c → y % 2 ≡ d → min c d < 2 → bitAnd x y % 2 ≡ min c d
-and-bit x y c d p q l = rw (and-step x y, p, q) (omega arith)
-
-and-there : (a b k c d : ℕ) → a / 2 ^ k % 2 ≡ c → b / 2 ^ k % 2 ≡ d → min c d < 2 → bitAnd a b / 2 ^ k % 2 ≡ min c d
-and-there a b k c d p q l = ap (λ (n : ℕ). n % 2) (and-shr a b k) ∙ and-bit (a / 2 ^ k) (b / 2 ^ k) c d p q l
-
-has-1 : (x k : ℕ) → x / 2 ^ k % 2 ≡ 1 → has x k ≡ true
-unfolding has
-has-1 x k e = eq-eqb (x / 2 ^ k % 2) 1 e
-
-has-0 : (x k : ℕ) → x / 2 ^ k % 2 ≡ 0 → has x k ≡ false
-unfolding has
-has-0 x k e = ne-eqb (x / 2 ^ k % 2) 1 (λ g. omega (arith, e, g))
-
-has-and : (a b k : ℕ) → has (bitAnd a b) k ≡ (has a k && has b k)
-has-and a b k = by-bit (has a k)
-    (λ p. by-bit (has b k)
-    (λ q. rw (p, q) (has-1 (bitAnd a b) k (and-there a b k 1 1 (bit-1 a k p) (bit-1 b k q) (omega arith))))
-    (λ q. rw (p, q) (has-0 (bitAnd a b) k (and-there a b k 1 0 (bit-1 a k p) (bit-0 b k q) (omega arith)))))
-    (λ p. by-bit (has b k)
-    (λ q. rw p (has-0 (bitAnd a b) k (and-there a b k 0 1 (bit-0 a k p) (bit-1 b k q) (omega arith))))
-    (λ q. rw p (has-0 (bitAnd a b) k (and-there a b k 0 0 (bit-0 a k p) (bit-0 b k q) (omega arith)))))
 
 -- ---- axes that take no cell are passed over
 abbrev takes : List ℕ → List ℕ → ℕ → Bool

@@ -1,7 +1,7 @@
 -- LAWS. The bits of `&`, of `|`, of a bit set by `|`, and of what a number lacks of all ones. Assumes nothing.
 use Prim.Native.Nat.{ℕ, zero, suc, _+_, _-_, _/_, _%_, _^_, _<_, min, max}
 use mathlib.Core.Path.{_≡_, refl, sym, _∙_, ap}
-use mathlib.Core.Bool.{Bool, true, false, _&&_, _||_, not, cond, or-true, or-false}
+use mathlib.Core.Bool.{Bool, true, false, _&&_, _||_, not, or-true, or-false}
 use native.Mathlib.Omega.{arith}
 use native.Mathlib.Nat.{pow-suc}
 use lib.Bits.{bitAnd, bitOr, and-step, and-shr, or-step, or-shr, or-lt}

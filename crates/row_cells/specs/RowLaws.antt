@@ -1,6 +1,6 @@
 -- LAWS. The words and cells of a row, and of the row that goes out unchanged. Assumes nothing.
 use Prim.Native.Nat.{ℕ, zero, suc, _+_, _%_, _<_}
-use mathlib.Core.Path.{_≡_, refl, sym, _∙_, ap, ap₂}
+use mathlib.Core.Path.{_≡_, refl, _∙_, ap, ap₂}
 use mathlib.Core.Bool.{Bool, cond}
 use mathlib.Core.List.{List, [], _∷_, _++_, map}
 use mathlib.Core.Option.{Option, none, some, Option·getD}
@@ -8,7 +8,7 @@ use native.Mathlib.Omega.{arith}
 use native.Mathlib.Nat.{mod-eq-of-lt}
 use lib.ListN.{length, getD, length-map}
 use Rattle.floats.specs.Lists.{upto, isSome}
-use Rattle.floats.specs.Fill.{length-upto, at-upto, upto-below}
+use Rattle.floats.specs.Fill.{length-upto, at-upto}
 use Rattle.floats.specs.Truth.{by-bit}
 use Rattle.layout.specs.Layout.{cells, cellMasks, rCells, rowWords}
 use Rattle.row_cells.specs.Bits.{has, maskSum}
@@ -108,13 +108,6 @@ out-mark r = refl
 pub out-carry : (r : List ℕ) → carryOf (outRow r) ≡ carryOf r
 unfolding outRow rowOf
 out-carry r = refl
-
--- goes out the same again
-pub out-twice : (r : List ℕ) → outRow (outRow r) ≡ outRow r
-unfolding outRow
-out-twice r =
-    rw (out-line r, out-motion r, out-plane r, out-carry r)
-    (ap (rowOf (lineOf r) (motionOf r) (planeOf r) 0 (carryOf r)) (upto-below _ _ cells (out-cell r)))
 
 pub out-point : (gs r : List ℕ) → presentOf r < cellMasks → hasPoint gs (outRow r) ≡ hasPoint gs r
 unfolding hasPoint

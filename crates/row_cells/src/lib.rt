@@ -1,13 +1,9 @@
-// A row as words: its cells by presence, and the bits of masks.
-use layout::R_CELLS;
-use layout::R_PRESENT;
+// The bits of masks, and the plane words. The definitions of a row as words are in specs/.
 ghost use mathlib.Core.Path.{_≡_};
 ghost use mathlib.Core.Bool.{cond};
 ghost use Prim.Native.Nat.{_+_, _<_, _^_};
-ghost use lib.ListN.{length};
-ghost use Rattle.layout.specs.Layout.{cells, rowWords};
+ghost use Rattle.layout.specs.Layout.{cells};
 ghost use Rattle.row_cells.specs.Bits.{has, withBit, lowest, others};
-ghost use Rattle.row_cells.specs.Row.{cellWord};
 
 // The plane words: X and Y, Z and X, Y and Z.
 pub const PLANE_XY: u64 = 17;
@@ -55,15 +51,4 @@ pub fn other_bits(p: u64) -> u64
     ensures { λ r. ⌜ r ≡ others p ⌝ }
 {
     p & (p - 1)
-}
-
-// The word that goes out for cell k: an absent cell is written as zero.
-pub fn cell_word(row: &[u64], k: usize) -> u64
-    requires { ⌜ (length (now row) ≡ rowWords) × (k < cells) ⌝ }
-    ensures { λ r. ⌜ r ≡ cellWord (now (row .entry)) k ⌝ }
-{
-    if has_bit(row[R_PRESENT], k as u64) {
-        return row[R_CELLS + k];
-    }
-    0
 }

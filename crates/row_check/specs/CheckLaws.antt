@@ -45,9 +45,6 @@ module _ (r : List ℕ) (p : shapeOk r ≡ true) where
   of-mark : fromMark r ≡ true
   of-mark = and-right (planeOk (planeOf r)) (fromMark r) of-plane
 
-  pub shape-line : lineOf r < lineNumbers
-  shape-line = ltb-true _ _ (and-left (ltb (lineOf r) lineNumbers) (fromMotion r) of-line)
-
   pub shape-motion : motionOf r ≤ lastMotion
   shape-motion = leb-true _ _ (and-left (leb (motionOf r) lastMotion) (fieldsOk r) of-motion)
 
@@ -71,11 +68,6 @@ module _ (r : List ℕ) (p : rowCheck r ≡ 0) where
   check-numbers =
       true-of-not-false (numbersOk r) (λ q. let z : _≡_ {A = ℕ} 3 0 = sym (cond-t _ _ check-shape ∙ cond-f _ _ q) ∙ p in omega arith)
 
-  pub check-turn : turnOk r ≡ true
-  unfolding rowCheck
-  check-turn =
-      true-of-not-false (turnOk r) (λ q. let z : _≡_ {A = ℕ} 5 0 = sym (cond-t _ _ check-shape ∙ cond-t _ _ check-numbers ∙ cond-f _ _ q) ∙ p in omega arith)
-
   pub check-length : length r ≡ rowWords
   check-length = shape-length r check-shape
 
@@ -84,9 +76,6 @@ module _ (r : List ℕ) (p : rowCheck r ≡ 0) where
 
   pub check-plane : planeOk (planeOf r) ≡ true
   check-plane = shape-plane r check-shape
-
-  pub check-present : presentOf r < cellMasks
-  check-present = shape-present r check-shape
 
   -- a present number is in range
   pub check-within : (k : ℕ) → k < cells → has (presentOf r) k ≡ true → within (rawWord r k) ≡ true

@@ -1,13 +1,14 @@
 -- DEFINITIONS. A row that is made for a block's group: its cells, and what rides on the first. Assumes nothing.
-use Prim.Native.Nat.{ℕ}
+use Prim.Native.Nat.{ℕ, _-_}
 use mathlib.Core.Bool.{Bool, _&&_, not, cond}
 use mathlib.Core.List.{List}
 use mathlib.Core.Option.{Option, Option·getD}
 use lib.Dec.{leb}
+use lib.ListN.{getD}
 use Rattle.floats.specs.Lists.{upto, member}
-use Rattle.layout.specs.Layout.{cells, lastCode}
+use Rattle.layout.specs.Layout.{cells, lastCode, listMasks}
 use Rattle.row_cells.specs.Bits.{has}
-use Rattle.row_cells.specs.Row.{lineOf, planeOf, carryOf, presentOf, cell, shown, rowOf}
+use Rattle.row_cells.specs.Row.{lineOf, planeOf, carryOf, presentOf, cell, rowOf}
 
 -- what rides on a group's first row: N F S D T and the axes that are not geometric, but no cell past the codes
 unfoldable pub rides : List ℕ → ℕ → Bool
@@ -35,9 +36,14 @@ madeHas gs r first mask k = cond (first && rides gs k) (has (presentOf r) k) (ha
 abbrev pub madeWord : List ℕ → List ℕ → Bool → (ℕ → Option ℕ) → ℕ → ℕ
 madeWord gs r first f k = Option·getD (madeCell gs r first f k) 0
 
--- the word of a point's axis k, zero where the mask has it not
-abbrev pub shownWord : ℕ → List ℕ → ℕ → ℕ
-shownWord mask ws k = Option·getD (shown mask ws k) 0
+-- ---- words by masks
+-- the codes that are no geometric axis of the mask gs
+abbrev pub riders : ℕ → ℕ
+riders gs = listMasks - 1 - gs
+
+-- the words of a mask, over others
+abbrev pub overWord : ℕ → List ℕ → (ℕ → ℕ) → ℕ → ℕ
+overWord mask ws f k = cond (has mask k) (getD ws k 0) (f k)
 
 abbrev pub zeros : ℕ → ℕ
 zeros k = 0

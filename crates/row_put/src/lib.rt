@@ -1,8 +1,6 @@
 // Rows that go out: a row unchanged, and a row that is made for a block's group.
-use layout::AXIS_CODES;
 use layout::CELL_MASKS;
 use layout::CELLS;
-use layout::LAST_CODE;
 use layout::LIST_MASKS;
 use layout::R_CARRY;
 use layout::R_CELLS;
@@ -11,20 +9,19 @@ use layout::R_MARK;
 use layout::R_MOTION;
 use layout::R_PLANE;
 use layout::R_PRESENT;
-use row_cells::cell_word;
-use row_cells::has_bit;
 use row_cells::lowest_bit;
 use row_cells::other_bits;
 ghost use mathlib.Core.Path.{_≡_};
-ghost use mathlib.Core.Bool.{true, cond};
+ghost use mathlib.Core.Bool.{cond};
 ghost use Prim.Native.Nat.{_+_, _<_, _≤_};
+ghost use lib.Bits.{bitAnd};
 ghost use lib.ListN.{length};
 ghost use Rattle.floats.specs.Lists.{upto, spliced};
-ghost use Rattle.layout.specs.Layout.{axisCodes, axisMasks, cells, rCells, rowWords};
+ghost use Rattle.layout.specs.Layout.{axisMasks, cells, rCells, rowWords};
 ghost use Rattle.row_cells.specs.Bits.{maskSum};
-ghost use Rattle.row_cells.specs.Row.{axesOf, cellWord, outRow};
-ghost use Rattle.row_put.specs.Made.{rides, madeHas, shownWord, zeros};
-ghost use Rattle.row_put.specs.Asks.{MadeOf, headWords, firstWord, madeHead, madeCells, madeBy};
+ghost use Rattle.row_cells.specs.Row.{presentOf, axesOf, outRow};
+ghost use Rattle.row_put.specs.Made.{madeHas, riders, overWord, zeros};
+ghost use Rattle.row_put.specs.Asks.{Lays, Laid, MadeOf, headWords, outHead, madeHead, firstCells, madeCells, madeBy};
 
 // The words of a row before its cells.
 struct Head {
@@ -69,17 +66,44 @@ fn clear_cells(rows: &mut [u64], at: usize)
     }
 }
 
-// An absent cell is not read.
-fn put_cells(rows: &mut [u64], at: usize, row: &[u64])
-    requires { ⌜ (length (now row) ≡ rowWords) × (at + cells ≤ length (now rows)) ⌝ }
-    ensures { λ _. ⌜ now (rows .exit) ≡ spliced (now (rows .entry)) at (upto (cellWord (now (row .entry))) cells) ⌝ }
+// Lays over the cells from word `at` on the words that a mask has. No other word is read.
+fn lay_cells(rows: &mut [u64], at: usize, mask: u64, words: &[u64])
+    requires { ⌜ Lays (now rows) at mask (now words) ⌝ }
+    ensures { λ _. ⌜ Laid (now (rows .entry)) at mask (now (words .entry)) (now (rows .exit)) ⌝ }
 {
-    clear_cells(rows, at);
-    let mut rest = row[R_PRESENT] % CELL_MASKS;
+    let mut rest = mask;
     while rest != 0 {
         let k = lowest_bit(rest);
-        rows[at + k] = row[R_CELLS + k];
+        rows[at + k] = words[k];
         rest = other_bits(rest);
+    }
+}
+
+// The cells of a mask, the others zero.
+fn put_cells(rows: &mut [u64], at: usize, mask: u64, words: &[u64])
+    requires { ⌜ Lays (now rows) at mask (now words) ⌝ }
+    ensures { λ _. ⌜ now (rows .exit) ≡ spliced (now (rows .entry)) at (upto (overWord mask (now (words .entry)) zeros) cells) ⌝ }
+{
+    clear_cells(rows, at);
+    lay_cells(rows, at, mask, words);
+}
+
+fn out_head(row: &[u64]) -> Head
+    requires { ⌜ length (now row) ≡ rowWords ⌝ }
+    ensures { λ r. ⌜ headWords r ≡ outHead (now (row .entry)) ⌝ }
+{
+    let line = row[R_LINE];
+    let motion = row[R_MOTION];
+    let plane = row[R_PLANE];
+    let carry = row[R_CARRY];
+    let present = row[R_PRESENT] % CELL_MASKS;
+    Head {
+        line: line,
+        motion: motion,
+        plane: plane,
+        mark: 0,
+        carry: carry,
+        present: present,
     }
 }
 
@@ -88,93 +112,41 @@ pub fn put_row(rows: &mut [u64], at: usize, row: &[u64])
     requires { ⌜ (length (now row) ≡ rowWords) × (at + rowWords ≤ length (now rows)) ⌝ }
     ensures { λ _. ⌜ now (rows .exit) ≡ spliced (now (rows .entry)) at (outRow (now (row .entry))) ⌝ }
 {
-    let line = row[R_LINE];
-    let motion = row[R_MOTION];
-    let plane = row[R_PLANE];
-    let carry = row[R_CARRY];
-    let present = row[R_PRESENT] % CELL_MASKS;
-    let head = Head {
-        line: line,
-        motion: motion,
-        plane: plane,
-        mark: 0,
-        carry: carry,
-        present: present,
-    };
-    put_head(rows, at, head);
-    put_cells(rows, at + R_CELLS, row);
+    put_head(rows, at, out_head(row));
+    put_cells(
+        rows,
+        at + R_CELLS,
+        row[R_PRESENT] % CELL_MASKS,
+        &row[R_CELLS..],
+    );
 }
 
-// Whether cell k rides on the first row of a group: a code that is no geometric axis of the mask gs.
-fn is_rider(gs: u64, k: usize) -> bool
-    requires { ⌜ (gs < axisMasks) × (k < cells) ⌝ }
-    ensures { λ r. ⌜ r ≡ rides (axesOf gs) k ⌝ }
+// The codes that ride on the first row of a group, as the block has them: not its geometric axes, of the mask gs.
+fn ridden(row: &[u64], gs: u64) -> u64
+    requires { ⌜ (length (now row) ≡ rowWords) × (gs < axisMasks) ⌝ }
+    ensures { λ r. ⌜ r ≡ bitAnd (presentOf (now (row .entry))) (riders gs) ⌝ }
 {
-    if k > LAST_CODE {
-        return false;
-    }
-    !has_bit(gs, k as u64)
+    row[R_PRESENT] & (LIST_MASKS - 1 - gs)
 }
 
-// The presence mask of a made row: on the first the codes that ride, as the block has them, and the point's own axes.
+// The presence mask of a made row: what rides on the first, and the point's own axes.
 fn made_mask(row: &[u64], gs: u64, first: bool, mask: u64) -> u64
     requires { ⌜ (length (now row) ≡ rowWords) × ((gs < axisMasks) × (mask < axisMasks)) ⌝ }
     ensures { λ r. ⌜ r ≡ maskSum (madeHas (axesOf gs) (now (row .entry)) first mask) cells ⌝ }
 {
     if first {
-        return (row[R_PRESENT] & (LIST_MASKS - 1 - gs)) | (mask & gs);
+        return ridden(row, gs) | (mask & gs);
     }
     mask
 }
 
-// The word of a point's axis k, zero where the mask has it not.
-fn shown_word(mask: u64, words: &[u64], k: usize) -> u64
-    requires { ⌜ (mask < axisMasks) × ((axisCodes ≤ length (now words)) × (k < cells)) ⌝ }
-    ensures { λ r. ⌜ r ≡ shownWord mask (now (words .entry)) k ⌝ }
-{
-    if k >= AXIS_CODES {
-        return 0;
-    }
-    if has_bit(mask, k as u64) {
-        return words[k];
-    }
-    0
-}
-
-// The word of cell k of the first row of a group.
-fn first_word(row: &[u64], made: Made, words: &[u64], k: usize) -> u64
-    requires { ⌜ MadeOf (now row) made (now words) × (k < cells) ⌝ }
-    ensures { λ r. ⌜ r ≡ firstWord made (now (row .entry)) (now (words .entry)) k ⌝ }
-{
-    if is_rider(made.axes, k) {
-        return cell_word(row, k);
-    }
-    shown_word(made.mask, words, k)
-}
-
+// The cells of the first row of a group: what rides, and the point's own axes over it.
 fn put_first_cells(rows: &mut [u64], at: usize, row: &[u64], made: Made, words: &[u64])
     requires { ⌜ MadeOf (now row) made (now words) × (at + cells ≤ length (now rows)) ⌝ }
-    ensures { λ _. ⌜ now (rows .exit) ≡ spliced (now (rows .entry)) at (upto (firstWord made (now (row .entry)) (now (words .entry))) cells) ⌝ }
+    ensures { λ _. ⌜ now (rows .exit) ≡ spliced (now (rows .entry)) at (firstCells (now (row .entry)) made (now (words .entry))) ⌝ }
 {
-    let mut k: usize = 0;
-    while k < CELLS {
-        rows[at + k] = first_word(row, made, words, k);
-        k += 1;
-    }
-}
-
-// The cells of a row after the first: the point alone.
-fn put_point(rows: &mut [u64], at: usize, mask: u64, words: &[u64])
-    requires { ⌜ (mask < axisMasks) × ((axisCodes ≤ length (now words)) × (at + cells ≤ length (now rows))) ⌝ }
-    ensures { λ _. ⌜ now (rows .exit) ≡ spliced (now (rows .entry)) at (upto (shownWord mask (now (words .entry))) cells) ⌝ }
-{
-    clear_cells(rows, at);
-    let mut rest = mask;
-    while rest != 0 {
-        let k = lowest_bit(rest);
-        rows[at + k] = words[k];
-        rest = other_bits(rest);
-    }
+    put_cells(rows, at, ridden(row, made.axes), &row[R_CELLS..]);
+    lay_cells(rows, at, made.mask & made.axes, words);
 }
 
 fn put_made_cells(rows: &mut [u64], at: usize, row: &[u64], made: Made, words: &[u64])
@@ -184,7 +156,7 @@ fn put_made_cells(rows: &mut [u64], at: usize, row: &[u64], made: Made, words: &
     if made.first {
         put_first_cells(rows, at, row, made, words);
     } else {
-        put_point(rows, at, made.mask, words);
+        put_cells(rows, at, made.mask, words);
     }
 }
 

@@ -1,63 +1,58 @@
 -- `row_put::put_first_cells` meets its contract. Assumes nothing.
-use mathlib.Core.Path.{_≡_}
 use native.Mathlib.Omega.{arith}
-use Prim.Native.Nat.{_-_, _≤_}
-use Rattle.floats.specs.Splice.{Splicing, splicing-none, splicing-more}
-use Rattle.layout.specs.Layout.{cells}
-use Rattle.row_put.specs.Asks.{firstWord}
+use Rattle.row_put.proofs.Put.{first-lays, own-lays, first-written}
 use borrow.Author.Needs.{needs}
 use Rattle.row_put.proofs.put_first_cells.Statement.{statement}
 use Rattle.row_put.proofs.put_first_cells.Tie as tie
 
-abbrev Inv-loop : tie.InvT-loop
-Inv-loop rows₀ at row made words k₀ rows k = (k ≤ cells) × Splicing (firstWord made row words) at k rows₀ rows
+ridden-requires : tie.Need-ridden-requires
+ridden-requires c κs = search needs
 
-abbrev μ-loop : tie.MeasureT-loop
-μ-loop rows₀ at row made words k₀ rows k = cells - k
+sub-put-cells : tie.Need-sub-put-cells
+sub-put-cells c = search needs
 
-loop-holds : tie.Need-loop-holds Inv-loop μ-loop
-loop-holds c = (omega arith, splicing-none)
+part-put-cells-start : tie.Need-part-put-cells-start
+part-put-cells-start c = search needs
 
-first-word-requires : tie.Need-first-word-requires Inv-loop μ-loop
-first-word-requires c κs = search needs
+part-put-cells-end : tie.Need-part-put-cells-end
+part-put-cells-end c = search needs
 
-add-rows : tie.Need-add-rows Inv-loop μ-loop
-add-rows c = search needs
+put-cells-requires : tie.Need-put-cells-requires
+put-cells-requires c κs =
+    let ride = c .before in
+    let start = ride .before .before .before .before .before in
+    let of = start .pre .0 in
+    first-lays _ _ (of .axes) (of .point) (start .args .row .now) (of .long) _ _ _ (ride .ridden .ensures) (omega arith)
 
-mul-rows : tie.Need-mul-rows Inv-loop μ-loop
-mul-rows c = search needs
+lay-cells-requires : tie.Need-lay-cells-requires
+lay-cells-requires c κs =
+    let start = c .before .before .before .before .before .before .before .before .before .before .before in
+    let of = start .pre .0 in
+    own-lays _ _ (of .axes) (of .point) (start .args .row .now) (of .long) _ _ _ (omega arith) (of .wide)
 
-slice-write-rows : tie.Need-slice-write-rows Inv-loop μ-loop
-slice-write-rows c = search needs
+same-length : tie.Need-same-length
+same-length c = search needs
 
-add-k : tie.Need-add-k Inv-loop μ-loop
-add-k c = search needs
-
-loop-less : tie.Need-loop-less Inv-loop μ-loop
-loop-less c = search needs
-
-loop-again : tie.Need-loop-again Inv-loop μ-loop
-loop-again c = (omega arith, splicing-more ((c .before .before .loop .inv) .1) (omega arith) (c .first-word .ensures))
-
-same-length : tie.Need-same-length Inv-loop μ-loop
-same-length c = (c .before .loop .inv) .1 .same
-
-returns : tie.Need-returns Inv-loop μ-loop
-returns c = let e : (c .before .loop .k) ≡ cells = omega arith in rw e at ((c .before .loop .inv) .1 .is)
+returns : tie.Need-returns
+returns c =
+    let lay = c .before .before in
+    let put = lay .before .before .before .before .before in
+    let ride = put .before .before in
+    let start = ride .before .before .before .before .before in
+    let of = start .pre .0 in
+    let rode = ride .ridden .ensures in
+    first-written _ _ (of .axes) (of .point) (start .args .row .now) (of .long) _ _ _ _ _ _
+    rode (omega arith) (put .put-cells .ensures) (lay .lay-cells .ensures)
 
 pub put-first-cells-spec : {M : Type 1} → statement M
 put-first-cells-spec =
     tie.close
     (tie.spec
-    Inv-loop
-    μ-loop
-    loop-holds
-    first-word-requires
-    add-rows
-    mul-rows
-    slice-write-rows
-    add-k
-    loop-less
-    loop-again
+    ridden-requires
+    sub-put-cells
+    part-put-cells-start
+    part-put-cells-end
+    put-cells-requires
+    lay-cells-requires
     same-length
     returns)
