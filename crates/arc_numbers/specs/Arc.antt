@@ -1,4 +1,4 @@
--- Document 01, "Arc": the numbers of one arc, by the sentences of that section. Assumes nothing.
+-- DEFINITIONS. The numbers of one arc. Assumes nothing.
 use Prim.Native.Nat.{ℕ, min, max}
 use mathlib.Core.Bool.{Bool, _&&_, _||_, not, cond, Bool·beq}
 use mathlib.Core.Option.{Option, none, some, Option·getD}

@@ -1,4 +1,4 @@
--- What a value of the code's types means: document 01's numbers for each case of an enum, the definitions' records for structs. Assumes nothing.
+-- DEFINITIONS. What a value of the code's types means to the definitions. Assumes nothing.
 use mathlib.Core.Path.{_≡_}
 use mathlib.Core.Option.{Option, none, some}
 use lib.Ieee.{Float}

@@ -1,18 +1,16 @@
 // The numbers of an arc: its centre or the warning, sweep, count of rows, and a sample's place.
+use floats::TINY;
+use trig::TAU;
 ghost use mathlib.Core.Path.{_≡_};
-ghost use lib.Ieee.{neg};
-ghost use Rattle.floats.specs.Numbers.{f1, largerOf, heldIn};
+ghost use Rattle.floats.specs.Numbers.{largerOf};
 ghost use Rattle.arc_numbers.specs.Arc.{sideOf, crCentre, centreOf, wideCentre, radius, agree, sweepLeft, sweepOf, turned, arcOf, stepOf, wantedOf, countOf};
 ghost use Rattle.arc_numbers.specs.Arc as Spec;
 ghost use Rattle.arc_numbers.specs.Types.{centreIs, numberIs, endsIs, arcIs, PointAt};
 
-const TAU: f64 = 6.283185307179586;
-
-// The limits of section "Arc": chord and sweep, radius and agreement, rows of one arc.
-const TINY: f64 = 1e-12;
-
+// Below it a radius is too small, and start and end agree.
 const SMALL: f64 = 1e-9;
 
+// Rows of one arc at most.
 pub const MOST_ROWS: u64 = 100000;
 
 // A number cell that may be absent.
@@ -201,23 +199,11 @@ pub fn arc_of(tol: f64, cw: bool, e: Ends, cu: f64, cv: f64, turn: Cell) -> Arc
     }
 }
 
-fn held(x: f64) -> f64
-    ensures { λ r. ⌜ r ≡ heldIn (neg f1) f1 x ⌝ }
-{
-    if x < -1.0 {
-        -1.0
-    } else if 1.0 < x {
-        1.0
-    } else {
-        x
-    }
-}
-
 // The angle between two samples.
 fn step(c: Arc) -> f64
     ensures { λ r. ⌜ r ≡ stepOf (arcIs c) ⌝ }
 {
-    2.0 * trig::acos(held(1.0 - c.tol / larger(c.rs, c.re)))
+    2.0 * trig::acos(floats::held_in(-1.0, 1.0, 1.0 - c.tol / larger(c.rs, c.re)))
 }
 
 // The rows that the tolerance asks for.

@@ -1,4 +1,4 @@
--- Document 01, "Rows to check by hand": the starred rows of arcs, one theorem over the list, by computation. Assumes nothing.
+-- LAWS. Document 01, "Rows to check by hand": the starred rows of arcs, one theorem over the list, by computation. Assumes nothing.
 use Prim.Native.Nat.{ℕ}
 use mathlib.Core.Path.{_≡_, refl}
 use mathlib.Core.Bool.{Bool, true, false}

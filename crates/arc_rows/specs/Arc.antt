@@ -1,4 +1,4 @@
--- Document 01, "Arc": the group of one arc block, by the sentences of that section. Assumes nothing.
+-- DEFINITIONS. The group of one arc block. Assumes nothing.
 use Prim.Native.Nat.{ℕ, zero, suc, _+_, _^_}
 use mathlib.Core.Bool.{Bool, _&&_, _||_, not, cond}
 use mathlib.Core.List.{List, [], _∷_}

@@ -1,4 +1,4 @@
--- Laws of an arc block's answer: what it depends on, its cases, and its rows. Assumes nothing.
+-- LAWS. An arc block's answer: what it depends on, its cases, and its rows. Assumes nothing.
 use Prim.Native.Nat.{ℕ, zero, suc, _+_, _*_, _<_, _≤_}
 use mathlib.Core.Path.{_≡_, refl, sym, _∙_, ap, ap₂, fun-ext}
 use mathlib.Core.Bool.{Bool, true, false, cond, or-true, and-false, false≢true}

@@ -1,4 +1,4 @@
--- What the code plans for an arc block, and that it is the definition's answer. Assumes nothing.
+-- LAWS. What the code plans for an arc block is the definition's answer. Assumes nothing.
 use Prim.Native.Nat.{ℕ, zero, suc, _+_, _*_, _^_, _<_, _≤_}
 use mathlib.Core.Path.{_≡_, refl, sym, _∙_, ap}
 use mathlib.Core.Bool.{Bool, true, false, _&&_, _||_, not, cond}

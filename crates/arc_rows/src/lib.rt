@@ -13,8 +13,6 @@ ghost use Rattle.arc_numbers.specs.Types.{numberIs, endsIs};
 ghost use Rattle.arc_rows.specs.Arc.{arcAnswer};
 ghost use Rattle.arc_rows.specs.Plan.{BlockOf, silentAt, holds, endsAt, passPlan, alongPlan, planRows, Planned, WriteOf};
 
-const FIRST_OFFSET: usize = 15;
-
 // How a block's rows come about: it passes unchanged, or it goes along an arc.
 pub enum Way {
     Pass,
@@ -87,10 +85,10 @@ fn is_silent(row: &[u64], gs: u64, u: usize, v: usize) -> bool
     if has_point(row, gs) {
         return false;
     }
-    if rows::has_bit(row[R_PRESENT], (FIRST_OFFSET + u) as u64) {
+    if rows::has_bit(row[R_PRESENT], (layout::C_OFFSET + u) as u64) {
         return false;
     }
-    if rows::has_bit(row[R_PRESENT], (FIRST_OFFSET + v) as u64) {
+    if rows::has_bit(row[R_PRESENT], (layout::C_OFFSET + v) as u64) {
         return false;
     }
     !rows::has_bit(row[R_PRESENT], layout::C_CR as u64)
@@ -188,8 +186,8 @@ pub fn plan_arc(
         return passing(1);
     }
     let e = ends(row, at, u, v);
-    let i = cell_number(row, FIRST_OFFSET + u);
-    let j = cell_number(row, FIRST_OFFSET + v);
+    let i = cell_number(row, layout::C_OFFSET + u);
+    let j = cell_number(row, layout::C_OFFSET + v);
     let cr = cell_number(row, layout::C_CR);
     match arc_numbers::find_centre(cw, e, i, j, cr) {
         arc_numbers::Centre::At(cu, cv) => {

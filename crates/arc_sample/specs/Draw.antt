@@ -1,4 +1,4 @@
--- The rows of an arc as the code makes them: the axes that they have, the words of a sample and of the end; and that they are the definition's rows. Assumes nothing.
+-- LAWS. The rows of an arc as the code makes them, axis by axis, are the definition's. Assumes nothing.
 use Prim.Native.Nat.{ℕ, _+_, _-_, _*_, _^_, _<_, _≤_}
 use mathlib.Core.Path.{_≡_, refl, sym, _∙_, ap}
 use mathlib.Core.Bool.{Bool, true, false, _&&_, _||_, cond}

@@ -1,4 +1,4 @@
--- Document 01, "Arc": the rows of an arc, by the sentences of that section. Assumes nothing.
+-- DEFINITIONS. The rows of an arc. Assumes nothing.
 use Prim.Native.Nat.{ℕ}
 use mathlib.Core.Bool.{true, false, cond}
 use mathlib.Core.List.{List}

@@ -1,5 +1,6 @@
 // The rows of an arc: samples along it, and its programmed end.
 use layout::R_PRESENT;
+use motion::G1;
 ghost use mathlib.Core.Path.{_≡_};
 ghost use mathlib.Core.Bool.{_&&_};
 ghost use Prim.Native.Nat.{ℕ, _+_, _-_, _<_, _≤_};
@@ -13,8 +14,6 @@ ghost use Rattle.arc_numbers.specs.Types.{endsIs, arcIs};
 ghost use Rattle.arc_sample.specs.Samples.{arcRow};
 ghost use Rattle.arc_sample.specs.Rowing.{Rowing};
 ghost use Rattle.arc_sample.specs.Draw.{drawn, startOf, spanOf, rampOf, sampleWord, endWord, lastWord, midRow, midRows, lastRow, SampleOf, RowOf, RowsOf, DrawOf};
-
-const G1: u64 = 2;
 
 pub fn plane_u(plane: u64) -> usize
     ensures { λ r. ⌜ (r ≡ planeU plane) × (r < 3) ⌝ }

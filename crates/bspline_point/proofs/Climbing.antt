@@ -1,4 +1,4 @@
--- The triangle in work memory: numbers put one after another, rows, levels. Assumes nothing.
+-- LAWS. The triangle in work memory: numbers put one after another, rows, levels. Assumes nothing.
 use mathlib.Core.Path.{_≡_, refl, sym, ap, _∙_}
 use mathlib.Core.List.{List, _++_}
 use mathlib.Core.Logic.{_⊎_, ⊎-elim}
@@ -13,11 +13,12 @@ use borrow.Author.Tests.{le-ltb}
 use Rattle.floats.specs.Numbers.{_⊕_, _⊖_, _⊗_, _⊘_, ofNat, f0, f1, heldIn, at}
 use Rattle.floats.specs.Lists.{filled, row}
 use Rattle.floats.specs.Fill.{length-upto, at-upto, lt-or-le, upto-below}
+use Rattle.layout.specs.Layout.{mostPoints}
 use Rattle.bspline_tables.specs.Basis.{share, raisedAt, levels}
 use Rattle.bspline_tables.specs.Tables.{weighted, window, heldAt, spanIn, curveAt}
 use Rattle.bspline_tables.specs.RowLaws.{length-row, row-order}
 use Rattle.bspline_low.specs.Low.{mixOf}
-use Rattle.bspline_point.specs.Climb.{Put, Raised, Level, column, Climbed, Loaded}
+use Rattle.bspline_point.specs.Climb.{mostWide, Put, Raised, Level, column, Climbed, Loaded}
 
 -- ---- numbers put one after another
 module _ {f : ℕ → Float} {l : List Float} {i : ℕ} where
@@ -226,5 +227,5 @@ module _ (ks cw : List Float) (n p ch : ℕ) (t : Float) (l : List Float) where
       curve-is (at d2) hi eh ek (λ c h. top-is u k c wide h fit in-span under (window-length cw n p ch k room in-span under c h) e1 e2) er
 
 -- the largest work memory
-pub cells-in : (p wide : ℕ) → p ≤ 256 → wide ≤ 12 → (p + 1) * wide ≤ 3084
-cells-in p wide h g = le-trans (mul-le-mul-right wide (omega arith)) (mul-le-mul-left 257 g)
+pub cells-in : (p wide : ℕ) → p < mostPoints → wide ≤ mostWide → (p + 1) * wide ≤ mostPoints * mostWide
+cells-in p wide h g = le-trans (mul-le-mul-right wide (omega arith)) (mul-le-mul-left mostPoints g)

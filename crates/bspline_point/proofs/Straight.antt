@@ -1,4 +1,4 @@
--- The triangle of degrees 1 to 4, written out, is the curve's. Assumes nothing.
+-- LAWS. The triangle of degrees 1 to 4, written out, is the curve's. Assumes nothing.
 use mathlib.Core.Path.{_≡_, refl, sym, ap, _∙_}
 use mathlib.Core.List.{List}
 use mathlib.Core.Logic.{_⊎_, inl, inr, ⊎-elim}

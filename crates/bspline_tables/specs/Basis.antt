@@ -1,4 +1,4 @@
--- Document 01, "Spline": BSPLINE, a clamped uniform rational B-spline, and whom its samples belong to. Assumes nothing.
+-- DEFINITIONS. BSPLINE, a clamped uniform rational B-spline, and whom its samples belong to. Assumes nothing.
 use Prim.Native.Nat.{ℕ, zero, suc, _+_, _-_, min, max}
 use mathlib.Core.Bool.{cond}
 use mathlib.Core.List.{List, [], _∷_, map}

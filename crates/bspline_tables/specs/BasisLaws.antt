@@ -1,4 +1,4 @@
--- Laws of a B-spline's runs: one for each control point after the start, end to end all the samples in curve order, every point with its channels. Assumes nothing.
+-- LAWS. A B-spline's runs: one a control point after the start, end to end all samples in curve order, each with its channels. Assumes nothing.
 use mathlib.Core.Path.{_≡_, refl, sym, ap, _∙_}
 use mathlib.Core.Bool.{Bool, true, false, cond}
 use mathlib.Core.List.{List, [], _∷_, _++_, map}

@@ -1,4 +1,4 @@
--- At its last parameter a B-spline is at its last control point, up to the sign of a zero. Assumes nothing.
+-- LAWS. At its last parameter a B-spline is at its last control point, up to the sign of a zero. Assumes nothing.
 use mathlib.Core.Path.{_≡_, refl, sym, ap, _∙_, subst}
 use mathlib.Core.List.{List}
 use mathlib.Core.Logic.{_⊎_, inl, inr}
@@ -17,6 +17,7 @@ use Rattle.floats.specs.Numbers.{_⊕_, _⊖_, _⊗_, _⊘_, ofNat, f0, f1, 1e-
 use Rattle.floats.specs.Lists.{upto}
 use Rattle.floats.specs.Fill.{length-upto, at-upto, lt-or-le}
 use Rattle.floats.specs.FloatLaws.{one, naught, tidy, one-is, div-self, sub-self, mul-zero-left, one-by-mul, mul-by-one, div-by-one, add-zero-left, tidy-finite, tidy-nonzero, whole-sub, whole-lt, whole-finite, whole-nonzero, whole-le-self, not-under, modest, modest-finite, mul-finite}
+use Rattle.layout.specs.Layout.{mostPoints}
 use Rattle.curve_metric.specs.Metric.{pointOf}
 use Rattle.bspline_tables.specs.Basis.{Bspline, degreeOf, knots, share, raisedAt, levels, spansOf, basisOf, spanOf, topOf, evalBasis}
 use Rattle.bspline_tables.specs.LastOwner.{knot-at}
@@ -40,7 +41,7 @@ not-tiny m p h =
     let a : Ieee.lt f0 (ofNat m) ≡ true = ap (λ (z : Float). Ieee.lt z (ofNat m)) zero-whole ∙ whole-lt 0 m (omega arith) (omega arith) ∙ lt-ltb 0 m p in
     rw (a, tiny-is) (not-under m 178405961588245 146 p (omega arith) (lit≤ tt))
 
-module _ (p n : ℕ) (some : 1 ≤ p) (under : p < n) (few : n ≤ 257) where
+module _ (p n : ℕ) (some : 1 ≤ p) (under : p < n) (few : n ≤ mostPoints) where
   knot-is : (i v : ℕ) → i < n + p + 1 → min (i - p) (n - p) ≡ v → at (knots n p) i ≡ ofNat v
   knot-is i v h e = knot-at n p i h ∙ ap ofNat e
 
@@ -124,7 +125,7 @@ module _ (p n : ℕ) (some : 1 ≤ p) (under : p < n) (few : n ≤ 257) where
       ∙ ap tidy (ap (λ (z : Float). at (pointOf pts (n - 1)) c ⊗ z) last ∙ mul-by-one binary64 (at (pointOf pts (n - 1)) c) fit)
 
 -- numbers and weights of a modest size, and the last weight 1
-pub end-point : (sd : ℕ) (pts : List (List Float)) (ws : List Float) (c : ℕ) → 2 ≤ length pts → length pts ≤ 257 → c < length (pointOf pts 0)
+pub end-point : (sd : ℕ) (pts : List (List Float)) (ws : List Float) (c : ℕ) → 2 ≤ length pts → length pts ≤ mostPoints → c < length (pointOf pts 0)
     → ((i : ℕ) → i < length pts → modest (at (pointOf pts i) c)) → ((i : ℕ) → i < length pts → modest (at ws i) × T (fits binary64 (at ws i)))
     → T (fits binary64 (at (pointOf pts (length pts - 1)) c)) → at ws (length pts - 1) ≡ one
     → tidy (at (evalBasis (basisOf sd pts ws) (ofNat (spansOf (basisOf sd pts ws)))) c) ≡ tidy (at (pointOf pts (length pts - 1)) c)

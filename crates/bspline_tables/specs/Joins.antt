@@ -1,4 +1,4 @@
--- Laws of lists that runs need: `flatten`, `map` and `keep` over lists joined end to end. Assumes nothing.
+-- LAWS. Lists that runs need: `flatten`, `map` and `keep` over lists joined end to end. Assumes nothing.
 use mathlib.Core.Path.{_≡_, refl, sym, ap, _∙_}
 use mathlib.Core.Bool.{Bool, true, false, cond}
 use mathlib.Core.List.{List, [], _∷_, _++_, map, append-assoc, append-nil}

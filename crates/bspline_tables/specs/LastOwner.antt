@@ -1,4 +1,4 @@
--- The sample at a B-spline's last parameter belongs to the last control point: every Greville value before is below that parameter. Assumes nothing.
+-- LAWS. The sample at the last parameter belongs to the last control point: every Greville value before is below it. Assumes nothing.
 use mathlib.Core.Bool.{Bool, true, false, _||_, _&&_, true≢false}
 use mathlib.Core.Logic.{_⊎_, inl, inr, ⊎-elim}
 use mathlib.Core.Path.{_≡_, refl, sym, ap, _∙_, subst}
@@ -17,6 +17,7 @@ use Rattle.floats.specs.Numbers.{_⊘_, ofNat, at}
 use Rattle.floats.specs.Fill.{at-upto}
 use Rattle.floats.specs.FloatLaws.{whole-value, whole-add}
 use Rattle.floats.specs.Dyadic.{dy, dy-value}
+use Rattle.layout.specs.Layout.{mostPoints}
 use Rattle.bspline_tables.specs.Basis.{Bspline, knots, knotSum, greville, ownerFrom}
 
 -- x ≤ y < z, for y and z not negative
@@ -86,7 +87,7 @@ pub knot-at : (n p i : ℕ) → i < n + p + 1 → at (knots n p) i ≡ ofNat (mi
 unfolding knots
 knot-at n p i h = at-upto _ (n + p + 1) i nan h
 
-module _ (p n : ℕ) (some : 1 ≤ p) (under : p < n) (few : n ≤ 257) where
+module _ (p n : ℕ) (some : 1 ≤ p) (under : p < n) (few : n ≤ mostPoints) where
   -- the sum of knots, as a whole number
   sumN : ℕ → ℕ → ℕ
   sumN i zero = 0
@@ -107,7 +108,7 @@ module _ (p n : ℕ) (some : 1 ≤ p) (under : p < n) (few : n ≤ 257) where
   unfolding knotSum sumN Ieee.ofBits Ieee.ofInt
   sum-is i zero h g = refl
   sum-is i (suc k) h g =
-      let b : k * (n - p) ≤ k * 257 = mul-le-mul-left k (omega arith) in
+      let b : k * (n - p) ≤ k * mostPoints = mul-le-mul-left k (omega arith) in
       rw (sum-is i k h (omega arith), knot-at n p (i + 1 + k) (omega arith))
       (whole-add (sumN i k) (min (i + 1 + k - p) (n - p)) (omega (arith, sumN-le i k)) (omega arith))
 
@@ -122,7 +123,7 @@ module _ (p n : ℕ) (some : 1 ≤ p) (under : p < n) (few : n ≤ 257) where
       let g : (256 * s - 1 + 1) * p ≡ 256 * (p * s) = ap (λ (z : ℕ). z * p) e ∙ mul-assoc 256 s p ∙ ap (λ (z : ℕ). 256 * z) (mul-comm s p) in
       omega arith
 
-  rounded-below : (a s : ℕ) → suc a ≤ p * s → 1 ≤ s → s ≤ 257 → lt (round binary64 false a p) (ofNat s) ≡ true
+  rounded-below : (a s : ℕ) → suc a ≤ p * s → 1 ≤ s → s ≤ mostPoints → lt (round binary64 false a p) (ofNat s) ≡ true
   rounded-below a s h k l =
       let m : T (le (round binary64 false a p) (round binary64 false (256 * s - 1) 256)) = round-mono binary64 a p (256 * s - 1) 256 some (zero-lt-suc 255) (under-it a s h k) in
       let y : round binary64 false (256 * s - 1) 256 ≡ dy (256 * s - 1) 8 = unfold dy in refl in
@@ -133,7 +134,7 @@ module _ (p n : ℕ) (some : 1 ≤ p) (under : p < n) (few : n ≤ 257) where
   -- before the last, every Greville value is below the last parameter
   greville-below : (i : ℕ) → i + 1 < n → lt (knotSum (knots n p) i p ⊘ ofNat p) (ofNat (n - p)) ≡ true
   greville-below i h =
-      let b : p * (n - p) ≤ p * 257 = mul-le-mul-left p (omega arith) in
+      let b : p * (n - p) ≤ p * mostPoints = mul-le-mul-left p (omega arith) in
       let d : ofNat (sumN i p) ⊘ ofNat p ≡ round binary64 false (sumN i p) p = div-of (sumN i p) p (ofNat (sumN i p)) (ofNat p) (whole-value (sumN i p) (omega (arith, sumN-le i p))) (whole-value p (omega arith)) some in
       rw (sum-is i p (omega arith) (omega arith), d) (rounded-below (sumN i p) (n - p) (sumN-lt i p some h) (omega arith) (omega arith))
 

@@ -1,4 +1,4 @@
--- The last run of a B-spline ends at the curve's last parameter, so it is not empty. Assumes nothing.
+-- LAWS. The last run of a B-spline ends at the curve's last parameter, so it is not empty. Assumes nothing.
 use mathlib.Core.Path.{_≡_, refl, ap, _∙_, subst}
 use mathlib.Core.Bool.{Bool, true}
 use mathlib.Core.List.{List, [], _∷_, _++_}
@@ -10,6 +10,7 @@ use lib.Ieee.{Float}
 use borrow.Author.Tests.{eq-eqb}
 use Rattle.floats.specs.Numbers.{ofNat}
 use Rattle.floats.specs.Lists.{upto, keep, flatten}
+use Rattle.layout.specs.Layout.{mostPoints}
 use Rattle.curve_metric.specs.Walk.{Sample, samples}
 use Rattle.curve_metric.specs.WalkLaws.{samples-end}
 use Rattle.curve_metric.specs.Ends.{EndsWith, ends-one, ends-append, ends-map}
@@ -55,7 +56,7 @@ run-ends : (os : List Owned) (i : ℕ) {x : Owned} → x .owner ≡ i + 1 → En
 unfolding runOf
 run-ends os i {x} h e = ends-map pointIs (keep-ends (λ (s : Owned). eqb (s .owner) (i + 1)) (eq-eqb (x .owner) (i + 1) h) e)
 
-pub last-run : (sd : ℕ) (ms : List ℕ) (tol : Float) (pts : List (List Float)) (ws : List Float) → 2 ≤ length pts → length pts ≤ 257
+pub last-run : (sd : ℕ) (ms : List ℕ) (tol : Float) (pts : List (List Float)) (ws : List Float) → 2 ≤ length pts → length pts ≤ mostPoints
     → EndsWith (getD (basisRuns sd ms tol pts ws) (length pts - 2) []) (evalBasis (basisOf sd pts ws) (ofNat (spansOf (basisOf sd pts ws))))
 unfolding basisOf degreeOf
 last-run sd ms tol pts ws h few =

@@ -1,4 +1,4 @@
--- A list as rows of w cells, of which a loop changes one after another. Assumes nothing.
+-- LAWS. A list as rows of w cells, of which a loop changes one after another. Assumes nothing.
 use mathlib.Core.Path.{_≡_, refl, sym, ap, _∙_}
 use mathlib.Core.List.{List, _++_, append-assoc}
 use mathlib.Core.Logic.{_⊎_, ⊎-elim}

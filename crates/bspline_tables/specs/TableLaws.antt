@@ -1,4 +1,4 @@
--- The tables of a B-spline give its points and its owners. Assumes nothing.
+-- LAWS. The tables of a B-spline give its points and its owners. Assumes nothing.
 use mathlib.Core.Path.{_≡_, refl, sym, ap, _∙_}
 use mathlib.Core.Bool.{cond}
 use mathlib.Core.List.{List}

@@ -1,4 +1,4 @@
--- One more turn of each running sum of `specs/Metric.antt`, and the sums of two and three turns. Assumes nothing.
+-- LAWS. One more turn of each running sum of `specs/Metric.antt`, and the sums of two and three turns. Assumes nothing.
 use mathlib.Core.Path.{_≡_}
 use mathlib.Core.List.{List}
 use Prim.Native.Nat.{ℕ, _+_}

@@ -1,4 +1,4 @@
--- Document 01, "Spline": "Deviation and chords sum X, Y, Z channels, or all if none". A point is a list with a number for each channel; ms are the metric's channels. Assumes nothing.
+-- DEFINITIONS. Distances and chord sums of points, lists with a number for each channel, over the metric's channels ms. Assumes nothing.
 use Prim.Native.Nat.{ℕ, zero, suc, _+_}
 use mathlib.Core.Bool.{cond}
 use mathlib.Core.List.{List, []}

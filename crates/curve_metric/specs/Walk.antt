@@ -1,4 +1,4 @@
--- Document 01, "Spline": the samples of a stretch of a curve. Assumes nothing.
+-- DEFINITIONS. The samples of a stretch of a curve. Assumes nothing.
 use Prim.Native.Nat.{ℕ, zero, suc}
 use mathlib.Core.Bool.{Bool, cond, _&&_}
 use mathlib.Core.List.{List, [], _∷_, _++_}

@@ -1,4 +1,4 @@
--- Laws of `samples`: one step of it, its end, how many there are at most, and that each point has its channels. Assumes nothing.
+-- LAWS. `samples`: one step of it, its end, how many there are at most, and that each point has its channels. Assumes nothing.
 use mathlib.Core.Path.{_≡_, refl}
 use mathlib.Core.Bool.{Bool, true, false}
 use mathlib.Core.List.{List, [], _∷_, _++_}

@@ -1,4 +1,4 @@
--- What the parts of preparing a fit come to. Assumes nothing.
+-- LAWS. What the parts of preparing a fit come to. Assumes nothing.
 use mathlib.Core.Path.{_≡_, refl, sym, _∙_, ap}
 use mathlib.Core.Bool.{Bool}
 use mathlib.Core.List.{List, _++_}

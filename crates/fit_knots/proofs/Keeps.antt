@@ -1,4 +1,4 @@
--- One more point kept, or not. Assumes nothing.
+-- LAWS. One more point kept, or not. Assumes nothing.
 use mathlib.Core.Path.{_≡_, refl, sym, ap, _∙_}
 use mathlib.Core.List.{List, [], _∷_, _++_}
 use mathlib.Core.Bool.{Bool, true, false, cond}

@@ -1,4 +1,4 @@
--- A slice written a block of n numbers at a time. Assumes nothing.
+-- LAWS. A slice written a block of n numbers at a time. Assumes nothing.
 use mathlib.Core.Path.{_≡_, refl, _∙_}
 use mathlib.Core.List.{List}
 use mathlib.Core.Logic.{⊎-elim}

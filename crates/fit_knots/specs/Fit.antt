@@ -1,4 +1,4 @@
--- Document 01, "Spline": ASPLINE and CSPLINE, curves of numbers through the points. Assumes nothing.
+-- DEFINITIONS. ASPLINE and CSPLINE, curves of numbers through the points. Assumes nothing.
 use Prim.Native.Nat.{ℕ, zero, suc, _+_, _-_}
 use mathlib.Core.Bool.{Bool, cond}
 use mathlib.Core.List.{List, [], _∷_, _++_, map}

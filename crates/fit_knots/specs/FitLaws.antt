@@ -1,4 +1,4 @@
--- Laws of the runs of ASPLINE and CSPLINE: how many there are, what each ends with, and that each point has its channels. Assumes nothing.
+-- LAWS. The runs of ASPLINE and CSPLINE: how many there are, what each ends with, and that each point has its channels. Assumes nothing.
 use mathlib.Core.Path.{_≡_, refl, sym, _∙_, ap}
 use mathlib.Core.Bool.{Bool, true, false, cond}
 use mathlib.Core.List.{List, [], _∷_, _++_, map, append-assoc, append-nil}

@@ -1,4 +1,4 @@
--- The kept points as code finds them, and laws of `keptTo`. Assumes nothing.
+-- CONTRACTS. The kept points as code finds them, with laws of `keptTo`. Assumes nothing.
 use mathlib.Core.Path.{_≡_, refl, sym}
 use mathlib.Core.Bool.{Bool, true, false, cond}
 use mathlib.Core.List.{List, [], _∷_, _++_}

@@ -1,4 +1,4 @@
--- How a fit stands in memory: the times of m knots, their points, ch numbers each, and for each channel the m slopes. Assumes nothing.
+-- CONTRACTS. How a fit stands in memory: the times of m knots, their points, ch numbers each, the m slopes of each channel. Assumes nothing.
 use mathlib.Core.Path.{_≡_, refl, _∙_, fun-ext}
 use mathlib.Core.Bool.{Bool, true, false, cond}
 use mathlib.Core.List.{List, []}
@@ -9,6 +9,7 @@ use lib.Ieee.{Float, le}
 use Rattle.floats.specs.Numbers.{_⊖_, _⊘_, f0, f1, heldIn, at}
 use Rattle.floats.specs.Lists.{upto, row}
 use Rattle.floats.specs.Fill.{upto-below}
+use Rattle.curve_metric.specs.Widest.{widest}
 use Rattle.curve_metric.specs.Metric.{pointOf}
 use Rattle.curve_metric.specs.Points.{row-fits, length-row, at-row}
 use Rattle.fit_knots.specs.Fit.{Fit, pieceFrom, pieceOf, hermiteOf, evalFit}
@@ -20,7 +21,7 @@ Rising ts n = (k : ℕ) → k + 1 < n → le (at ts k) (at ts (k + 1)) ≡ true
 -- what an evaluation asks of its slices
 pub record Prepared (fts fps slopes : List Float) (m ch : ℕ) : Type 0 where
   pub two : 2 ≤ m
-  pub narrow : ch ≤ 16
+  pub narrow : ch ≤ widest
   pub times : m ≤ length fts
   pub rising : Rising fts m
   pub points : m * ch ≤ length fps

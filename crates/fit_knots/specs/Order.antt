@@ -1,4 +1,4 @@
--- The order of floats: `le` is transitive, and a difference above zero tells it. Assumes nothing.
+-- LAWS. The order of floats: `le` is transitive, and a difference above zero tells it. Assumes nothing.
 use mathlib.Core.Path.{_≡_, refl, sym}
 use mathlib.Core.Logic.{_⊎_, inl, inr, ⊎-elim}
 use mathlib.Core.Bool.{Bool, true, false, not, _&&_, _||_, cond}

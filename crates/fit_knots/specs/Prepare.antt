@@ -1,4 +1,4 @@
--- What is written where a fit is prepared, and that it is the fit. Assumes nothing.
+-- CONTRACTS. What is written where a fit is prepared, and that it is the fit. Assumes nothing.
 use mathlib.Core.Path.{_≡_, refl, sym, _∙_, ap}
 use mathlib.Core.Bool.{Bool, true, cond}
 use mathlib.Core.List.{List, [], _∷_, map}
@@ -10,6 +10,8 @@ use lib.Ieee.{Float, nan, le}
 use Rattle.floats.specs.Numbers.{at}
 use Rattle.floats.specs.Lists.{upto, row, rowsOf, filled}
 use Rattle.floats.specs.Fill.{length-upto, at-upto, at-filled}
+use Rattle.curve_metric.specs.Widest.{widest}
+use Rattle.layout.specs.Layout.{mostPoints}
 use Rattle.curve_metric.specs.Below.{Below}
 use Rattle.curve_metric.specs.Metric.{pointOf}
 use Rattle.curve_metric.specs.Points.{point-rows, row-fits, length-row, at-row}
@@ -106,8 +108,8 @@ module _ (cubic : Bool) (pts ts : List Float) (ch n : ℕ) (ks : List ℕ) (l : 
 -- what preparing a fit of n points asks of its slices
 pub record FitRoom (pts ts fts fps slopes : List Float) (n ch : ℕ) : Type 0 where
   pub some : 1 ≤ n
-  pub few : n ≤ 257
-  pub narrow : ch ≤ 16
+  pub few : n ≤ mostPoints
+  pub narrow : ch ≤ widest
   pub given : n * ch ≤ length pts
   pub sums : n ≤ length ts
   pub times : n ≤ length fts

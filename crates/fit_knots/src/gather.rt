@@ -9,6 +9,8 @@ ghost use lib.ListN.{length};
 ghost use Rattle.floats.specs.Numbers.{at};
 ghost use Rattle.floats.specs.Lists.{filled, rowsOf};
 ghost use Rattle.curve_metric.specs.Below.{Below};
+ghost use Rattle.layout.specs.Layout.{mostPoints};
+ghost use Rattle.fit_slopes.specs.Sizes.{smallPoints};
 ghost use Rattle.fit_knots.specs.Blocks.{Block, Blocks};
 ghost use Rattle.fit_knots.specs.Fit.{fitOf};
 ghost use Rattle.fit_knots.specs.Memory.{FitHeld};
@@ -70,7 +72,7 @@ fn column(fps: &[f64], ch: usize, m: usize, c: usize, out: &mut [f64])
 
 // The slopes at n knots, of either kind of spline.
 fn slopes_of(cubic: bool, ts: &[f64], ys: &[f64], n: usize, out: &mut [f64])
-    requires { ⌜ (2 ≤ n) × (n ≤ 257) ⌝ }
+    requires { ⌜ (2 ≤ n) × (n ≤ mostPoints) ⌝ }
     requires { ⌜ (n ≤ length (now ts)) × ((n ≤ length (now ys)) × (n ≤ length (now out))) ⌝ }
     ensures { λ _. ⌜ now (out .exit) ≡ filled (slopeOf cubic (now (ts .entry)) (now (ys .entry)) n) n (now (out .entry)) ⌝ }
 {
@@ -92,7 +94,7 @@ fn channel_slopes(
     ys: &mut [f64],
     slopes: &mut [f64],
 )
-    requires { ⌜ (2 ≤ m) × ((m ≤ 257) × ((m ≤ length (now fts)) × (length (now ys) ≡ m))) ⌝ }
+    requires { ⌜ (2 ≤ m) × ((m ≤ mostPoints) × ((m ≤ length (now fts)) × (length (now ys) ≡ m))) ⌝ }
     requires { ⌜ (c < ch) × ((m * ch ≤ length (now fps)) × (ch * m ≤ length (now slopes))) ⌝ }
     ensures { λ _. ⌜ Block (channelAt cubic (now (fts .entry)) (now (fps .entry)) ch m c) (c * m) m (now (slopes .entry)) (now (slopes .exit)) ⌝ }
 {
@@ -112,7 +114,7 @@ fn slopes_in(
     ys: &mut [f64],
     slopes: &mut [f64],
 )
-    requires { ⌜ (2 ≤ m) × ((m ≤ 257) × ((m ≤ length (now fts)) × (length (now ys) ≡ m))) ⌝ }
+    requires { ⌜ (2 ≤ m) × ((m ≤ mostPoints) × ((m ≤ length (now fts)) × (length (now ys) ≡ m))) ⌝ }
     requires { ⌜ (m * ch ≤ length (now fps)) × (ch * m ≤ length (now slopes)) ⌝ }
     ensures { λ _. ⌜ Blocks (channelAt cubic (now (fts .entry)) (now (fps .entry)) ch m) m ch (now (slopes .exit)) ⌝ }
 {
@@ -125,7 +127,7 @@ fn slopes_in(
 
 // Few points: less room to clear.
 fn slopes_small(cubic: bool, fts: &[f64], fps: &[f64], m: usize, ch: usize, slopes: &mut [f64])
-    requires { ⌜ (2 ≤ m) × ((m ≤ 16) × (m ≤ length (now fts))) ⌝ }
+    requires { ⌜ (2 ≤ m) × ((m ≤ smallPoints) × (m ≤ length (now fts))) ⌝ }
     requires { ⌜ (m * ch ≤ length (now fps)) × (ch * m ≤ length (now slopes)) ⌝ }
     ensures { λ _. ⌜ Blocks (channelAt cubic (now (fts .entry)) (now (fps .entry)) ch m) m ch (now (slopes .exit)) ⌝ }
 {
@@ -134,7 +136,7 @@ fn slopes_small(cubic: bool, fts: &[f64], fps: &[f64], m: usize, ch: usize, slop
 }
 
 fn slopes_large(cubic: bool, fts: &[f64], fps: &[f64], m: usize, ch: usize, slopes: &mut [f64])
-    requires { ⌜ (2 ≤ m) × ((m ≤ 257) × (m ≤ length (now fts))) ⌝ }
+    requires { ⌜ (2 ≤ m) × ((m ≤ mostPoints) × (m ≤ length (now fts))) ⌝ }
     requires { ⌜ (m * ch ≤ length (now fps)) × (ch * m ≤ length (now slopes)) ⌝ }
     ensures { λ _. ⌜ Blocks (channelAt cubic (now (fts .entry)) (now (fps .entry)) ch m) m ch (now (slopes .exit)) ⌝ }
 {
@@ -144,7 +146,7 @@ fn slopes_large(cubic: bool, fts: &[f64], fps: &[f64], m: usize, ch: usize, slop
 
 // The slopes of all channels, with as much room as m points need.
 fn gather_slopes(cubic: bool, fts: &[f64], fps: &[f64], m: usize, ch: usize, slopes: &mut [f64])
-    requires { ⌜ (2 ≤ m) × ((m ≤ 257) × (m ≤ length (now fts))) ⌝ }
+    requires { ⌜ (2 ≤ m) × ((m ≤ mostPoints) × (m ≤ length (now fts))) ⌝ }
     requires { ⌜ (m * ch ≤ length (now fps)) × (ch * m ≤ length (now slopes)) ⌝ }
     ensures { λ _. ⌜ Blocks (channelAt cubic (now (fts .entry)) (now (fps .entry)) ch m) m ch (now (slopes .exit)) ⌝ }
 {

@@ -1,4 +1,4 @@
--- Two knots, or more, for either kind of slope. Assumes nothing.
+-- LAWS. Two knots, or more, for either kind of slope. Assumes nothing.
 use mathlib.Core.Path.{_≡_, refl, sym, ap}
 use mathlib.Core.List.{List, _++_}
 use Prim.Native.Nat.{ℕ, _+_, _-_, _<_, _≤_}

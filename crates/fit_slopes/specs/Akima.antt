@@ -1,4 +1,4 @@
--- The Akima slopes as code reads them: one slope from four, and the widened slopes place by place. Assumes nothing.
+-- LAWS. The Akima slopes as code reads them: one slope from four, and the widened slopes place by place. Assumes nothing.
 use mathlib.Core.Path.{_≡_, sym, _∙_, ap}
 use mathlib.Core.Bool.{cond}
 use mathlib.Core.List.{List, [], _∷_, _++_}

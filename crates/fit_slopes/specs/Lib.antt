@@ -1,3 +1,4 @@
 pub mod Akima
 pub mod Slopes
 pub mod Filled
+pub mod Sizes

@@ -1,4 +1,4 @@
--- Document 01, "Spline": the slopes of ASPLINE and CSPLINE at their knots. Definitions only.
+-- DEFINITIONS. The slopes of ASPLINE and CSPLINE at their knots. Assumes nothing.
 use Prim.Native.Nat.{ℕ, zero, suc, _+_, _-_}
 use mathlib.Core.Bool.{cond}
 use mathlib.Core.List.{List, [], _∷_, _++_}

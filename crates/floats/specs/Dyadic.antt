@@ -1,4 +1,4 @@
--- Whole multiples of a power of two down: their sums, differences, halves and quarters are exact. Assumes nothing.
+-- LAWS. Whole multiples of a power of two down: their sums, differences, halves and quarters are exact. Assumes nothing.
 use mathlib.Core.Path.{_≡_, refl, sym, ap, _∙_, subst}
 use Prim.Native.Nat.{ℕ, zero, suc, _+_, _-_, _*_, _^_, _≤_, _<_}
 use native.Mathlib.Nat.{mul-assoc, mul-comm, mul-right-comm, one-mul, zero-mul, mul-pos, zero-lt-suc, lt-of-lt-of-le, mul-mul-mul-comm, mul-lt-mul-of-pos-right, mul-le-mul-right, le-of-mul-le-mul-right, mul-sub, add-mul, pow-succ'}

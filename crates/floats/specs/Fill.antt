@@ -1,4 +1,4 @@
--- Laws of `upto` and `filled`: a slice that a loop fills from the front. Assumes nothing.
+-- LAWS. `upto` and `filled`: a slice that a loop fills from the front. Assumes nothing.
 use mathlib.Core.Path.{_≡_, refl, sym, _∙_, ap}
 use mathlib.Core.List.{List, [], _∷_, _++_, append-nil}
 use Prim.Native.Nat.{ℕ, zero, suc, _+_, _*_, _-_, _<_, _≤_}

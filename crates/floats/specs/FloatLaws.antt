@@ -1,4 +1,4 @@
--- Exact laws of the rounded operations: by one, by zero, of a number with itself, and of whole numbers. Assumes nothing.
+-- LAWS. The rounded operations where they are exact: by one, by zero, of a number with itself, of whole numbers. Assumes nothing.
 use mathlib.Core.Path.{_≡_, refl, sym, ap, _∙_, subst}
 use mathlib.Core.Logic.{_⊎_, ⊎-elim}
 use Prim.Native.Nat.{ℕ, zero, suc, _+_, _-_, _*_, _/_, _%_, _^_, _≤_, _<_}

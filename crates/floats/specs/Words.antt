@@ -1,4 +1,4 @@
--- Document 01, "Own arithmetic": tests of a number over its bits, and what they say of the number. Assumes nothing.
+-- LAWS. Whether a bit pattern stands for a finite number, by its bits alone. Assumes nothing.
 use Prim.Native.Nat.{ℕ, zero, suc, _+_, _/_, _%_, _<_, _≤_}
 use mathlib.Core.Path.{_≡_, refl, _∙_}
 use mathlib.Core.Bool.{Bool, true, false, not, cond}

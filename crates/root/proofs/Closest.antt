@@ -1,4 +1,4 @@
--- What `sqrt` means, without its definition's steps: of all the values of the format, none is nearer to the root. For two values r and y the root is no nearer to y
+-- LAWS. What `sqrt` means, without its definition's steps: of all the values of the format, none is nearer to the root. For two values r and y the root is no nearer to y
 -- where it is on r's side of the mean of the two, and that is said by squares: 4 * x against (r + y) * (r + y). All are in units of the smallest value, so x is n = a * 2 ^ 1074. Assumes nothing.
 use mathlib.Core.Path.{_≡_, refl, sym, ap, _∙_, subst}
 use mathlib.Core.Logic.{_⊎_, inl, inr, ⊎-elim}

@@ -1,4 +1,4 @@
--- The root of a number above 0, finite and not subnormal, by the digits that its root takes. Assumes nothing.
+-- LAWS. The root of a number above 0, finite and not subnormal, by the digits that its root takes. Assumes nothing.
 use Prim.Native.Nat.{ℕ, _+_, _-_, _*_, _/_, _%_, _^_, _≤_, _<_}
 use mathlib.Core.Path.{_≡_, refl, sym, ap, _∙_, subst}
 use mathlib.Core.Logic.{_⊎_, inl, inr, ⊎-elim}

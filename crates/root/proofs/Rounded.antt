@@ -1,4 +1,4 @@
--- `rootUnits` at a number n that is M * 2 ^ 52 times an even power of two, for an M of 53 or 54 digits: it is R * 2 ^ k, for the whole number R nearest to the root of M * 2 ^ 52. Assumes nothing.
+-- LAWS. `rootUnits` at a number n that is M * 2 ^ 52 times an even power of two, for an M of 53 or 54 digits: it is R * 2 ^ k, for the whole number R nearest to the root of M * 2 ^ 52. Assumes nothing.
 use mathlib.Core.Path.{_≡_, refl, sym, ap, _∙_, subst}
 use Prim.Native.Nat.{ℕ, suc, _+_, _-_, _*_, _/_, _^_, _≤_, _<_, Ordering, Ordering·lt, Ordering·eq, Ordering·gt, compare}
 use native.Mathlib.Nat.{le-trans, le-of-eq, lt-of-lt-of-le, lt-of-le-of-lt, lt-of-not-le, lt-irrefl, mul-pos, mul-assoc, mul-comm, mul-left-comm, mul-le-mul-right, mul-lt-mul-of-pos-right, mul-div-cancel, lt-of-mul-lt-mul-right, eq-of-mul-eq-mul-right}

@@ -1,4 +1,4 @@
--- Where there is nothing to compute: the zeros, the infinity above, and what has no root. Assumes nothing.
+-- LAWS. Where there is nothing to compute: the zeros, the infinity above, and what has no root. Assumes nothing.
 use mathlib.Core.Path.{_≡_, refl, sym, ap, _∙_, subst}
 use Prim.Native.Nat.{ℕ, zero, suc, _+_, _-_, _*_, _/_, _%_, _^_, _≤_, _<_}
 use native.Mathlib.Nat.{lt-irrefl, zero-mul, mul-pos}

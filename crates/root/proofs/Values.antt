@@ -1,4 +1,4 @@
--- The root of a number above 0 by its size in units of the smallest value: the bits of `sqrt`'s result, and what a pattern's size is. Assumes nothing.
+-- LAWS. The root of a number above 0 by its size in units of the smallest value: the bits of `sqrt`'s result, and what a pattern's size is. Assumes nothing.
 use mathlib.Core.Path.{_≡_, sym, ap, _∙_, subst}
 use Prim.Native.Nat.{ℕ, zero, suc, _+_, _-_, _*_, _/_, _%_, _^_, _≤_, _<_}
 use native.Mathlib.Nat.{le-trans, le-of-eq, lt-of-lt-of-le, lt-of-le-of-lt, lt-of-not-le, lt-irrefl, lt-of-mul-lt-mul-right, zero-mul, zero-add, mul-one, mul-assoc, mul-pos, mul-le-mul-right, mul-div-cancel, mod-eq-of-lt}

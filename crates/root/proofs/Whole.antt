@@ -1,4 +1,4 @@
--- There is one whole number nearest to a root. Assumes nothing.
+-- LAWS. There is one whole number nearest to a root. Assumes nothing.
 use mathlib.Core.Path.{_≡_, subst}
 use Prim.Native.Nat.{ℕ, zero, suc, _+_, _*_, _^_, _≤_, _<_, Ordering, Ordering·lt, Ordering·eq, Ordering·gt, compare}
 use native.Mathlib.Nat.{suc-mul, mul-suc, mul-le-mul-left, mul-le-mul-right}

@@ -1,4 +1,4 @@
--- Document 01, "Own arithmetic", "Square root: nearest, ties to even, stated by squares of whole numbers". The square root of IEEE 754 (2019, 5.4.1 and 5.5.1), over the values of `lib.Ieee`: the root's exact value, rounded to the format's nearest, ties to the even one.
+-- DEFINITIONS. Document 01, "Own arithmetic", "Square root: nearest, ties to even, stated by squares of whole numbers". The square root of IEEE 754 (2019, 5.4.1 and 5.5.1), over the values of `lib.Ieee`: the root's exact value, rounded to the format's nearest, ties to the even one.
 -- There are no real numbers here, so a root is compared by squares of whole numbers. Definitions only.
 use Prim.Native.Nat.{ℕ, zero, suc, _+_, _-_, _*_, _/_, _^_, _≤_, _<_, compare}
 use mathlib.Core.Bool.{false, cond}

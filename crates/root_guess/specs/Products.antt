@@ -1,4 +1,4 @@
--- Bounds of products of natural numbers. Assumes nothing.
+-- LAWS. Bounds of products of natural numbers. Assumes nothing.
 use mathlib.Core.Path.{sym, subst}
 use Prim.Native.Nat.{ℕ, _+_, _*_, _^_, _<_}
 use native.Mathlib.Nat.{le-of-lt, lt-of-le-of-lt, mul-le-mul-right, mul-lt-mul-of-pos-left}

@@ -1,4 +1,4 @@
--- Document 01, "Own arithmetic": "Sine, cosine, arc cosine and two-argument arc tangent are fixed step lists in docs/TRIG.md", over lib.Ieee, each operation rounded once. Assumes nothing.
+-- DEFINITIONS. Sine, cosine, arc cosine and arc tangent of two arguments, by the step lists of docs/TRIG.md. Assumes nothing.
 use mathlib.Core.Bool.{cond}
 use lib.Ieee.{Float, binary64, neg, lt, le, eq}
 use lib.Ieee as Ieee

@@ -1,4 +1,4 @@
--- What the code of `half_up_count` finds by tests on floats is `halfUpOf`. Assumes nothing.
+-- LAWS. What the code of `half_up_count` finds by tests on floats is `halfUpOf`. Assumes nothing.
 use mathlib.Core.Path.{_≡_, refl, sym, ap, _∙_, subst}
 use mathlib.Core.Bool.{Bool, true, false, cond, true≢false, false≢true}
 use Prim.Native.Nat.{ℕ, _+_, _-_, _*_, _/_, _^_, _≤_, _<_}

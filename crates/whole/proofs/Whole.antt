@@ -1,4 +1,4 @@
--- What the code of `ceil_count` finds by tests on floats is `ceilOf`. Assumes nothing.
+-- LAWS. What the code of `ceil_count` finds by tests on floats is `ceilOf`. Assumes nothing.
 use mathlib.Core.Path.{_≡_, refl, sym, ap, _∙_}
 use mathlib.Core.Bool.{Bool, true, false, cond, true≢false, false≢true}
 use Prim.Native.Nat.{ℕ, _+_, _-_, _*_, _/_, _≤_, _<_}

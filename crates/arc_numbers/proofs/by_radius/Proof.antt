@@ -32,7 +32,15 @@ wide-requires c κs = search needs
 
 returns-3 : tie.Need-returns-3
 unfolding crCentre
-returns-3 c = rw (← (c .before .before .before .before .before .before .before .before .before .root .ensures), (c .before .before .before .before .before .before .before .before .if1 .left), ← (c .before .before .before .before .before .before .before .abs .ensures), (c .before .before .before .before .before .before .if2 .left), ← (c .before .before .before .before .before .larger .ensures), ← (c .before .before .before .before .root2 .ensures), ← (c .before .before .before .side .ensures)) (c .wide .ensures)
+returns-3 c =
+    let side = c .before .before .before .side in
+    let root2 = c .before .before .before .before .root2 in
+    let larger = c .before .before .before .before .before .larger in
+    let if2 = c .before .before .before .before .before .before .if2 in
+    let abs = c .before .before .before .before .before .before .before .abs in
+    let if1 = c .before .before .before .before .before .before .before .before .if1 in
+    let root = c .before .before .before .before .before .before .before .before .before .root in
+    rw (← (root .ensures), (if1 .left), ← (abs .ensures), (if2 .left), ← (larger .ensures), ← (root2 .ensures), ← (side .ensures)) (c .wide .ensures)
 
 pub by-radius-spec : {M : Type 1} → statement M
 by-radius-spec =

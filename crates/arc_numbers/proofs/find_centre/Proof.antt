@@ -50,11 +50,17 @@ returns-2 c = rw ((c .before .before .before .before .before .before .i .given .
 
 returns-3 : tie.Need-returns-3
 unfolding centreOf
-returns-3 c = rw ((c .before .before .before .before .before .before .enum-told2 .given .1), (c .before .before .before .before .j2 .given .1)) (c .wide3 .ensures)
+returns-3 c =
+    let j2 = c .before .before .before .before .j2 in
+    let enum-told2 = c .before .before .before .before .before .before .enum-told2 in
+    rw ((enum-told2 .given .1), (j2 .given .1)) (c .wide3 .ensures)
 
 returns-4 : tie.Need-returns-4
 unfolding centreOf
-returns-4 c = rw ((c .before .before .before .before .before .before .enum-told2 .given .1), (c .before .before .before .before .enum-told3 .given .1), (c .before .before .cr .given .1)) (c .by-radius .ensures)
+returns-4 c =
+    let enum-told3 = c .before .before .before .before .enum-told3 in
+    let enum-told2 = c .before .before .before .before .before .before .enum-told2 in
+    rw ((enum-told2 .given .1), (enum-told3 .given .1), (c .before .before .cr .given .1)) (c .by-radius .ensures)
 
 returns-5 : tie.Need-returns-5
 unfolding centreOf wideCentre

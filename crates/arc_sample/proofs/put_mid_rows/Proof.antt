@@ -29,7 +29,9 @@ add-put-mid-row : tie.Need-add-put-mid-row Inv-loop μ-loop
 add-put-mid-row c = omega arith
 
 put-mid-row-requires : tie.Need-put-mid-row-requires Inv-loop μ-loop
-put-mid-row-requires c κs = (record { room = omega arith; long = (c .before .before .before .before .before .before .before .before .pre) .0 .long; axes = (c .before .before .before .before .before .before .before .before .pre) .0 .axes; shows = (c .before .before .before .before .before .before .before .before .pre) .0 .shows; onU = (c .before .before .before .before .before .before .before .before .pre) .0 .onU; onV = (c .before .before .before .before .before .before .before .before .pre) .0 .onV }, (c .before .before .before .before .before .before .before .before .pre) .1)
+put-mid-row-requires c κs =
+    let pre = c .before .before .before .before .before .before .before .before .pre in
+    (record { room = omega arith; long = pre .0 .long; axes = pre .0 .axes; shows = pre .0 .shows; onU = pre .0 .onU; onV = pre .0 .onV }, pre .1)
 
 add-place : tie.Need-add-place Inv-loop μ-loop
 add-place c = omega arith
@@ -41,13 +43,19 @@ loop-less : tie.Need-loop-less Inv-loop μ-loop
 loop-less c = omega arith
 
 loop-again : tie.Need-loop-again Inv-loop μ-loop
-loop-again c = (omega arith, rowing-more (λ (i : ℕ). mid-long _ _ _ _ _ i) ((c .before .before .before .before .before .loop .inv) .1) (omega arith) (rw (c .before .before .before .before .before .before .nearest-u64-to-f64 .ensures) at (c .before .before .put-mid-row .ensures)))
+loop-again c =
+    let at-loop = c .before .before .before .before .before .loop in
+    let nearest-u64-to-f64 = c .before .before .before .before .before .before .nearest-u64-to-f64 in
+    (omega arith, rowing-more (λ (i : ℕ). mid-long _ _ _ _ _ i) ((at-loop .inv) .1) (omega arith) (rw (nearest-u64-to-f64 .ensures) at (c .before .before .put-mid-row .ensures)))
 
 same-length : tie.Need-same-length Inv-loop μ-loop
 same-length c = (c .before .loop .inv) .1 .same
 
 returns : tie.Need-returns Inv-loop μ-loop
-returns c = let e : (c .before .loop .j) ≡ (c .before .before .before .before .before .before .before .args .n) - 1 = omega arith in rw e at ((c .before .loop .inv) .1)
+returns c =
+    let at-loop = c .before .loop in
+    let args = c .before .before .before .before .before .before .before .args in
+    let e : (at-loop .j) ≡ (args .n) - 1 = omega arith in rw e at ((at-loop .inv) .1)
 
 pub put-mid-rows-spec : {M : Type 1} → statement M
 put-mid-rows-spec =

@@ -38,7 +38,11 @@ same-length c = search needs
 
 returns : tie.Need-returns
 unfolding sampleWord
-returns c = two-upto _ (c .before .before .before .before .before .put-ramps .ensures) ((c .before .before .before .before .before .before .before .before .before .before .pre) .onU) ((c .before .before .before .before .before .before .before .before .before .before .pre) .onV) ((c .bits2 .ensures) ∙ ap bits ((c .before .before .sample .ensures) .u)) ((c .before .bits .ensures) ∙ ap bits ((c .before .before .sample .ensures) .v))
+returns c =
+    let sample = c .before .before .sample in
+    let put-ramps = c .before .before .before .before .before .put-ramps in
+    let pre = c .before .before .before .before .before .before .before .before .before .before .pre in
+    two-upto _ (put-ramps .ensures) (pre .onU) (pre .onV) ((c .bits2 .ensures) ∙ ap bits ((sample .ensures) .u)) ((c .before .bits .ensures) ∙ ap bits ((sample .ensures) .v))
 
 pub put-sample-spec : {M : Type 1} → statement M
 put-sample-spec =

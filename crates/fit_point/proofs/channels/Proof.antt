@@ -1,5 +1,5 @@
 -- `fit_point::channels` meets its contract. Assumes nothing.
-use Rattle.fit_point.proofs.Pieces.{sixteen}
+use Rattle.curve_metric.specs.Written.{written}
 use Rattle.fit_point.proofs.channels.Statement.{statement}
 use Rattle.fit_point.proofs.channels.Tie as tie
 
@@ -46,13 +46,33 @@ channel-at-requires-14 : tie.Need-channel-at-requires-14
 channel-at-requires-14 c κs = c .before .before .before .before .before .before .before .before .before .before .before .before .before .before .before .pre
 
 channel-at-requires-15 : tie.Need-channel-at-requires-15
-channel-at-requires-15 c κs = c .before .before .before .before .before .before .before .before .before .before .before .before .before .before .before .before .pre
+channel-at-requires-15 c κs =
+    let back = c .before .before .before .before .before .before .before .before .before .before .before .before in
+    let pre = back .before .before .before .before .pre in
+    pre
 
 channel-at-requires-16 : tie.Need-channel-at-requires-16
-channel-at-requires-16 c κs = c .before .before .before .before .before .before .before .before .before .before .before .before .before .before .before .before .before .pre
+channel-at-requires-16 c κs =
+    let back = c .before .before .before .before .before .before .before .before .before .before .before .before in
+    let pre = back .before .before .before .before .before .pre in
+    pre
 
 returns : tie.Need-returns
-returns c = sixteen _ (c .before .before .before .before .before .before .before .before .before .before .before .before .before .before .before .channel-at .ensures) (c .before .before .before .before .before .before .before .before .before .before .before .before .before .before .channel-at2 .ensures) (c .before .before .before .before .before .before .before .before .before .before .before .before .before .channel-at3 .ensures) (c .before .before .before .before .before .before .before .before .before .before .before .before .channel-at4 .ensures) (c .before .before .before .before .before .before .before .before .before .before .before .channel-at5 .ensures) (c .before .before .before .before .before .before .before .before .before .before .channel-at6 .ensures) (c .before .before .before .before .before .before .before .before .before .channel-at7 .ensures) (c .before .before .before .before .before .before .before .before .channel-at8 .ensures) (c .before .before .before .before .before .before .before .channel-at9 .ensures) (c .before .before .before .before .before .before .channel-at10 .ensures) (c .before .before .before .before .before .channel-at11 .ensures) (c .before .before .before .before .channel-at12 .ensures) (c .before .before .before .channel-at13 .ensures) (c .before .before .channel-at14 .ensures) (c .before .channel-at15 .ensures) (c .channel-at16 .ensures)
+returns c =
+    let channel-at13 = c .before .before .before .channel-at13 in
+    let channel-at12 = c .before .before .before .before .channel-at12 in
+    let channel-at11 = c .before .before .before .before .before .channel-at11 in
+    let channel-at10 = c .before .before .before .before .before .before .channel-at10 in
+    let channel-at9 = c .before .before .before .before .before .before .before .channel-at9 in
+    let channel-at8 = c .before .before .before .before .before .before .before .before .channel-at8 in
+    let channel-at7 = c .before .before .before .before .before .before .before .before .before .channel-at7 in
+    let channel-at6 = c .before .before .before .before .before .before .before .before .before .before .channel-at6 in
+    let channel-at5 = c .before .before .before .before .before .before .before .before .before .before .before .channel-at5 in
+    let channel-at4 = c .before .before .before .before .before .before .before .before .before .before .before .before .channel-at4 in
+    let channel-at3 = c .before .before .before .before .before .before .before .before .before .before .before .before .before .channel-at3 in
+    let channel-at2 = c .before .before .before .before .before .before .before .before .before .before .before .before .before .before .channel-at2 in
+    let channel-at = c .before .before .before .before .before .before .before .before .before .before .before .before .before .before .before .channel-at in
+    written _ (channel-at .ensures) (channel-at2 .ensures) (channel-at3 .ensures) (channel-at4 .ensures) (channel-at5 .ensures) (channel-at6 .ensures) (channel-at7 .ensures) (channel-at8 .ensures) (channel-at9 .ensures) (channel-at10 .ensures) (channel-at11 .ensures) (channel-at12 .ensures) (channel-at13 .ensures) (c .before .before .channel-at14 .ensures) (c .before .channel-at15 .ensures) (c .channel-at16 .ensures)
 
 pub channels-spec : {M : Type 1} → statement M
 channels-spec =

@@ -122,9 +122,10 @@ add-result c = omega (arith, last-lt (c .before .before .loop .inv))
 
 returns : tie.Need-returns Inv-loop μ-loop
 returns c =
+    let start = c .before .before .before in
     let at = c .before .before .loop in
-    let m = c .before .before .before .args .m in
-    moves m (at .root) (at .rest) (at .inv .whole) (done m (at .x) (at .root) (at .rest) (at .i) (c .before .before .before .pre .1) (at .inv) (c .before .loop-test .left)) (c .if2 .taken)
+    let m = start .args .m in
+    moves m (at .root) (at .rest) (at .inv .whole) (done m (at .x) (at .root) (at .rest) (at .i) (start .pre .1) (at .inv) (c .before .loop-test .left)) (c .if2 .taken)
 
 returns-2 : tie.Need-returns-2 Inv-loop μ-loop
 returns-2 c =

@@ -105,7 +105,8 @@ by-digits-requires c κs = omega (arith, bounds (c .before .args .b) (c .if1 .m)
 
 add-result : tie.Need-add-result
 add-result c =
-    let d = c .before in
+    let place1 = c .before in
+    let d = place1 in
     omega (arith, root-hi (d .if1 .m) (c .by-digits .result) (bounds (d .before .args .b) (d .if1 .m) (d .before .pre .0) (d .before .pre .1) (taken d) .1) (c .by-digits .ensures))
 
 returns : tie.Need-returns

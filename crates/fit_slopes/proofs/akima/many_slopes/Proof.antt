@@ -1,3 +1,4 @@
+-- `fit_slopes::akima::many_slopes` meets its contract. Assumes nothing.
 use mathlib.Core.Path.{_∙_}
 use Prim.Native.Nat.{_≤_, _-_}
 use native.Mathlib.Omega.{arith}
@@ -26,7 +27,8 @@ widened-at-requires-3 : tie.Need-widened-at-requires-3 Inv-loop μ-loop
 widened-at-requires-3 c κs = search needs
 
 loop-holds : tie.Need-loop-holds Inv-loop μ-loop
-loop-holds c = ((omega arith, omega arith), (record { first = (c .before .before .widened-at .ensures); second = (c .before .widened-at2 .ensures); third = (c .widened-at3 .ensures) }, filling-none))
+loop-holds c =
+    ((omega arith, omega arith), (record { first = (c .before .before .widened-at .ensures); second = (c .before .widened-at2 .ensures); third = (c .widened-at3 .ensures) }, filling-none))
 
 add-widened-at : tie.Need-add-widened-at Inv-loop μ-loop
 add-widened-at c = search needs

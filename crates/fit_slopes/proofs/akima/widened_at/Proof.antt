@@ -1,3 +1,4 @@
+-- `fit_slopes::akima::widened_at` meets its contract. Assumes nothing.
 use native.Mathlib.Omega.{arith}
 use Rattle.fit_slopes.specs.Akima.{wide-first, wide-second, wide-step, wide-behind, wide-last}
 use borrow.Author.Needs.{needs}

@@ -1,3 +1,4 @@
+-- `root::at_most::root_at_most` meets its contract. Assumes nothing.
 use mathlib.Core.Path.{sym, ap, _∙_, subst}
 use lib.Dec.{T}
 use lib.Ieee.{Float, binary64, fits, le, ofBits}
@@ -33,13 +34,15 @@ is-normal-requires-2 c κs = search needs
 
 normal-at-most-requires : tie.Need-normal-at-most-requires
 normal-at-most-requires c κs =
-    let second = c .before in
+    let place1 = c .before in
+    let second = place1 in
     let first = second .before .before in
     (normal-is (first .before .before .bits .result) (sym (first .is-normal .ensures) ∙ second .before .if1 .taken), normal-is (first .before .bits2 .result) (sym (second .is-normal2 .ensures) ∙ c .if2 .taken))
 
 returns : tie.Need-returns
 returns c =
-    let at = c .before .before .before .before .before in
+    let place5 = c .before .before .before .before .before in
+    let at = place5 in
     let start = at .before .before in
     c .normal-at-most .ensures
     ∙ ap (λ (z : Float). le (sqrt binary64 z) (ofBits binary64 (at .bits2 .result))) (ap (ofBits binary64) (at .before .bits .ensures) ∙ ofBits-toBits binary64 (start .args .x) (held-x start))
