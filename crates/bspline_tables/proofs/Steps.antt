@@ -29,7 +29,8 @@ unfolding Ieee.inFloat
 whole-in n h = le→leb n 9007199254740992 (omega arith)
 
 -- the knots as they are filled
-pub knots-are : (n p : ℕ) (l : List Float) {ks : List Float} → ks ≡ filled (λ i. ofNat (min (i - p) (n - p))) (n + p + 1) l → Agrees ks (at (knots n p)) (n + p + 1)
+pub knots-are : (n p : ℕ) (l : List Float) {ks : List Float} → ks ≡ filled (λ i. ofNat (min (i - p) (n - p))) (n + p + 1) l
+    → Agrees ks (at (knots n p)) (n + p + 1)
 unfolding Agrees knots
 knots-are n p l e k h = ap (λ (z : List Float). at z k) e ∙ at-filled _ l (n + p + 1) k nan h ∙ sym (at-upto _ (n + p + 1) k nan h)
 

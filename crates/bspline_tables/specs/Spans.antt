@@ -24,7 +24,8 @@ or-false false b h = refl
 le-false : (a b : ℕ) → (ltb a b || (eqb a b && true)) ≡ false → b < a
 le-false a b h =
     let x : b ≤ a = ltb-false a b (or-false (ltb a b) (eqb a b && true) h) in
-    ⊎-elim (λ (e : b ≡ a). absurd (true≢false (sym (ap (λ (z : Bool). ltb a b || (z && true)) (eq-eqb a b (sym e)) ∙ last (ltb a b)) ∙ h))) (λ l. l) (native.Mathlib.Nat.eq-or-lt-of-le x)
+    ⊎-elim (λ (e : b ≡ a). absurd (true≢false (sym (ap (λ (z : Bool). ltb a b || (z && true)) (eq-eqb a b (sym e)) ∙ last (ltb a b)) ∙ h))) (λ l. l)
+    (native.Mathlib.Nat.eq-or-lt-of-le x)
   where
     last : (t : Bool) → (t || true) ≡ true
     last true = refl
@@ -55,7 +56,8 @@ below s (fin false m e) (fin false n d) p q v g =
     rw (small (n * up d) (down d) (omega arith) (down-pos d)) (held (ltb (0 * 1 * down d) (n * up d * 1)) (n * up d / down d) s p k)
 
 pub in-span : (p n : ℕ) (hi u : Float) → p < n → n ≤ mostPoints → hi ≡ ofNat (n - p) → le hi u ≡ false → truncCount u < n - p
-in-span p n hi u h k e g = below (n - p) hi u (omega arith) (omega arith) (subst (λ (y : Float). HasValue y false (n - p) 1) (sym e) (whole-value (n - p) (omega arith))) g
+in-span p n hi u h k e g = below (n - p) hi u (omega arith) (omega arith)
+    (subst (λ (y : Float). HasValue y false (n - p) 1) (sym e) (whole-value (n - p) (omega arith))) g
 
 pub span-in : (n p : ℕ) (u : Float) → p < n → n ≤ mostPoints → (p ≤ spanIn n p u) × (spanIn n p u < n)
 unfolding spanIn

@@ -6,7 +6,7 @@ ghost use Prim.Native.Nat.{_≤_, _<_, _*_};
 ghost use lib.ListN.{length};
 ghost use Rattle.floats.specs.Lists.{filled, rowsOf};
 ghost use Rattle.curve_metric.specs.Below.{Below};
-ghost use Rattle.curve_metric.specs.Metric.{lenTo, along, distTo, chordTo};
+ghost use Rattle.curve_metric.specs.Metric.{lenTo, along, deviation2Of, chordTo};
 ghost use Rattle.curve_metric.specs.Gaps.{gapOf, towardOf, missedOf, footOf, distTwo, distThree};
 ghost use Rattle.curve_metric.specs.Walk.{near};
 
@@ -97,7 +97,7 @@ pub fn foot(p: &[f64], a: &[f64], b: &[f64], ms: &[usize]) -> f64
 fn deviation_any(p: &[f64], a: &[f64], b: &[f64], ms: &[usize]) -> f64
     requires { ⌜ Below (now ms) (length (now a)) ⌝ }
     requires { ⌜ (length (now a) ≤ length (now b)) × (length (now a) ≤ length (now p)) ⌝ }
-    ensures { λ r. ⌜ r ≡ distTo (now (p .entry)) (now (a .entry)) (now (b .entry)) (now (ms .entry)) (along (now (p .entry)) (now (a .entry)) (now (b .entry)) (now (ms .entry))) (length (now (ms .entry))) ⌝ }
+    ensures { λ r. ⌜ r ≡ deviation2Of (now (p .entry)) (now (a .entry)) (now (b .entry)) (now (ms .entry)) ⌝ }
 {
     let t = foot(p, a, b, ms);
     let mut sum = 0.0;
@@ -133,7 +133,7 @@ fn deviation_three(x: Gap, y: Gap, z: Gap) -> f64
 fn deviation2(p: &[f64], a: &[f64], b: &[f64], ms: &[usize]) -> f64
     requires { ⌜ Below (now ms) (length (now a)) ⌝ }
     requires { ⌜ (length (now a) ≤ length (now b)) × (length (now a) ≤ length (now p)) ⌝ }
-    ensures { λ r. ⌜ r ≡ distTo (now (p .entry)) (now (a .entry)) (now (b .entry)) (now (ms .entry)) (along (now (p .entry)) (now (a .entry)) (now (b .entry)) (now (ms .entry))) (length (now (ms .entry))) ⌝ }
+    ensures { λ r. ⌜ r ≡ deviation2Of (now (p .entry)) (now (a .entry)) (now (b .entry)) (now (ms .entry)) ⌝ }
 {
     if ms.len() == 3 {
         return deviation_three(

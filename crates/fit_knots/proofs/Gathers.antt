@@ -20,7 +20,8 @@ use Rattle.fit_knots.specs.Memory.{Rising, FitHeld}
 use Rattle.fit_knots.specs.Prepare.{slopeOf, timeAt, numberAt, columnOf, channelAt, fit-is, TimesRise, FitRoom, FitReady}
 
 -- a part of a list, written over
-block-put : {f : ℕ → Float} {a m : ℕ} {l : List Float} (ys : List Float) → a + m ≤ length l → length ys ≡ length (take (a + m - a) (drop a l)) → ((j : ℕ) → j < m → at ys j ≡ f j)
+block-put : {f : ℕ → Float} {a m : ℕ} {l : List Float} (ys : List Float) → a + m ≤ length l → length ys ≡ length (take (a + m - a) (drop a l))
+    → ((j : ℕ) → j < m → at ys j ≡ f j)
     → Block f a m l (putMid a (a + m - a) l ys)
 block-put {f} {a} {m} {l} ys h n e =
     let long : length (take a l) ≡ a = length-take-le a l (omega arith) in

@@ -92,7 +92,7 @@ kept-rising ts (suc i) k h = go (grown ts (lastOf (keptTo ts i)) (i + 1)) refl (
     go : (b : Bool) → grown ts (lastOf (keptTo ts i)) (i + 1) ≡ b
         → (k + 1 < length (keptTo ts i) → le (at ts (getD (keptTo ts i) k 0)) (at ts (getD (keptTo ts i) (k + 1) 0)) ≡ true)
         → k + 1 < length (cond b (keptTo ts i ++ ((i + 1) ∷ [])) (keptTo ts i))
-        → le (at ts (getD (cond b (keptTo ts i ++ ((i + 1) ∷ [])) (keptTo ts i)) k 0)) (at ts (getD (cond b (keptTo ts i ++ ((i + 1) ∷ [])) (keptTo ts i)) (k + 1) 0)) ≡ true
+        → (let ks = cond b (keptTo ts i ++ ((i + 1) ∷ [])) (keptTo ts i) in le (at ts (getD ks k 0)) (at ts (getD ks (k + 1) 0)) ≡ true)
     go true e below h = ⊎-elim
         (λ g. last e g)
         (λ g. earlier g (below g))

@@ -83,16 +83,30 @@ evalPiece fit w t c =
     let m = getD (fit .slopes) c [] in
     pieceAt t (at (fit .times) w) (at (fit .times) (w + 1)) (at (pointOf (fit .points) w) c) (at m w) (at (pointOf (fit .points) (w + 1)) c) (at m (w + 1))
 
-eval-piece : (fit : Fit) (t : Float) → evalFit fit t ≡ upto (evalPiece fit (pieceOf (fit .times) (length (fit .times)) t) t) (length (pointOf (fit .points) (pieceOf (fit .times) (length (fit .times)) t)))
+eval-piece : (fit : Fit) (t : Float) →
+    let w = pieceOf (fit .times) (length (fit .times)) t in
+    evalFit fit t ≡ upto (evalPiece fit w t) (length (pointOf (fit .points) w))
 unfolding evalFit evalPiece pieceAt
 eval-piece fit t = refl
 
 module _ {fit : Fit} {fts fps slopes : List Float} {m ch : ℕ} (held : FitHeld fit fts fps slopes m ch) where
   at-piece : (t : Float) (w : ℕ) → w + 1 < m → (c : ℕ) → c < ch
-      → evalPiece fit w t c ≡ pieceAt t (at fts w) (at fts (w + 1)) (at fps (w * ch + c)) (at slopes (c * m + w)) (at fps ((w + 1) * ch + c)) (at slopes (c * m + (w + 1)))
+      → evalPiece fit w t c ≡ pieceAt t (at fts w) (at fts (w + 1)) (at fps (w * ch + c)) (at slopes (c * m + w)) (at fps ((w + 1) * ch + c))
+      (at slopes (c * m + (w + 1)))
   unfolding evalPiece
   at-piece t w h c l =
-      rw (held .is .times w (omega arith), held .is .times (w + 1) h, held .is .points w (omega arith), held .is .points (w + 1) h, at-row fps ch w c l, at-row fps ch (w + 1) c l, held .is .bends c w l (omega arith), held .is .bends c (w + 1) l h)
+      let is = held .is in
+      let g : w < m = omega arith in
+      rw (
+        is .times w g,
+        is .times (w + 1) h,
+        is .points w g,
+        is .points (w + 1) h,
+        at-row fps ch w c l,
+        at-row fps ch (w + 1) c l,
+        is .bends c w l g,
+        is .bends c (w + 1) l h,
+      )
 
   wide : (w : ℕ) → w < m → length (pointOf (fit .points) w) ≡ ch
   wide w h = rw (held .is .points w h) (length-row fps ch w (row-fits w m ch (length fps) h (held .room .points)))
@@ -100,7 +114,8 @@ module _ {fit : Fit} {fts fps slopes : List Float} {m ch : ℕ} (held : FitHeld 
   pub eval-is : (t : Float) → evalFit fit t ≡ upto (fitAt fts fps slopes m ch t) ch
   unfolding fitAt
   eval-is t =
-      let found : pieceOf (fit .times) (length (fit .times)) t ≡ pieceOf fts m t = rw (held .is .count) (pieces-same (fit .times) fts t m (held .room .two) (held .is .times)) in
+      let found : pieceOf (fit .times) (length (fit .times)) t ≡ pieceOf fts m t =
+      rw (held .is .count) (pieces-same (fit .times) fts t m (held .room .two) (held .is .times)) in
       let h = piece-below fts m t (held .room .two) in
       eval-piece fit t
       ∙ rw (found, wide (pieceOf fts m t) (omega arith)) (upto-below (evalPiece fit (pieceOf fts m t) t) _ ch (λ c l. at-piece t (pieceOf fts m t) h c l))

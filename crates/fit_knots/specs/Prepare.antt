@@ -48,7 +48,8 @@ at-map f [] k d e h = absurd (omega arith)
 at-map f (x ∷ xs) zero d e h = refl
 at-map f (x ∷ xs) (suc k) d e h = at-map f xs k d e (omega arith)
 
-pub upto-map : {A B : Type 0} (f : A → B) (l : List A) (d : A) (e : B) (n : ℕ) (g : ℕ → B) → n ≡ length l → ((k : ℕ) → k < n → g k ≡ f (getD l k d)) → upto g n ≡ map f l
+pub upto-map : {A B : Type 0} (f : A → B) (l : List A) (d : A) (e : B) (n : ℕ) (g : ℕ → B) → n ≡ length l → ((k : ℕ) → k < n → g k ≡ f (getD l k d))
+    → upto g n ≡ map f l
 upto-map f l d e n g en h = ext-getD e (upto g n) (map f l) (length-upto g n ∙ en ∙ sym (length-map l f)) (λ k lt.
     let m : k < n = omega (arith, length-upto g n) in
     at-upto g n k e m ∙ h k m ∙ sym (at-map f l k d e (omega arith)))
@@ -77,10 +78,13 @@ module _ (cubic : Bool) (pts ts : List Float) (ch n : ℕ) (ks : List ℕ) (l : 
   point-is w c h g = points .is w c h g ∙ rw (point-rows pts ch n (getD ks w 0) (kept w h)) (sym (at-row pts ch (getD ks w 0) c g))
 
   column-is : (c : ℕ) → c < ch → columnOf fps ch m c ≡ map (λ (p : List Float). at p c) (map (pointOf (rowsOf pts ch n)) ks)
-  column-is c g = upto-map (λ (p : List Float). at p c) (map (pointOf (rowsOf pts ch n)) ks) [] nan m (λ (w : ℕ). at fps (w * ch + c)) (count ∙ sym (length-map ks (pointOf (rowsOf pts ch n)))) (λ w h.
+  column-is c g =
+      let picked = pointOf (rowsOf pts ch n) in
+      upto-map (λ (p : List Float). at p c) (map picked ks) [] nan m (λ (w : ℕ). at fps (w * ch + c)) (count ∙ sym (length-map ks picked)) (λ w h.
       point-is w c h g ∙ ap (λ (p : List Float). at p c) (sym (at-map (pointOf (rowsOf pts ch n)) ks w 0 [] (omega arith))))
 
-  bend-is : (c w : ℕ) → c < ch → w < m → slopeOf cubic (map (at ts) ks) (map (λ (p : List Float). at p c) (map (pointOf (rowsOf pts ch n)) ks)) (length ks) w ≡ at slopes (c * m + w)
+  bend-is : (c w : ℕ) → c < ch → w < m
+      → slopeOf cubic (map (at ts) ks) (map (λ (p : List Float). at p c) (map (pointOf (rowsOf pts ch n)) ks)) (length ks) w ≡ at slopes (c * m + w)
   bend-is c w g h = rw (← column-is c g, ← times-are, ← count) (sym (bends .is c w g h))
 
   row-is : (w : ℕ) → w < m → pointOf (rowsOf pts ch n) (getD ks w 0) ≡ row fps ch w
@@ -115,6 +119,10 @@ pub record FitRoom (pts ts fts fps slopes : List Float) (n ch : ℕ) : Type 0 wh
   pub times : n ≤ length fts
   pub points : n * ch ≤ length fps
   pub bends : ch * n ≤ length slopes
+
+-- the slices hold the fit through the points ks
+abbrev pub Gathered : Bool → List Float → ℕ → ℕ → List Float → List ℕ → List Float → List Float → List Float → Type 0
+Gathered cubic pts ch n ts ks fts fps slopes = FitHeld (fitOf cubic (rowsOf pts ch n) ts ks) fts fps slopes (length ks) ch
 
 -- m knots are kept, and where they are two or more the slices hold the fit
 pub record FitReady (cubic : Bool) (pts : List (List Float)) (ts : List Float) (n ch : ℕ) (fts fps slopes : List Float) (m : ℕ) : Type 0 where

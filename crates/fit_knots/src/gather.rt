@@ -7,14 +7,12 @@ ghost use mathlib.Core.Path.{_≡_};
 ghost use Prim.Native.Nat.{ℕ, _≤_, _<_, _+_, _*_};
 ghost use lib.ListN.{length};
 ghost use Rattle.floats.specs.Numbers.{at};
-ghost use Rattle.floats.specs.Lists.{filled, rowsOf};
+ghost use Rattle.floats.specs.Lists.{filled};
 ghost use Rattle.curve_metric.specs.Below.{Below};
 ghost use Rattle.layout.specs.Layout.{mostPoints};
 ghost use Rattle.fit_slopes.specs.Sizes.{smallPoints};
 ghost use Rattle.fit_knots.specs.Blocks.{Block, Blocks};
-ghost use Rattle.fit_knots.specs.Fit.{fitOf};
-ghost use Rattle.fit_knots.specs.Memory.{FitHeld};
-ghost use Rattle.fit_knots.specs.Prepare.{slopeOf, timeAt, numberAt, channelAt, TimesRise, FitRoom};
+ghost use Rattle.fit_knots.specs.Prepare.{slopeOf, timeAt, numberAt, channelAt, TimesRise, FitRoom, Gathered};
 
 // Row i of `from` becomes row w of `out`, of n numbers each.
 fn copy_row(from: &[f64], i: usize, n: usize, out: &mut [f64], w: usize)
@@ -173,7 +171,7 @@ pub fn gather(
     requires { ⌜ Below (now ks) n ⌝ }
     requires { ⌜ (2 ≤ length (now ks)) × (length (now ks) ≤ n) ⌝ }
     requires { ⌜ TimesRise (now ts) (now ks) ⌝ }
-    ensures { λ _. ⌜ FitHeld (fitOf cubic (rowsOf (now (pts .entry)) ch n) (now (ts .entry)) (now (ks .entry))) (now (fts .exit)) (now (fps .exit)) (now (slopes .exit)) (length (now (ks .entry))) ch ⌝ }
+    ensures { λ _. ⌜ Gathered cubic (now (pts .entry)) ch n (now (ts .entry)) (now (ks .entry)) (now (fts .exit)) (now (fps .exit)) (now (slopes .exit)) ⌝ }
 {
     let m = ks.len();
     gather_times(ts, ks, fts);

@@ -77,7 +77,8 @@ module _ (ts : List Float) (n : ℕ) (t : Float) where
 
   -- w is the piece that t lies in
   pub piece-named : Rising ts n → (w : ℕ) → w + 1 < n → (0 < w → le t (at ts w) ≡ false) → (w + 2 ≡ n) ⊎ (le t (at ts (w + 1)) ≡ true) → w ≡ pieceOf ts n t
-  piece-named rise w h before stops = narrowed-end {lo = w} {hi = w} (record { order = omega arith; inside = omega arith; passed = passed; stops = stops }) (omega arith)
+  piece-named rise w h before stops =
+      narrowed-end {lo = w} {hi = w} (record { order = omega arith; inside = omega arith; passed = passed; stops = stops }) (omega arith)
     where
       passed : (k : ℕ) → k < w → le t (at ts (k + 1)) ≡ false
       passed k l =
@@ -86,7 +87,8 @@ module _ (ts : List Float) (n : ℕ) (t : Float) where
 
 -- ---- one channel
 module _ (b : Blend) (fps slopes : List Float) (m ch w c : ℕ) where
-  pub channel-in : {y a z k r : Float} → c < ch → y ≡ at fps (w * ch + c) → a ≡ at slopes (c * m + w) → z ≡ at fps ((w + 1) * ch + c) → k ≡ at slopes (c * m + (w + 1))
+  pub channel-in : {y a z k r : Float} → c < ch
+      → y ≡ at fps (w * ch + c) → a ≡ at slopes (c * m + w) → z ≡ at fps ((w + 1) * ch + c) → k ≡ at slopes (c * m + (w + 1))
       → r ≡ blendOf b y a z k → r ≡ channelOf b fps slopes m ch w c
   unfolding channelOf
   channel-in h ey ea ez ek er = rw (er, ey, ea, ez, ek, lt-ltb c ch h)
@@ -96,7 +98,8 @@ module _ (b : Blend) (fps slopes : List Float) (m ch w c : ℕ) where
   channel-out h = rw (le-ltb c ch h)
 
 -- ---- all of them
-module _ (fts fps slopes : List Float) (m ch : ℕ) (t : Float) {w : ℕ} {h s : Float} {b : Blend} (ew : w ≡ pieceOf fts m t) (eh : h ≡ step fts w) (es : s ≡ heldIn f0 f1 ((t ⊖ at fts w) ⊘ h)) (eb : BlendIs s h b) where
+module _ (fts fps slopes : List Float) (m ch : ℕ) (t : Float) {w : ℕ} {h s : Float} {b : Blend}
+    (ew : w ≡ pieceOf fts m t) (eh : h ≡ step fts w) (es : s ≡ heldIn f0 f1 ((t ⊖ at fts w) ⊘ h)) (eb : BlendIs s h b) where
   blended-is : (c : ℕ) → c < ch → channelOf b fps slopes m ch w c ≡ fitAt fts fps slopes m ch t c
   unfolding channelOf fitAt pieceAt
   blended-is c l = rw (lt-ltb c ch l, eb .first, eb .rise, eb .last, eb .fall, es, eh, ew)

@@ -19,7 +19,8 @@ akimaOf m1 m2 m3 m4 =
     let w2 = absOf (m2 ⊖ m1) in
     cond (lt 1e-12 (w1 ⊕ w2)) ((w1 ⊗ m2 ⊕ w2 ⊗ m3) ⊘ (w1 ⊕ w2)) (f½ ⊗ (m2 ⊕ m3))
 
-pub akima-of : (m : List Float) (i : ℕ) {m1 m2 m3 m4 : Float} → m1 ≡ at m i → m2 ≡ at m (i + 1) → m3 ≡ at m (i + 2) → m4 ≡ at m (i + 3) → akimaOf m1 m2 m3 m4 ≡ akimaAt m i
+pub akima-of : (m : List Float) (i : ℕ) {m1 m2 m3 m4 : Float}
+    → m1 ≡ at m i → m2 ≡ at m (i + 1) → m3 ≡ at m (i + 2) → m4 ≡ at m (i + 3) → akimaOf m1 m2 m3 m4 ≡ akimaAt m i
 unfolding akimaOf akimaAt
 akima-of m i e1 e2 e3 e4 = rw (e1, e2, e3, e4)
 
@@ -63,7 +64,9 @@ module _ (ts ys : List Float) (n : ℕ) where
 
   at-end : (k : ℕ) → at ends k ≡ at (widened ts ys n) (suc (suc (n - 1 + k)))
   unfolding widened ends
-  at-end k = sym (ap (λ (l : ℕ). at (upto (secant ts ys) (n - 1) ++ ends) (l + k)) (sym (length-upto (secant ts ys) (n - 1))) ∙ getD-append-add (upto (secant ts ys) (n - 1)) ends k nan)
+  at-end k =
+      let steps = upto (secant ts ys) (n - 1) in
+      sym (ap (λ (l : ℕ). at (steps ++ ends) (l + k)) (sym (length-upto (secant ts ys) (n - 1))) ∙ getD-append-add steps ends k nan)
 
   pub wide-behind : (i : ℕ) {z : Float} → 1 ≤ n → i ≡ n + 1 → z ≡ behind ts ys n → z ≡ at (widened ts ys n) i
   unfolding ends

@@ -7,7 +7,7 @@ use lib.Ieee.{Float, lt}
 use Rattle.floats.specs.Numbers.{_⊕_, _⊖_, _⊗_, _⊘_, f0, f½, f1, f2, f6, 1e-12, absOf, at}
 use Rattle.floats.specs.Lists.{upto}
 
--- ---- "ASPLINE, CSPLINE: slopes as in 000": the step after i, and the slope over it
+-- ---- the step after i, and the slope over it
 abbrev pub step : List Float → ℕ → Float
 step ts i = at ts (i + 1) ⊖ at ts i
 

@@ -44,4 +44,5 @@ field-test r h =
 -- the test says of the bits what the number is
 pub finite-bits : (b : ℕ) → finite (num b) ≡ finiteBits b
 unfolding finiteBits ofBits
-finite-bits b = fields-finite (leb (top binary64) b) (b % top binary64 / hid binary64) (b % hid binary64) ∙ field-test (b % 0x8000000000000000) (mod-lt b (zero-lt-suc _))
+finite-bits b = fields-finite (leb (top binary64) b) (b % top binary64 / hid binary64) (b % hid binary64)
+    ∙ field-test (b % 0x8000000000000000) (mod-lt b (zero-lt-suc _))

@@ -1,6 +1,6 @@
 // Numbers and their bits, with nothing asked of either, and their sizes.
 ghost use mathlib.Core.Path.{_≡_};
-ghost use Rattle.floats.specs.Numbers.{absOf, heldIn};
+ghost use Rattle.floats.specs.Numbers.{absOf, largerOf, heldIn};
 ghost use Rattle.floats.specs.Words.{finiteBits};
 ghost use lib.Ieee as Ieee;
 ghost use lib.Ieee.{binary64};
@@ -41,6 +41,12 @@ pub fn abs(x: f64) -> f64
     ensures { λ r. ⌜ r ≡ absOf x ⌝ }
 {
     if x > 0.0 { x } else { 0.0 - x }
+}
+
+pub fn larger(x: f64, y: f64) -> f64
+    ensures { λ r. ⌜ r ≡ largerOf x y ⌝ }
+{
+    if x < y { y } else { x }
 }
 
 // x held between lo and hi.

@@ -1,6 +1,7 @@
 // Sine, cosine, arc cosine, two-argument arc tangent: the step lists of docs/TRIG.md.
 ghost use mathlib.Core.Path.{_≡_};
-ghost use Rattle.trig.specs.Trig.{sinOf, cosOf, sinTurned, cosTurned, sinSteps, cosSteps, atanFrom, atanRight, atanLeft, atanUp, atan2Steps, acosSteps, euclid};
+ghost use Rattle.trig.specs.Trig.{sinOf, cosOf, sinTurned, cosTurned, sinSteps, cosSteps, atanFrom, atanRight, atanLeft, atanUp};
+ghost use Rattle.trig.specs.Trig.{atan2Steps, acosSteps, euclid};
 
 const TWO_OVER_PI: f64 = 0.6366197723675814;
 

@@ -30,7 +30,7 @@ returns-2 c =
 
 returns-3 : tie.Need-returns-3
 unfolding turned
-returns-3 c = rw ((c .enum-told .given .1))
+returns-3 c = rw (c .enum-told .given .1)
 
 pub turned-spec : {M : Type 1} → statement M
 turned-spec =

@@ -26,14 +26,26 @@ unfolding holds
 returns-3 c =
     let if1 = c .before .before .before .if1 in
     let programs = c .before .before .before .before .programs in
-    rw (← (programs .ensures), not-false (programs .result) (if1 .left), ← (c .before .before .has-bit .ensures), (c .before .if2 .left), eq-eqb _ _ (c .if3 .taken))
+    rw (
+      ← (programs .ensures),
+      not-false (programs .result) (if1 .left),
+      ← (c .before .before .has-bit .ensures),
+      (c .before .if2 .left),
+      eq-eqb _ _ (c .if3 .taken),
+    )
 
 returns-4 : tie.Need-returns-4
 unfolding holds
 returns-4 c =
     let if1 = c .before .before .before .if1 in
     let programs = c .before .before .before .before .programs in
-    rw (← (programs .ensures), not-false (programs .result) (if1 .left), ← (c .before .before .has-bit .ensures), (c .before .if2 .left), ne-eqb _ _ (c .if3 .left))
+    rw (
+      ← (programs .ensures),
+      not-false (programs .result) (if1 .left),
+      ← (c .before .before .has-bit .ensures),
+      (c .before .if2 .left),
+      ne-eqb _ _ (c .if3 .left),
+    )
 
 pub holds-end-spec : {M : Type 1} → statement M
 holds-end-spec =

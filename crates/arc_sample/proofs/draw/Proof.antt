@@ -50,7 +50,15 @@ put-mid-rows-requires c κs =
     let back = c .before .before .before .before .before .before .before .before .before .before .before .before in
     let plane-u = back .plane-u in
     let pre = back .before .before .before .before .pre in
-    (record { room = pre .room; some = pre .some; long = pre .long; axes = pre .axes; shows = subst (λ (m : ℕ). m < 2 ^ axisCodes) (sym (drawn-axes .ensures)) (mask-lt _ axisCodes); onU = omega (arith, (plane-u .ensures) .1); onV = omega (arith, (plane-v .ensures) .1) }, (ap length (put-starts .ensures) ∙ length-upto _ axisCodes, ap length (put-spans .ensures) ∙ length-upto _ axisCodes))
+    let shows = subst (λ (m : ℕ). m < 2 ^ axisCodes) (sym (drawn-axes .ensures)) (mask-lt _ axisCodes) in
+    let from = ap length (put-starts .ensures) ∙ length-upto _ axisCodes in
+    let by = ap length (put-spans .ensures) ∙ length-upto _ axisCodes in (
+      (
+        record { long = pre .long; axes = pre .axes; shows = shows; onU = omega (arith, plane-u .ensures .1); onV = omega (arith, plane-v .ensures .1) },
+        record { from = from; by = by },
+      ),
+      (pre .some, pre .room),
+    )
 
 put-last-row-requires : tie.Need-put-last-row-requires
 put-last-row-requires c κs =
@@ -60,7 +68,10 @@ put-last-row-requires c κs =
     let plane-v = back .before .before .before .plane-v in
     let plane-u = back .before .before .before .before .plane-u in
     let pre = back .before .before .before .before .before .before .before .before .pre in
-    record { room = omega (arith, (put-mid-rows .ensures) .same, (put-mid-rows .ensures) .ends, pre .room, pre .some); long = pre .long; axes = pre .axes; shows = subst (λ (m : ℕ). m < 2 ^ axisCodes) (sym (drawn-axes .ensures)) (mask-lt _ axisCodes); onU = omega (arith, (plane-u .ensures) .1); onV = omega (arith, (plane-v .ensures) .1) }
+    let shows = subst (λ (m : ℕ). m < 2 ^ axisCodes) (sym (drawn-axes .ensures)) (mask-lt _ axisCodes) in (
+      record { long = pre .long; axes = pre .axes; shows = shows; onU = omega (arith, plane-u .ensures .1); onV = omega (arith, plane-v .ensures .1) },
+      omega (arith, put-mid-rows .ensures .same, put-mid-rows .ensures .ends, pre .room, pre .some),
+    )
 
 same-length : tie.Need-same-length
 same-length c = search needs
@@ -75,9 +86,10 @@ returns c =
     let plane-v = back .before .before .before .before .before .before .plane-v in
     let plane-u = back .before .before .before .before .before .before .before .plane-u in
     let pre = back .before .before .before .before .before .before .before .before .before .before .before .pre in
-    let hu : (plane-u .result) < axisCodes = omega (arith, (plane-u .ensures) .1) in
-    let hv : (plane-v .result) < axisCodes = omega (arith, (plane-v .ensures) .1) in
-    drawn-rows _ (pre .axes) _ _ _ hu hv _ ((plane-u .ensures) .0) ((plane-v .ensures) .0) _ _ _ (put-starts .ensures) (put-spans .ensures) _ (pre .some) (drawn-axes .ensures) refl (pre .room) (put-mid-rows .ensures) (c .before .before .put-last-row .ensures)
+    let hu : plane-u .result < axisCodes = omega (arith, plane-u .ensures .1) in
+    let hv : plane-v .result < axisCodes = omega (arith, plane-v .ensures .1) in
+    drawn-rows _ (pre .axes) _ _ _ hu hv _ (plane-u .ensures .0) (plane-v .ensures .0) _ _ _ (put-starts .ensures) (put-spans .ensures) _ (pre .some)
+    (drawn-axes .ensures) refl (pre .room) (put-mid-rows .ensures) (c .before .before .put-last-row .ensures)
 
 pub draw-spec : {M : Type 1} → statement M
 draw-spec =

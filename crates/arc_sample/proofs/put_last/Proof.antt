@@ -1,5 +1,5 @@
 -- `arc_sample::put_last` meets its contract. Assumes nothing.
-use Rattle.arc_sample.specs.Draw.{lastWord}
+use Rattle.arc_sample.specs.Drawn.{lastWord}
 use Rattle.arc_sample.proofs.Words.{two-upto}
 use borrow.Author.Needs.{needs}
 use Rattle.arc_sample.proofs.put_last.Statement.{statement}

@@ -3,7 +3,7 @@ use mathlib.Core.Path.{ap, _∙_}
 use native.Mathlib.Omega.{arith}
 use lib.ListN.{length-set}
 use Rattle.floats.specs.Numbers.{bits}
-use Rattle.arc_sample.specs.Draw.{sampleWord}
+use Rattle.arc_sample.specs.Drawn.{sampleWord}
 use Rattle.arc_sample.proofs.Words.{two-upto}
 use borrow.Author.Needs.{needs}
 use Rattle.arc_sample.proofs.put_sample.Statement.{statement}
@@ -42,7 +42,9 @@ returns c =
     let sample = c .before .before .sample in
     let put-ramps = c .before .before .before .before .before .put-ramps in
     let pre = c .before .before .before .before .before .before .before .before .before .before .pre in
-    two-upto _ (put-ramps .ensures) (pre .onU) (pre .onV) ((c .bits2 .ensures) ∙ ap bits ((sample .ensures) .u)) ((c .before .bits .ensures) ∙ ap bits ((sample .ensures) .v))
+    let onU = (c .bits2 .ensures) ∙ ap bits (sample .ensures .u) in
+    let onV = (c .before .bits .ensures) ∙ ap bits (sample .ensures .v) in
+    two-upto _ (put-ramps .ensures) (pre .onU) (pre .onV) onU onV
 
 pub put-sample-spec : {M : Type 1} → statement M
 put-sample-spec =

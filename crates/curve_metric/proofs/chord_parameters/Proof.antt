@@ -19,7 +19,9 @@ abbrev μ-loop : tie.MeasureT-loop
 μ-loop pts ch ms n out₀ t₀ at₀ k₀ out t at k = n - k
 
 -- this row and the next lie within the points
-room : (c : tie.In-loop Inv-loop μ-loop) → c .before .loop .at + c .before .before .before .before .before .args .ch + c .before .before .before .before .before .args .ch ≤ length (c .before .before .before .before .before .args .pts .now)
+room : (c : tie.In-loop Inv-loop μ-loop) →
+    let args = c .before .before .before .before .before .args in
+    c .before .loop .at + args .ch + args .ch ≤ length (args .pts .now)
 room c =
     let start = c .before .before .before .before .before in
     two-rows _ (start .args .n) _ _ _ (c .loop-test .taken) (start .pre .1 .1 .0) (c .before .loop .inv .1 .0)

@@ -30,7 +30,8 @@ returns c =
     let toward3 = c .before .before .before .before .before .before .before .toward3 in
     let toward2 = c .before .before .before .before .before .before .before .before .toward2 in
     let toward = c .before .before .before .before .before .before .before .before .before .toward in
-    rw (c .missed3 .ensures, c .before .missed2 .ensures, c .before .before .missed .ensures, foot-of .ensures, toward3 .ensures, toward2 .ensures, toward .ensures)
+    let missed = c .before .before .missed in
+    rw (c .missed3 .ensures, c .before .missed2 .ensures, missed .ensures, foot-of .ensures, toward3 .ensures, toward2 .ensures, toward .ensures)
 
 pub deviation-three-spec : {M : Type 1} → statement M
 deviation-three-spec =

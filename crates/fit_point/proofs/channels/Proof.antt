@@ -59,20 +59,24 @@ channel-at-requires-16 c κs =
 
 returns : tie.Need-returns
 returns c =
-    let channel-at13 = c .before .before .before .channel-at13 in
-    let channel-at12 = c .before .before .before .before .channel-at12 in
-    let channel-at11 = c .before .before .before .before .before .channel-at11 in
-    let channel-at10 = c .before .before .before .before .before .before .channel-at10 in
-    let channel-at9 = c .before .before .before .before .before .before .before .channel-at9 in
-    let channel-at8 = c .before .before .before .before .before .before .before .before .channel-at8 in
-    let channel-at7 = c .before .before .before .before .before .before .before .before .before .channel-at7 in
-    let channel-at6 = c .before .before .before .before .before .before .before .before .before .before .channel-at6 in
-    let channel-at5 = c .before .before .before .before .before .before .before .before .before .before .before .channel-at5 in
-    let channel-at4 = c .before .before .before .before .before .before .before .before .before .before .before .before .channel-at4 in
-    let channel-at3 = c .before .before .before .before .before .before .before .before .before .before .before .before .before .channel-at3 in
-    let channel-at2 = c .before .before .before .before .before .before .before .before .before .before .before .before .before .before .channel-at2 in
-    let channel-at = c .before .before .before .before .before .before .before .before .before .before .before .before .before .before .before .channel-at in
-    written _ (channel-at .ensures) (channel-at2 .ensures) (channel-at3 .ensures) (channel-at4 .ensures) (channel-at5 .ensures) (channel-at6 .ensures) (channel-at7 .ensures) (channel-at8 .ensures) (channel-at9 .ensures) (channel-at10 .ensures) (channel-at11 .ensures) (channel-at12 .ensures) (channel-at13 .ensures) (c .before .before .channel-at14 .ensures) (c .before .channel-at15 .ensures) (c .channel-at16 .ensures)
+    let e15 = c .channel-at16 .ensures in
+    let e14 = c .before .channel-at15 .ensures in
+    let e13 = c .before .before .channel-at14 .ensures in
+    let e12 = c .before .before .before .channel-at13 .ensures in
+    let e11 = c .before .before .before .before .channel-at12 .ensures in
+    let e10 = c .before .before .before .before .before .channel-at11 .ensures in
+    let e9 = c .before .before .before .before .before .before .channel-at10 .ensures in
+    let e8 = c .before .before .before .before .before .before .before .channel-at9 .ensures in
+    let half = c .before .before .before .before .before .before .before .before in
+    let e7 = half .channel-at8 .ensures in
+    let e6 = half .before .channel-at7 .ensures in
+    let e5 = half .before .before .channel-at6 .ensures in
+    let e4 = half .before .before .before .channel-at5 .ensures in
+    let e3 = half .before .before .before .before .channel-at4 .ensures in
+    let e2 = half .before .before .before .before .before .channel-at3 .ensures in
+    let e1 = half .before .before .before .before .before .before .channel-at2 .ensures in
+    let e0 = half .before .before .before .before .before .before .before .channel-at .ensures in
+    written _ e0 e1 e2 e3 e4 e5 e6 e7 e8 e9 e10 e11 e12 e13 e14 e15
 
 pub channels-spec : {M : Type 1} → statement M
 channels-spec =

@@ -30,7 +30,9 @@ returns c =
     let step-at = c .before .before .before .before .step-at in
     let piece-near = c .before .before .before .before .before .piece-near in
     let pre = c .before .before .before .before .before .before .before .before .before .pre in
-    fit-is _ _ _ _ _ _ (piece-near .ensures .0) (step-at .ensures) (c .before .before .held-in .ensures) (c .before .blend-at .ensures) (pre .narrow) (c .channels .ensures)
+    let held-in = c .before .before .held-in in
+    let blend-at = c .before .blend-at in
+    fit-is _ _ _ _ _ _ (piece-near .ensures .0) (step-at .ensures) (held-in .ensures) (blend-at .ensures) (pre .narrow) (c .channels .ensures)
 
 pub eval-fit-spec : {M : Type 1} → statement M
 eval-fit-spec =

@@ -23,7 +23,18 @@ returns : tie.Need-returns
 returns c =
     let share-at = c .before .before .before .share-at in
     let shares-in = c .before .before .before .before .shares-in in
-    record { low = (shares-in .ensures); first2 = (shares-in .ensures) .first2 (omega arith); first3 = (shares-in .ensures) .first3 (omega arith); first4 = share-at .ensures; second3 = (shares-in .ensures) .second3 (omega arith); second4 = c .before .before .share-at2 .ensures; third4 = c .before .share-at3 .ensures; fourth4 = c .share-at4 .ensures }
+    record {
+      low = (shares-in .ensures);
+      first2 = shares-in .ensures .first2 (omega arith);
+      first3 = shares-in .ensures .first3 (omega arith);
+      first4 =
+          share-at .ensures;
+      second3 = shares-in .ensures .second3 (omega arith);
+      second4 = c .before .before .share-at2 .ensures;
+      third4 =
+          c .before .share-at3 .ensures;
+      fourth4 = c .share-at4 .ensures;
+    }
 
 pub fourth-in-spec : {M : Type 1} → statement M
 fourth-in-spec =

@@ -39,28 +39,44 @@ fourth-at-requires-8 : tie.Need-fourth-at-requires-8
 fourth-at-requires-8 c κs = c .before .before .before .before .before .before .before .before .before .pre
 
 fourth-at-requires-9 : tie.Need-fourth-at-requires-9
-fourth-at-requires-9 c κs = c .before .before .before .before .before .before .before .before .before .before .pre
+fourth-at-requires-9 c κs =
+    let half = c .before .before .before .before .before .before .before .before in
+    half .before .before .pre
 
 fourth-at-requires-10 : tie.Need-fourth-at-requires-10
-fourth-at-requires-10 c κs = c .before .before .before .before .before .before .before .before .before .before .before .pre
+fourth-at-requires-10 c κs =
+    let half = c .before .before .before .before .before .before .before .before in
+    half .before .before .before .pre
 
 fourth-at-requires-11 : tie.Need-fourth-at-requires-11
-fourth-at-requires-11 c κs = c .before .before .before .before .before .before .before .before .before .before .before .before .pre
+fourth-at-requires-11 c κs =
+    let half = c .before .before .before .before .before .before .before .before in
+    half .before .before .before .before .pre
 
 fourth-at-requires-12 : tie.Need-fourth-at-requires-12
-fourth-at-requires-12 c κs = c .before .before .before .before .before .before .before .before .before .before .before .before .before .pre
+fourth-at-requires-12 c κs =
+    let half = c .before .before .before .before .before .before .before .before in
+    half .before .before .before .before .before .pre
 
 fourth-at-requires-13 : tie.Need-fourth-at-requires-13
-fourth-at-requires-13 c κs = c .before .before .before .before .before .before .before .before .before .before .before .before .before .before .pre
+fourth-at-requires-13 c κs =
+    let half = c .before .before .before .before .before .before .before .before in
+    half .before .before .before .before .before .before .pre
 
 fourth-at-requires-14 : tie.Need-fourth-at-requires-14
-fourth-at-requires-14 c κs = c .before .before .before .before .before .before .before .before .before .before .before .before .before .before .before .pre
+fourth-at-requires-14 c κs =
+    let half = c .before .before .before .before .before .before .before .before in
+    half .before .before .before .before .before .before .before .pre
 
 fourth-at-requires-15 : tie.Need-fourth-at-requires-15
-fourth-at-requires-15 c κs = c .before .before .before .before .before .before .before .before .before .before .before .before .before .before .before .before .pre
+fourth-at-requires-15 c κs =
+    let half = c .before .before .before .before .before .before .before .before in
+    half .before .before .before .before .before .before .before .before .pre
 
 fourth-at-requires-16 : tie.Need-fourth-at-requires-16
-fourth-at-requires-16 c κs = c .before .before .before .before .before .before .before .before .before .before .before .before .before .before .before .before .before .pre
+fourth-at-requires-16 c κs =
+    let half = c .before .before .before .before .before .before .before .before in
+    half .before .before .before .before .before .before .before .before .before .pre
 
 returns : tie.Need-returns
 returns c =
@@ -82,7 +98,8 @@ returns c =
     let e1 = half .before .before .before .before .before .before .fourth-at2 .ensures in
     let e0 = half .before .before .before .before .before .before .before .fourth-at .ensures in
     let values = written _ e0 e1 e2 e3 e4 e5 e6 e7 e8 e9 e10 e11 e12 e13 e14 e15 in
-    places-are _ _ (half .before .before .before .before .before .before .before .before .before .before .pre .1) (half .before .before .before .before .before .before .before .before .top-four .ensures) values
+    places-are _ _ (half .before .before .before .before .before .before .before .before .before .before .pre .1)
+    (half .before .before .before .before .before .before .before .before .top-four .ensures) values
 
 pub project-four-spec : {M : Type 1} → statement M
 project-four-spec =

@@ -39,28 +39,44 @@ third-at-requires-8 : tie.Need-third-at-requires-8
 third-at-requires-8 c κs = c .before .before .before .before .before .before .before .before .before .pre
 
 third-at-requires-9 : tie.Need-third-at-requires-9
-third-at-requires-9 c κs = c .before .before .before .before .before .before .before .before .before .before .pre
+third-at-requires-9 c κs =
+    let half = c .before .before .before .before .before .before .before .before in
+    half .before .before .pre
 
 third-at-requires-10 : tie.Need-third-at-requires-10
-third-at-requires-10 c κs = c .before .before .before .before .before .before .before .before .before .before .before .pre
+third-at-requires-10 c κs =
+    let half = c .before .before .before .before .before .before .before .before in
+    half .before .before .before .pre
 
 third-at-requires-11 : tie.Need-third-at-requires-11
-third-at-requires-11 c κs = c .before .before .before .before .before .before .before .before .before .before .before .before .pre
+third-at-requires-11 c κs =
+    let half = c .before .before .before .before .before .before .before .before in
+    half .before .before .before .before .pre
 
 third-at-requires-12 : tie.Need-third-at-requires-12
-third-at-requires-12 c κs = c .before .before .before .before .before .before .before .before .before .before .before .before .before .pre
+third-at-requires-12 c κs =
+    let half = c .before .before .before .before .before .before .before .before in
+    half .before .before .before .before .before .pre
 
 third-at-requires-13 : tie.Need-third-at-requires-13
-third-at-requires-13 c κs = c .before .before .before .before .before .before .before .before .before .before .before .before .before .before .pre
+third-at-requires-13 c κs =
+    let half = c .before .before .before .before .before .before .before .before in
+    half .before .before .before .before .before .before .pre
 
 third-at-requires-14 : tie.Need-third-at-requires-14
-third-at-requires-14 c κs = c .before .before .before .before .before .before .before .before .before .before .before .before .before .before .before .pre
+third-at-requires-14 c κs =
+    let half = c .before .before .before .before .before .before .before .before in
+    half .before .before .before .before .before .before .before .pre
 
 third-at-requires-15 : tie.Need-third-at-requires-15
-third-at-requires-15 c κs = c .before .before .before .before .before .before .before .before .before .before .before .before .before .before .before .before .pre
+third-at-requires-15 c κs =
+    let half = c .before .before .before .before .before .before .before .before in
+    half .before .before .before .before .before .before .before .before .pre
 
 third-at-requires-16 : tie.Need-third-at-requires-16
-third-at-requires-16 c κs = c .before .before .before .before .before .before .before .before .before .before .before .before .before .before .before .before .before .pre
+third-at-requires-16 c κs =
+    let half = c .before .before .before .before .before .before .before .before in
+    half .before .before .before .before .before .before .before .before .before .pre
 
 returns : tie.Need-returns
 returns c =
@@ -82,7 +98,8 @@ returns c =
     let e1 = half .before .before .before .before .before .before .third-at2 .ensures in
     let e0 = half .before .before .before .before .before .before .before .third-at .ensures in
     let values = written _ e0 e1 e2 e3 e4 e5 e6 e7 e8 e9 e10 e11 e12 e13 e14 e15 in
-    thirds-are _ _ _ _ _ (half .before .before .before .before .before .before .before .before .before .before .pre .1) (half .before .before .before .before .before .before .before .before .top-three .ensures) values
+    thirds-are _ _ _ _ _ (half .before .before .before .before .before .before .before .before .before .before .pre .1)
+    (half .before .before .before .before .before .before .before .before .top-three .ensures) values
 
 pub project-three-spec : {M : Type 1} → statement M
 project-three-spec =

@@ -34,8 +34,17 @@ loop-holds c = ((omega arith, (omega (arith, zero-mul (c .before .before .args .
 top-requires-2 : tie.Need-top-requires-2 Inv-loop μ-loop
 top-requires-2 c κs =
     let at-loop = c .before .loop in
-    let start = c .before .before .before .before in
-    (omega arith, (omega arith, omega (arith, source (at-loop .c) (start .args .ch + 1) (start .args .n) (start .args .from) (start .args .p + 1) (at-loop .a) _ (omega arith) ((start .pre) .1 .1) (omega arith) ((at-loop .inv) .0 .1 .0))))
+    let start = c .before .before .before .before in (
+      omega arith,
+      (
+        omega arith,
+        omega (
+          arith,
+          source (at-loop .c) (start .args .ch + 1) (start .args .n) (start .args .from) (start .args .p + 1)
+              (at-loop .a) _ (omega arith) (start .pre .1 .1) (omega arith) (at-loop .inv .0 .1 .0),
+        ),
+      ),
+    )
 
 mul-r : tie.Need-mul-r Inv-loop μ-loop
 mul-r c = search needs
@@ -47,7 +56,11 @@ add-a : tie.Need-add-a Inv-loop μ-loop
 add-a c =
     let at-loop = c .before .before .loop in
     let start = c .before .before .before .before .before in
-    omega (arith, source (at-loop .c + 1) (start .args .ch + 1) (start .args .n) (start .args .from) (start .args .p + 1) (at-loop .a + start .args .n) _ (omega arith) ((start .pre) .1 .1) (omega arith) (next-source _ _ _ _ ((at-loop .inv) .0 .1 .0)))
+    omega (
+      arith,
+      source (at-loop .c + 1) (start .args .ch + 1) (start .args .n) (start .args .from) (start .args .p + 1) (at-loop .a + start .args .n) _
+          (omega arith) (start .pre .1 .1) (omega arith) (next-source _ _ _ _ (at-loop .inv .0 .1 .0)),
+    )
 
 add-c : tie.Need-add-c Inv-loop μ-loop
 add-c c = search needs

@@ -9,7 +9,15 @@ share-at-requires c κs = search needs
 
 returns : tie.Need-returns
 returns c =
-    record { first1 = search needs; first2 = λ h. absurd (omega arith); first3 = λ h. absurd (omega arith); second2 = λ h. absurd (omega arith); second3 = λ h. absurd (omega arith); third3 = λ h. absurd (omega arith) }
+    record {
+      first1 = search needs;
+      first2 = λ h. absurd (omega arith);
+      first3 = λ h. absurd (omega arith);
+      second2 = λ h. absurd (omega arith);
+      second3 =
+          λ h. absurd (omega arith);
+      third3 = λ h. absurd (omega arith);
+    }
 
 share-at-requires-2 : tie.Need-share-at-requires-2
 share-at-requires-2 c κs = search needs
@@ -19,7 +27,15 @@ share-at-requires-3 c κs = search needs
 
 returns-2 : tie.Need-returns-2
 returns-2 c =
-    record { first1 = search needs; first2 = λ h. search needs; first3 = λ h. absurd (omega arith); second2 = λ h. search needs; second3 = λ h. absurd (omega arith); third3 = λ h. absurd (omega arith) }
+    record {
+      first1 = search needs;
+      first2 = λ h. search needs;
+      first3 = λ h. absurd (omega arith);
+      second2 = λ h. search needs;
+      second3 =
+          λ h. absurd (omega arith);
+      third3 = λ h. absurd (omega arith);
+    }
 
 share-at-requires-4 : tie.Need-share-at-requires-4
 share-at-requires-4 c κs = search needs

@@ -61,7 +61,8 @@ returns c =
     let mix2 = c .before .before .before .before .before .mix2 in
     let mix = c .before .before .before .before .before .before .before .mix in
     let args = c .before .before .before .before .before .before .before .before .before .before .before .args in
-    three-of (args .s) (args .x .now) (args .i) (mix .ensures) (mix2 .ensures) (mix3 .ensures) (c .before .before .mix4 .ensures) (c .before .mix5 .ensures) (c .mix6 .ensures)
+    three-of (args .s) (args .x .now) (args .i) (mix .ensures) (mix2 .ensures) (mix3 .ensures) (c .before .before .mix4 .ensures) (c .before .mix5 .ensures)
+    (c .mix6 .ensures)
 
 pub top-three-spec : {M : Type 1} → statement M
 top-three-spec =

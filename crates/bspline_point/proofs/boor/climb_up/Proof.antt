@@ -36,7 +36,7 @@ loop-again : tie.Need-loop-again Inv-loop μ-loop
 loop-again c =
     let loop-test = c .before .before .before .before .loop-test in
     let at-loop = c .before .before .before .before .before .loop in
-    (omega arith, climbed-more _ _ _ _ _ _ (add-one _) refl (loop-test .taken) ((at-loop .inv) .1) (c .before .before .raise-rows .ensures))
+    (omega arith, climbed-more _ _ _ _ _ _ (add-one _) refl (loop-test .taken) (at-loop .inv .1) (c .before .before .raise-rows .ensures))
 
 same-length : tie.Need-same-length Inv-loop μ-loop
 same-length c = (c .before .loop .inv) .1 .same

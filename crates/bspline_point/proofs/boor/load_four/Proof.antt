@@ -73,7 +73,8 @@ returns c =
     let args = c .before .before .before .before .before .before .args in
     let at-channel : ℕ → Float = λ (z : ℕ). at (args .cw .now) (min z (args .ch) * args .n + args .s) in
     let z : args .c ≡ args .c + 0 = omega arith in
-    four-put (λ (j : ℕ). at-channel (args .c + j)) (args .d .now) (args .i) (omega arith) (number-of .ensures ∙ ap at-channel z) (c .before .before .number-of2 .ensures) (c .before .number-of3 .ensures) (c .number-of4 .ensures)
+    four-put (λ (j : ℕ). at-channel (args .c + j)) (args .d .now) (args .i) (omega arith) (number-of .ensures ∙ ap at-channel z)
+    (c .before .before .number-of2 .ensures) (c .before .number-of3 .ensures) (c .number-of4 .ensures)
 
 pub load-four-spec : {M : Type 1} → statement M
 load-four-spec =

@@ -19,7 +19,8 @@ returns : tie.Need-returns
 returns c =
     let load-four = c .before .before .before .load-four in
     let start = c .before .before .before .before .before .before .before in
-    put-end (omega (arith, (start .pre) .1 .0 .some, (start .pre) .1 .0 .one (c .if1 .taken))) (put-first (λ (z : ℕ). at (start .args .cw .now) (min z (start .args .ch) * start .args .n + start .args .s)) (load-four .ensures))
+    put-end (omega (arith, start .pre .1 .0 .some, start .pre .1 .0 .one (c .if1 .taken)))
+    (put-first (λ (z : ℕ). at (start .args .cw .now) (min z (start .args .ch) * start .args .n + start .args .s)) (load-four .ensures))
 
 add-load-four : tie.Need-add-load-four
 add-load-four c = search needs
@@ -37,7 +38,8 @@ returns-2 c =
     let load-four = c .before .before .before .before .before .before .before .before .load-four in
     let start = c .before .before .before .before .before .before .before .before .before .before .before .before in
     let f : ℕ → Float = (λ (z : ℕ). at (start .args .cw .now) (min z (start .args .ch) * start .args .n + start .args .s)) in
-    put-end (omega (arith, if1 .left, (start .pre) .1 .0 .two (c .if2 .taken))) (put-join f (λ (j : ℕ). f (4 + j)) (put-first f (load-four .ensures)) refl (λ j h. refl) (load-four2 .ensures))
+    put-end (omega (arith, if1 .left, start .pre .1 .0 .two (c .if2 .taken)))
+    (put-join f (λ (j : ℕ). f (4 + j)) (put-first f (load-four .ensures)) refl (λ j h. refl) (load-four2 .ensures))
 
 add-load-four-2 : tie.Need-add-load-four-2
 add-load-four-2 c = search needs
@@ -56,7 +58,9 @@ returns-3 c =
     let load-four = back .load-four in
     let start = back .before .before .before .before in
     let f : ℕ → Float = (λ (z : ℕ). at (start .args .cw .now) (min z (start .args .ch) * start .args .n + start .args .s)) in
-    put-end (omega (arith, if2 .left, (start .pre) .1 .0 .few)) (put-join f (λ (j : ℕ). f (8 + j)) (put-join f (λ (j : ℕ). f (4 + j)) (put-first f (load-four .ensures)) refl (λ j h. refl) (load-four2 .ensures)) refl (λ j h. refl) (c .before .before .load-four3 .ensures))
+    put-end (omega (arith, if2 .left, start .pre .1 .0 .few))
+    (put-join f (λ (j : ℕ). f (8 + j)) (put-join f (λ (j : ℕ). f (4 + j)) (put-first f (load-four .ensures)) refl (λ j h. refl)
+    (load-four2 .ensures)) refl (λ j h. refl) (c .before .before .load-four3 .ensures))
 
 pub load-row-spec : {M : Type 1} → statement M
 load-row-spec =

@@ -29,14 +29,19 @@ sub-load-row c = search needs
 load-row-requires : tie.Need-load-row-requires Inv-loop μ-loop
 load-row-requires c κs =
     let at-loop = c .before .before .loop in
-    let start = c .before .before .before .before .before in
-    (((start .pre) .0 .0, omega arith), ((start .pre) .1 .0 .0, (omega (arith, within (at-loop .h) (start .args .p + 1) (start .args .wide) (at-loop .i) _ (omega arith) ((start .pre) .1 .1) ((at-loop .inv) .0 .1 .0)))))
+    let start = c .before .before .before .before .before in (
+      (start .pre .0 .0, omega arith),
+      (
+        start .pre .1 .0 .0,
+        (omega (arith, within (at-loop .h) (start .args .p + 1) (start .args .wide) (at-loop .i) _ (omega arith) (start .pre .1 .1) (at-loop .inv .0 .1 .0))),
+      ),
+    )
 
 add-i : tie.Need-add-i Inv-loop μ-loop
 add-i c =
     let at-loop = c .before .before .before .before .before .loop in
     let start = c .before .before .before .before .before .before .before .before in
-    omega (arith, within (at-loop .h) (start .args .p + 1) (start .args .wide) (at-loop .i) _ (omega arith) ((start .pre) .1 .1) ((at-loop .inv) .0 .1 .0))
+    omega (arith, within (at-loop .h) (start .args .p + 1) (start .args .wide) (at-loop .i) _ (omega arith) (start .pre .1 .1) (at-loop .inv .0 .1 .0))
 
 add-h : tie.Need-add-h Inv-loop μ-loop
 add-h c = search needs

@@ -14,23 +14,39 @@ held-requires c κs = search needs
 mul-result : tie.Need-mul-result
 mul-result c =
     let start = c .before .before in
-    omega (arith, source (c .held .result) (start .args .ch + 1) (start .args .n) (start .args .s) 1 _ _ (omega (arith, c .held .ensures)) ((start .pre) .0) (omega arith) refl)
+    omega (
+      arith,
+      source (c .held .result) (start .args .ch + 1) (start .args .n) (start .args .s) 1 _ _ (omega (arith, c .held .ensures)) (start .pre .0)
+          (omega arith) refl,
+    )
 
 add-result : tie.Need-add-result
 add-result c =
     let start = c .before .before in
-    omega (arith, source (c .held .result) (start .args .ch + 1) (start .args .n) (start .args .s) 1 _ _ (omega (arith, c .held .ensures)) ((start .pre) .0) (omega arith) refl)
+    omega (
+      arith,
+      source (c .held .result) (start .args .ch + 1) (start .args .n) (start .args .s) 1 _ _ (omega (arith, c .held .ensures)) (start .pre .0)
+          (omega arith) refl,
+    )
 
 mul-result-2 : tie.Need-mul-result-2
 mul-result-2 c =
     let start = c .before .before in
-    omega (arith, source (c .held .result) (start .args .ch + 1) (start .args .n) (start .args .s) 1 _ _ (omega (arith, c .held .ensures)) ((start .pre) .0) (omega arith) refl)
+    omega (
+      arith,
+      source (c .held .result) (start .args .ch + 1) (start .args .n) (start .args .s) 1 _ _ (omega (arith, c .held .ensures)) (start .pre .0)
+          (omega arith) refl,
+    )
 
 shared-slice-read-result : tie.Need-shared-slice-read-result
 shared-slice-read-result c =
     let held = c .before .held in
     let start = c .before .before .before in
-    omega (arith, source (held .result) (start .args .ch + 1) (start .args .n) (start .args .s) 1 _ _ (omega (arith, held .ensures)) ((start .pre) .0) (omega arith) refl)
+    omega (
+      arith,
+      source (held .result) (start .args .ch + 1) (start .args .n) (start .args .s) 1 _ _ (omega (arith, held .ensures)) (start .pre .0)
+          (omega arith) refl,
+    )
 
 returns : tie.Need-returns
 returns c =

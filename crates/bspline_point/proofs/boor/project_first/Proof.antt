@@ -37,28 +37,44 @@ first-at-requires-8 : tie.Need-first-at-requires-8
 first-at-requires-8 c κs = c .before .before .before .before .before .before .before .before .before .pre
 
 first-at-requires-9 : tie.Need-first-at-requires-9
-first-at-requires-9 c κs = c .before .before .before .before .before .before .before .before .before .before .pre
+first-at-requires-9 c κs =
+    let half = c .before .before .before .before .before .before .before .before in
+    half .before .before .pre
 
 first-at-requires-10 : tie.Need-first-at-requires-10
-first-at-requires-10 c κs = c .before .before .before .before .before .before .before .before .before .before .before .pre
+first-at-requires-10 c κs =
+    let half = c .before .before .before .before .before .before .before .before in
+    half .before .before .before .pre
 
 first-at-requires-11 : tie.Need-first-at-requires-11
-first-at-requires-11 c κs = c .before .before .before .before .before .before .before .before .before .before .before .before .pre
+first-at-requires-11 c κs =
+    let half = c .before .before .before .before .before .before .before .before in
+    half .before .before .before .before .pre
 
 first-at-requires-12 : tie.Need-first-at-requires-12
-first-at-requires-12 c κs = c .before .before .before .before .before .before .before .before .before .before .before .before .before .pre
+first-at-requires-12 c κs =
+    let half = c .before .before .before .before .before .before .before .before in
+    half .before .before .before .before .before .pre
 
 first-at-requires-13 : tie.Need-first-at-requires-13
-first-at-requires-13 c κs = c .before .before .before .before .before .before .before .before .before .before .before .before .before .before .pre
+first-at-requires-13 c κs =
+    let half = c .before .before .before .before .before .before .before .before in
+    half .before .before .before .before .before .before .pre
 
 first-at-requires-14 : tie.Need-first-at-requires-14
-first-at-requires-14 c κs = c .before .before .before .before .before .before .before .before .before .before .before .before .before .before .before .pre
+first-at-requires-14 c κs =
+    let half = c .before .before .before .before .before .before .before .before in
+    half .before .before .before .before .before .before .before .pre
 
 first-at-requires-15 : tie.Need-first-at-requires-15
-first-at-requires-15 c κs = c .before .before .before .before .before .before .before .before .before .before .before .before .before .before .before .before .pre
+first-at-requires-15 c κs =
+    let half = c .before .before .before .before .before .before .before .before in
+    half .before .before .before .before .before .before .before .before .pre
 
 first-at-requires-16 : tie.Need-first-at-requires-16
-first-at-requires-16 c κs = c .before .before .before .before .before .before .before .before .before .before .before .before .before .before .before .before .before .pre
+first-at-requires-16 c κs =
+    let half = c .before .before .before .before .before .before .before .before in
+    half .before .before .before .before .before .before .before .before .before .pre
 
 returns : tie.Need-returns
 returns c =

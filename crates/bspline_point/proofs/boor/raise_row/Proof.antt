@@ -50,7 +50,8 @@ returns-3 c =
     let raise-four2 = c .before .before .before .before .before .before .before .raise-four2 in
     let raise-four = c .before .before .before .before .before .before .before .before .before .before .before .before .raise-four in
     let pre = c .before .before .before .before .before .before .before .before .before .before .before .before .before .before .before .pre in
-    raised-end (omega (arith, if2 .left, pre .0 .few)) (raised-join (raised-join (raise-four .ensures) refl (raise-four2 .ensures)) refl (c .before .before .raise-four3 .ensures))
+    raised-end (omega (arith, if2 .left, pre .0 .few))
+    (raised-join (raised-join (raise-four .ensures) refl (raise-four2 .ensures)) refl (c .before .before .raise-four3 .ensures))
 
 pub raise-row-spec : {M : Type 1} → statement M
 raise-row-spec =

@@ -29,14 +29,25 @@ share-at-requires c κs = search needs
 raise-row-requires : tie.Need-raise-row-requires Inv-loop μ-loop
 raise-row-requires c κs =
     let at-loop = c .before .before .before .loop in
-    let start = c .before .before .before .before .before .before in
-    ((start .pre) .1 .0, omega (arith, (at-loop .inv) .1 .same, within (at-loop .h + 1) (start .args .p + 1) (start .args .wide) (at-loop .i + start .args .wide) _ (omega arith) ((start .pre) .1 .1 .1) (next-row _ _ _ ((at-loop .inv) .0 .1))))
+    let start = c .before .before .before .before .before .before in (
+      start .pre .1 .0,
+      omega (
+        arith,
+        at-loop .inv .1 .same,
+        within (at-loop .h + 1) (start .args .p + 1) (start .args .wide) (at-loop .i + start .args .wide) _ (omega arith) (start .pre .1 .1 .1)
+            (next-row _ _ _ (at-loop .inv .0 .1)),
+      ),
+    )
 
 add-i : tie.Need-add-i Inv-loop μ-loop
 add-i c =
     let at-loop = c .before .before .before .before .before .before .loop in
     let start = c .before .before .before .before .before .before .before .before .before in
-    omega (arith, within (at-loop .h + 1) (start .args .p + 1) (start .args .wide) (at-loop .i + start .args .wide) _ (omega arith) ((start .pre) .1 .1 .1) (next-row _ _ _ ((at-loop .inv) .0 .1)))
+    omega (
+      arith,
+      within (at-loop .h + 1) (start .args .p + 1) (start .args .wide) (at-loop .i + start .args .wide) _ (omega arith) (start .pre .1 .1 .1)
+          (next-row _ _ _ (at-loop .inv .0 .1)),
+    )
 
 add-h : tie.Need-add-h Inv-loop μ-loop
 add-h c = search needs

@@ -14,7 +14,7 @@ add-cells c = search needs
 mul-cells : tie.Need-mul-cells
 mul-cells c =
     let start = c .before .before .before in
-    omega (arith, cells-in (start .args .p) (c .row-width .result) (omega (arith, (start .pre) .under, (start .pre) .few)) (c .row-width .ensures .0 .few))
+    omega (arith, cells-in (start .args .p) (c .row-width .result) (omega (arith, start .pre .under, start .pre .few)) (c .row-width .ensures .0 .few))
 
 eval-few-requires : tie.Need-eval-few-requires
 eval-few-requires c κs = search needs

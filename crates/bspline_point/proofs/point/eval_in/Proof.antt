@@ -25,7 +25,7 @@ climb-up-requires c κs =
     let load-rows = c .before .before .before .load-rows in
     let span-of = c .before .before .before .before .before .span-of in
     let pre = c .before .before .before .before .before .before .before .before .before .before .before .pre in
-    ((omega arith, omega (arith, (span-of .ensures) .1, pre .0 .knots)), (pre .1 .0 .0, omega (arith, pre .1 .1, load-rows .kept .1 .1 .1 .1 .1 .1 .0)))
+    ((omega arith, omega (arith, span-of .ensures .1, pre .0 .knots)), (pre .1 .0 .0, omega (arith, pre .1 .1, load-rows .kept .1 .1 .1 .1 .1 .1 .0)))
 
 project-first-requires : tie.Need-project-first-requires
 project-first-requires c κs = search needs
@@ -41,7 +41,8 @@ returns c =
     let held-in = c .before .before .before .before .before .before .before .before .before .before .before .held-in in
     let back = c .before .before .before .before .before .before .before .before .before .before .before .before in
     let pre = back .before .before .before .before .pre in
-    eval-is _ _ _ _ _ _ _ (pre .0 .controls) ((span-of .ensures) .1 .0) ((span-of .ensures) .1 .1) (pre .1 .0 .1) (pre .0 .top) (held-in .ensures) ((span-of .ensures) .0) (load-rows .ensures) (climb-up .ensures) (c .project-first .ensures)
+    eval-is _ _ _ _ _ _ _ (pre .0 .controls) (span-of .ensures .1 .0) (span-of .ensures .1 .1) (pre .1 .0 .1) (pre .0 .top) (held-in .ensures)
+    (span-of .ensures .0) (load-rows .ensures) (climb-up .ensures) (c .project-first .ensures)
 
 pub eval-in-spec : {M : Type 1} → statement M
 eval-in-spec =

@@ -31,7 +31,8 @@ returns c =
     let span-of = c .before .before .before .span-of in
     let held-in = c .before .before .before .before .held-in in
     let pre = c .before .before .before .before .before .before .before .before .pre in
-    low-four _ _ _ _ _ _ _ (pre .0) (omega arith) (held-in .ensures) ((span-of .ensures) .0) ((span-of .ensures) .1 .0) ((span-of .ensures) .1 .1) (c .before .fourth-in .ensures) (c .project-four .ensures)
+    low-four _ _ _ _ _ _ _ (pre .0) (omega arith) (held-in .ensures) (span-of .ensures .0) (span-of .ensures .1 .0) (span-of .ensures .1 .1)
+    (c .before .fourth-in .ensures) (c .project-four .ensures)
 
 shares-in-requires : tie.Need-shares-in-requires
 shares-in-requires c κs = search needs
@@ -47,7 +48,8 @@ returns-2 c =
     let span-of = c .before .before .before .before .span-of in
     let held-in = c .before .before .before .before .before .held-in in
     let pre = c .before .before .before .before .before .before .before .before .before .pre in
-    low-three _ _ _ _ _ _ _ (pre .0) (omega arith) (held-in .ensures) ((span-of .ensures) .0) ((span-of .ensures) .1 .0) ((span-of .ensures) .1 .1) (c .before .before .shares-in .ensures) (c .project-three .ensures)
+    low-three _ _ _ _ _ _ _ (pre .0) (omega arith) (held-in .ensures) (span-of .ensures .0) (span-of .ensures .1 .0) (span-of .ensures .1 .1)
+    (c .before .before .shares-in .ensures) (c .project-three .ensures)
 
 sub-project-tops : tie.Need-sub-project-tops
 sub-project-tops c = search needs
@@ -60,7 +62,8 @@ returns-3 c =
     let span-of = c .before .before .before .before .span-of in
     let held-in = c .before .before .before .before .before .held-in in
     let pre = c .before .before .before .before .before .before .before .before .before .pre in
-    low-is _ _ _ _ _ _ _ (pre .0) (omega arith) (held-in .ensures) ((span-of .ensures) .0) ((span-of .ensures) .1 .0) ((span-of .ensures) .1 .1) (c .before .before .shares-in .ensures) (c .project-tops .ensures)
+    low-is _ _ _ _ _ _ _ (pre .0) (omega arith) (held-in .ensures) (span-of .ensures .0) (span-of .ensures .1 .0) (span-of .ensures .1 .1)
+    (c .before .before .shares-in .ensures) (c .project-tops .ensures)
 
 pub eval-low-spec : {M : Type 1} → statement M
 eval-low-spec =

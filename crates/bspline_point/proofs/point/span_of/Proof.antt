@@ -25,8 +25,10 @@ returns-2 : tie.Need-returns-2
 unfolding spanIn
 returns-2 c =
     let if1 = c .before .if1 in
-    let pre = c .before .before .pre in
-    (rw (← pre .1, (if1 .left), (c .trunc-count .ensures)), omega (arith, in-span _ _ _ _ (pre .0 .0) (pre .0 .1) (pre .1) (if1 .left), (c .trunc-count .ensures)))
+    let pre = c .before .before .pre in (
+      rw (← pre .1, (if1 .left), (c .trunc-count .ensures)),
+      omega (arith, in-span _ _ _ _ (pre .0 .0) (pre .0 .1) (pre .1) (if1 .left), (c .trunc-count .ensures)),
+    )
 
 pub span-of-spec : {M : Type 1} → statement M
 span-of-spec = tie.close (tie.spec sub-result returns trunc-count-requires add-result returns-2)

@@ -42,7 +42,7 @@ returns : tie.Need-returns Inv-loop μ-loop
 returns c =
     let at-loop = c .before .loop in
     let args = c .before .before .args in
-    let e : (at-loop .k) ≡ (args .p) = omega arith in (at-loop .inv) .1 ∙ ap (knotSum (args .ks .now) (args .i)) e
+    let e : (at-loop .k) ≡ (args .p) = omega arith in at-loop .inv .1 ∙ ap (knotSum (args .ks .now) (args .i)) e
 
 pub sum-knots-spec : {M : Type 1} → statement M
 sum-knots-spec =

@@ -24,13 +24,13 @@ mul-out : tie.Need-mul-out Inv-loop μ-loop
 mul-out c =
     let at-loop = c .before .loop in
     let pre = c .before .before .pre in
-    omega (arith, cell-in _ _ _ _ _ _ (c .loop-test .taken) ((at-loop .inv) .0 .1 .1) (pre .0 .0) (pre .1 .0) ((at-loop .inv) .0 .1 .0))
+    omega (arith, cell-in _ _ _ _ _ _ (c .loop-test .taken) (at-loop .inv .0 .1 .1) (pre .0 .0) (pre .1 .0) (at-loop .inv .0 .1 .0))
 
 shared-slice-read-out : tie.Need-shared-slice-read-out Inv-loop μ-loop
 shared-slice-read-out c =
     let at-loop = c .before .before .loop in
     let pre = c .before .before .before .pre in
-    omega (arith, cell-in _ _ _ _ _ _ (c .before .loop-test .taken) ((at-loop .inv) .0 .1 .1) (pre .0 .0) (pre .1 .0) ((at-loop .inv) .0 .1 .0))
+    omega (arith, cell-in _ _ _ _ _ _ (c .before .loop-test .taken) (at-loop .inv .0 .1 .1) (pre .0 .0) (pre .1 .0) (at-loop .inv .0 .1 .0))
 
 mul-out-2 : tie.Need-mul-out-2 Inv-loop μ-loop
 mul-out-2 c = search needs
@@ -48,7 +48,7 @@ add-x : tie.Need-add-x Inv-loop μ-loop
 add-x c =
     let at-loop = c .before .before .before .loop in
     let pre = c .before .before .before .before .pre in
-    omega (arith, cell-in _ _ _ _ _ _ (c .before .before .loop-test .taken) ((at-loop .inv) .0 .1 .1) (pre .0 .0) (pre .1 .0) ((at-loop .inv) .0 .1 .0))
+    omega (arith, cell-in _ _ _ _ _ _ (c .before .before .loop-test .taken) (at-loop .inv .0 .1 .1) (pre .0 .0) (pre .1 .0) (at-loop .inv .0 .1 .0))
 
 add-i : tie.Need-add-i Inv-loop μ-loop
 add-i c = search needs

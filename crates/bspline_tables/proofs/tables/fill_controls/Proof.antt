@@ -43,13 +43,14 @@ part-channel-end : tie.Need-part-channel-end Inv-loop μ-loop
 part-channel-end c =
     let at-loop = c .before .loop in
     let pre = c .before .before .before .before .before .pre in
-    omega (arith, (at-loop .inv) .1 .same, within _ _ _ _ _ (lift1 (c .loop-test .taken)) (pre .1 .1 .1) ((at-loop .inv) .0 .1))
+    omega (arith, at-loop .inv .1 .same, within _ _ _ _ _ (lift1 (c .loop-test .taken)) (pre .1 .1 .1) (at-loop .inv .0 .1))
 
 channel-requires : tie.Need-channel-requires Inv-loop μ-loop
 channel-requires c κs =
     let at-loop = c .before .before .loop in
     let pre = c .before .before .before .before .before .before .pre in
-    let s = part-length ((at-loop .inv) .1) (lift1 (c .before .loop-test .taken)) (pre .1 .1 .1) ((at-loop .inv) .0 .1) in (omega arith, (rw s (pre .1 .0), (rw s (pre .1 .1 .0), rw s (pre .0 .1))))
+    let s = part-length (at-loop .inv .1) (lift1 (c .before .loop-test .taken)) (pre .1 .1 .1) (at-loop .inv .0 .1) in
+    (omega arith, (rw s (pre .1 .0), (rw s (pre .1 .1 .0), rw s (pre .0 .1))))
 
 add-c : tie.Need-add-c Inv-loop μ-loop
 add-c c = search needs
@@ -63,14 +64,17 @@ loop-again c =
     let loop-test = c .before .before .before .before .loop-test in
     let at-loop = c .before .before .before .before .before .loop in
     let pre = c .before .before .before .before .before .before .before .before .before .pre in
-    let inv = (at-loop .inv) in let s = part-length ((at-loop .inv) .1) (lift1 (loop-test .taken)) (pre .1 .1 .1) ((at-loop .inv) .0 .1) in
-    ((omega arith, next-row _ _ _ (inv .0 .1)), rowing-put (inv .1) (lift1 (loop-test .taken)) (pre .1 .1 .1) (inv .0 .1) ((channel .kept .1 .1 .1 .1 .0)) ((channel .ensures) ∙ ap (upto _) s))
+    let inv = (at-loop .inv) in let s = part-length (at-loop .inv .1) (lift1 (loop-test .taken)) (pre .1 .1 .1) (at-loop .inv .0 .1) in (
+      (omega arith, next-row _ _ _ (inv .0 .1)),
+      rowing-put (inv .1) (lift1 (loop-test .taken)) (pre .1 .1 .1) (inv .0 .1) (channel .kept .1 .1 .1 .1 .0)
+          ((channel .ensures) ∙ ap (upto _) s),
+    )
 
 add-e-2 : tie.Need-add-e-2 Inv-loop μ-loop
 add-e-2 c =
     let at-loop = c .before .loop in
     let start = c .before .before .before .before .before in
-    omega (arith, within (at-loop .c) ((start .args .ch) + 1) _ _ _ (omega arith) ((start .pre) .1 .1 .1) ((at-loop .inv) .0 .1))
+    omega (arith, within (at-loop .c) ((start .args .ch) + 1) _ _ _ (omega arith) (start .pre .1 .1 .1) (at-loop .inv .0 .1))
 
 slice-aggregate-copy : tie.Need-slice-aggregate-copy Inv-loop μ-loop
 slice-aggregate-copy c = sym (length-take-le _ _ ((c .before .before .before .before .before .before .pre) .1 .1 .0))
@@ -79,7 +83,7 @@ mul-copy : tie.Need-mul-copy Inv-loop μ-loop
 mul-copy c =
     let at-loop = c .before .before .loop in
     let start = c .before .before .before .before .before .before in
-    omega (arith, within (at-loop .c) ((start .args .ch) + 1) _ _ _ (omega arith) ((start .pre) .1 .1 .1) ((at-loop .inv) .0 .1))
+    omega (arith, within (at-loop .c) ((start .args .ch) + 1) _ _ _ (omega arith) (start .pre .1 .1 .1) (at-loop .inv .0 .1))
 
 sub-copy : tie.Need-sub-copy Inv-loop μ-loop
 sub-copy c = search needs
@@ -91,27 +95,29 @@ part-copy-end : tie.Need-part-copy-end Inv-loop μ-loop
 part-copy-end c =
     let at-loop = c .before .before .loop in
     let start = c .before .before .before .before .before .before in
-    omega (arith, (at-loop .inv) .1 .same, within (at-loop .c) ((start .args .ch) + 1) _ _ _ (omega arith) ((start .pre) .1 .1 .1) ((at-loop .inv) .0 .1))
+    omega (arith, at-loop .inv .1 .same, within (at-loop .c) ((start .args .ch) + 1) _ _ _ (omega arith) (start .pre .1 .1 .1) (at-loop .inv .0 .1))
 
 copy-requires : tie.Need-copy-requires Inv-loop μ-loop
 copy-requires c κs =
     let at-loop = c .before .before .before .loop in
     let pre = c .before .before .before .before .before .before .before .pre in
-    length-take-le _ _ (pre .1 .1 .0) ∙ sym (part-length ((at-loop .inv) .1) (omega arith) (pre .1 .1 .1) ((at-loop .inv) .0 .1))
+    length-take-le _ _ (pre .1 .1 .0) ∙ sym (part-length (at-loop .inv .1) (omega arith) (pre .1 .1 .1) (at-loop .inv .0 .1))
 
 same-length : tie.Need-same-length Inv-loop μ-loop
 same-length c =
     let copy = c .before .before .copy in
     let at-loop = c .before .before .before .before .before .before .loop in
     let pre = c .before .before .before .before .before .before .before .before .before .before .pre in
-    (rowing-put ((at-loop .inv) .1) (omega arith) (pre .1 .1 .1) ((at-loop .inv) .0 .1) ((copy .kept .1 .0)) ((copy .ensures) ∙ weights-are _ _ _ _ _ (omega arith) (pre .1 .1 .0))) .same
+    (rowing-put (at-loop .inv .1) (omega arith) (pre .1 .1 .1) (at-loop .inv .0 .1) (copy .kept .1 .0)
+    ((copy .ensures) ∙ weights-are _ _ _ _ _ (omega arith) (pre .1 .1 .0))) .same
 
 returns : tie.Need-returns Inv-loop μ-loop
 returns c =
     let copy = c .before .before .copy in
     let at-loop = c .before .before .before .before .before .before .loop in
     let pre = c .before .before .before .before .before .before .before .before .before .before .pre in
-    rowing-all (rowing-put ((at-loop .inv) .1) (omega arith) (pre .1 .1 .1) ((at-loop .inv) .0 .1) ((copy .kept .1 .0)) ((copy .ensures) ∙ weights-are _ _ _ _ _ (omega arith) (pre .1 .1 .0))) (omega arith)
+    rowing-all (rowing-put (at-loop .inv .1) (omega arith) (pre .1 .1 .1) (at-loop .inv .0 .1) (copy .kept .1 .0)
+    ((copy .ensures) ∙ weights-are _ _ _ _ _ (omega arith) (pre .1 .1 .0))) (omega arith)
 
 pub fill-controls-spec : {M : Type 1} → statement M
 fill-controls-spec =

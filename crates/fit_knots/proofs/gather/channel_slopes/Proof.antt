@@ -47,8 +47,7 @@ part-slopes-of-end c =
 slopes-of-requires : tie.Need-slopes-of-requires
 slopes-of-requires c κs =
     let column = c .before .before .before .before .before .column in
-    let place11 = c .before .before .before .before .before .before .before .before .before .before .before in
-    let start = place11 in
+    let start = c .before .before .before .before .before .before .before .before .before .before .before in
     let fits = row-fits (start .args .c) (start .args .ch) (start .args .m) (length (start .args .slopes .now)) (start .pre .1 .0) (start .pre .1 .1 .1) in
     let long = mid-len (start .args .c * start .args .m) (start .args .c * start .args .m + start .args .m) (start .args .slopes .now) fits in
     ((search needs, search needs), (le-of-eq (sym (length-take-le _ _ (search needs))), (omega (arith, (column .kept .1 .1 .1 .1 .0)), omega arith)))
@@ -63,10 +62,10 @@ returns : tie.Need-returns
 returns c =
     let slopes-of = c .before .before .slopes-of in
     let column = c .before .before .before .before .before .before .before .before .column in
-    let place14 = c .before .before .before .before .before .before .before .before .before .before .before .before .before .before in
-    let start = place14 in
+    let start = c .before .before .before .before .before .before .before .before .before .before .before .before .before .before in
     let fits = row-fits (start .args .c) (start .args .ch) (start .args .m) (length (start .args .slopes .now)) (start .pre .1 .0) (start .pre .1 .1 .1) in
-    channel-block (start .args .cubic) (start .args .fts .now) (start .args .fps .now) (start .args .m) (start .args .ch) (start .args .c) (start .args .c * start .args .m) (start .args .ys .now) (omega arith) (column .ensures) fits (slopes-of .kept .1 .1 .1 .1 .0) (slopes-of .ensures)
+    channel-block (start .args .cubic) (start .args .fts .now) (start .args .fps .now) (start .args .m) (start .args .ch) (start .args .c)
+    (start .args .c * start .args .m) (start .args .ys .now) (omega arith) (column .ensures) fits (slopes-of .kept .1 .1 .1 .1 .0) (slopes-of .ensures)
 
 pub channel-slopes-spec : {M : Type 1} → statement M
 channel-slopes-spec =

@@ -23,22 +23,38 @@ loop-holds c = ((omega arith, omega arith), filling-none)
 mul-out : tie.Need-mul-out Inv-loop μ-loop
 mul-out c =
     let start = c .before .before in
-    omega (arith, cell-fits (c .before .loop .w) (start .args .m) (start .args .ch) (start .args .c) (length (start .args .fps .now)) (c .loop-test .taken) ((start .pre .0)) ((start .pre .1 .0)))
+    omega (
+      arith,
+      cell-fits (c .before .loop .w) (start .args .m) (start .args .ch) (start .args .c) (length (start .args .fps .now)) (c .loop-test .taken)
+          (start .pre .0) (start .pre .1 .0),
+    )
 
 add-out : tie.Need-add-out Inv-loop μ-loop
 add-out c =
     let start = c .before .before in
-    omega (arith, cell-fits (c .before .loop .w) (start .args .m) (start .args .ch) (start .args .c) (length (start .args .fps .now)) (c .loop-test .taken) ((start .pre .0)) ((start .pre .1 .0)))
+    omega (
+      arith,
+      cell-fits (c .before .loop .w) (start .args .m) (start .args .ch) (start .args .c) (length (start .args .fps .now)) (c .loop-test .taken)
+          (start .pre .0) (start .pre .1 .0),
+    )
 
 mul-out-2 : tie.Need-mul-out-2 Inv-loop μ-loop
 mul-out-2 c =
     let start = c .before .before in
-    omega (arith, cell-fits (c .before .loop .w) (start .args .m) (start .args .ch) (start .args .c) (length (start .args .fps .now)) (c .loop-test .taken) ((start .pre .0)) ((start .pre .1 .0)))
+    omega (
+      arith,
+      cell-fits (c .before .loop .w) (start .args .m) (start .args .ch) (start .args .c) (length (start .args .fps .now)) (c .loop-test .taken)
+          (start .pre .0) (start .pre .1 .0),
+    )
 
 shared-slice-read-out : tie.Need-shared-slice-read-out Inv-loop μ-loop
 shared-slice-read-out c =
     let start = c .before .before .before in
-    omega (arith, cell-fits (c .before .before .loop .w) (start .args .m) (start .args .ch) (start .args .c) (length (start .args .fps .now)) (c .before .loop-test .taken) ((start .pre .0)) ((start .pre .1 .0)))
+    omega (
+      arith,
+      cell-fits (c .before .before .loop .w) (start .args .m) (start .args .ch) (start .args .c) (length (start .args .fps .now))
+          (c .before .loop-test .taken) (start .pre .0) (start .pre .1 .0),
+    )
 
 mul-out-3 : tie.Need-mul-out-3 Inv-loop μ-loop
 mul-out-3 c = search needs

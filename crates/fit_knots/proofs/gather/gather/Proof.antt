@@ -9,18 +9,21 @@ use Rattle.fit_knots.proofs.gather.gather.Tie as tie
 gather-times-requires : tie.Need-gather-times-requires
 gather-times-requires c κs =
     let pre = c .before .before .before .before .before .before .before .pre in
-    (below-more _ _ _ ((pre .1 .0)) ((pre .0 .sums)), omega arith)
+    (below-more _ _ _ (pre .1 .0) (pre .0 .sums), omega arith)
 
 gather-points-requires : tie.Need-gather-points-requires
 gather-points-requires c κs =
     let pre = c .before .before .before .before .before .before .before .before .before .before .before .pre in
-    ((pre .1 .0), ((pre .0 .given), fewer-rows _ _ _ _ ((pre .1 .1 .0 .1)) ((pre .0 .points))))
+    ((pre .1 .0), ((pre .0 .given), fewer-rows _ _ _ _ (pre .1 .1 .0 .1) (pre .0 .points)))
 
 gather-slopes-requires : tie.Need-gather-slopes-requires
 gather-slopes-requires c κs =
     let back = c .before .before .before .before .before .before .before .before .before .before .before .before in
     let start = back .before .before .before .before .before in
-    (((start .pre .1 .1 .0 .0), (omega arith, omega arith)), (omega (arith, fewer-rows (length (start .args .ks .now)) (start .args .n) (start .args .ch) (length (start .args .fps .now)) ((start .pre .1 .1 .0 .1)) ((start .pre .0 .points))), fewer-blocks _ _ _ _ ((start .pre .1 .1 .0 .1)) ((start .pre .0 .bends))))
+    let args = start .args in
+    let few = start .pre .1 .1 .0 .1 in
+    let rows = fewer-rows (length (args .ks .now)) (args .n) (args .ch) (length (args .fps .now)) few (start .pre .0 .points) in
+    ((start .pre .1 .1 .0 .0, (omega arith, omega arith)), (omega (arith, rows), fewer-blocks _ _ _ _ few (start .pre .0 .bends)))
 
 same-length : tie.Need-same-length
 same-length c = search needs
@@ -38,7 +41,11 @@ returns c =
     let back = c .before .before .before .before .before .before .before .before .before .before .before .before in
     let gather-times = back .gather-times in
     let start = back .before .before .before .before .before .before .before .before in
-    gathered (start .args .cubic) (start .args .pts .now) (start .args .ts .now) (start .args .ch) (start .args .n) (start .args .ks .now) (start .args .fts .now) (start .args .fps .now) (start .args .slopes .now) ((start .pre .0)) ((start .pre .1 .0)) ((start .pre .1 .1 .0 .0)) ((start .pre .1 .1 .0 .1)) ((start .pre .1 .1 .1)) (gather-times .ensures) ((gather-points .kept .1 .1 .1 .1 .0)) (gather-points .ensures) ((gather-slopes .kept .1 .1 .1 .1 .1 .0)) (gather-slopes .ensures)
+    let args = start .args in
+    let pre = start .pre in
+    gathered (args .cubic) (args .pts .now) (args .ts .now) (args .ch) (args .n) (args .ks .now) (args .fts .now) (args .fps .now) (args .slopes .now)
+    (pre .0) (pre .1 .0) (pre .1 .1 .0 .0) (pre .1 .1 .0 .1) (pre .1 .1 .1) (gather-times .ensures)
+    (gather-points .kept .1 .1 .1 .1 .0) (gather-points .ensures) (gather-slopes .kept .1 .1 .1 .1 .1 .0) (gather-slopes .ensures)
 
 pub gather-spec : {M : Type 1} → statement M
 gather-spec =

@@ -32,7 +32,10 @@ copy-row-requires c κs =
     let loop-test = c .before .before .loop-test in
     let at-loop = c .before .before .before .loop in
     let start = c .before .before .before .before .before .before .before in
-    (row-fits _ _ _ _ ((start .pre .0) (at-loop .w) (loop-test .taken)) ((start .pre .1 .0)), omega (arith, row-fits (at-loop .w) (length (start .args .ks .now)) (start .args .ch) (length (start .args .out .now)) (loop-test .taken) ((start .pre .1 .1)), (at-loop .inv .0 .1)))
+    let args = start .args in
+    let from = row-fits _ _ _ _ ((start .pre .0) (at-loop .w) (loop-test .taken)) (start .pre .1 .0) in
+    let into = row-fits (at-loop .w) (length (args .ks .now)) (args .ch) (length (args .out .now)) (loop-test .taken) (start .pre .1 .1) in
+    (from, omega (arith, into, (at-loop .inv .0 .1)))
 
 add-w : tie.Need-add-w Inv-loop μ-loop
 add-w c = search needs

@@ -74,8 +74,8 @@ loop-again c =
     let at-loop = c .before .before .before .before .loop in
     let pre = c .before .before .before .before .before .before .before .before .before .before .pre in
     let inv = at-loop .inv in
-    let pre = pre in
-    let eb = back-more _ _ _ _ _ (omega arith) (omega arith) (omega arith) (c .before .step-at .ensures) (inv .last) (pre .1 .1 .1 _ (omega arith)) (pre .1 .1 .0 _ (omega arith)) in
+    let eb = back-more _ _ _ _ _ (omega arith) (omega arith) (omega arith) (c .before .step-at .ensures) (inv .last) (pre .1 .1 .1 _ (omega arith))
+    (pre .1 .1 .0 _ (omega arith)) in
     record {
       low = omega arith;
       high = (omega arith, inv .high .1);

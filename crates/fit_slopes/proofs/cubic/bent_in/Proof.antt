@@ -11,10 +11,10 @@ forward-requires c κs = search needs
 backward-requires : tie.Need-backward-requires
 backward-requires c κs =
     let forward = c .before .before .before .before .before .before .before .forward in
-    (omega arith, (omega arith, (filled-agrees _ _ _ ((forward .ensures .0)), filled-agrees _ _ _ ((forward .ensures .1)))))
+    (omega arith, (omega arith, (filled-agrees _ _ _ (forward .ensures .0), filled-agrees _ _ _ (forward .ensures .1))))
 
 slopes-requires : tie.Need-slopes-requires
-slopes-requires c κs = (omega arith, filled-agrees _ _ _ ((c .before .before .before .before .backward .ensures)))
+slopes-requires c κs = (omega arith, filled-agrees _ _ _ (c .before .before .before .before .backward .ensures))
 
 same-length : tie.Need-same-length
 same-length c = search needs

@@ -34,19 +34,21 @@ is-normal-requires-2 c κs = search needs
 
 normal-at-most-requires : tie.Need-normal-at-most-requires
 normal-at-most-requires c κs =
-    let place1 = c .before in
-    let second = place1 in
+    let second = c .before in
     let first = second .before .before in
-    (normal-is (first .before .before .bits .result) (sym (first .is-normal .ensures) ∙ second .before .if1 .taken), normal-is (first .before .bits2 .result) (sym (second .is-normal2 .ensures) ∙ c .if2 .taken))
+    let x = normal-is (first .before .before .bits .result) (sym (first .is-normal .ensures) ∙ second .before .if1 .taken) in
+    let y = normal-is (first .before .bits2 .result) (sym (second .is-normal2 .ensures) ∙ c .if2 .taken) in
+    (x, y)
 
 returns : tie.Need-returns
 returns c =
-    let place5 = c .before .before .before .before .before in
-    let at = place5 in
+    let at = c .before .before .before .before .before in
     let start = at .before .before in
     c .normal-at-most .ensures
-    ∙ ap (λ (z : Float). le (sqrt binary64 z) (ofBits binary64 (at .bits2 .result))) (ap (ofBits binary64) (at .before .bits .ensures) ∙ ofBits-toBits binary64 (start .args .x) (held-x start))
-    ∙ ap (λ (z : Float). le (sqrt binary64 (start .args .x)) z) (ap (ofBits binary64) (at .bits2 .ensures) ∙ ofBits-toBits binary64 (start .args .y) (held-y start))
+    ∙ ap (λ (z : Float). le (sqrt binary64 z) (ofBits binary64 (at .bits2 .result)))
+    (ap (ofBits binary64) (at .before .bits .ensures) ∙ ofBits-toBits binary64 (start .args .x) (held-x start))
+    ∙ ap (λ (z : Float). le (sqrt binary64 (start .args .x)) z)
+    (ap (ofBits binary64) (at .bits2 .ensures) ∙ ofBits-toBits binary64 (start .args .y) (held-y start))
 
 root-requires : tie.Need-root-requires
 root-requires c κs = search needs

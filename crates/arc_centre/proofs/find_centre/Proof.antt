@@ -1,8 +1,8 @@
--- `arc_numbers::find_centre` meets its contract. Assumes nothing.
-use Rattle.arc_numbers.specs.Arc.{centreOf, wideCentre}
+-- `arc_centre::find_centre` meets its contract. Assumes nothing.
+use Rattle.arc_centre.specs.Centre.{centreOf, wideCentre}
 use borrow.Author.Needs.{needs}
-use Rattle.arc_numbers.proofs.find_centre.Statement.{statement}
-use Rattle.arc_numbers.proofs.find_centre.Tie as tie
+use Rattle.arc_centre.proofs.find_centre.Statement.{statement}
+use Rattle.arc_centre.proofs.find_centre.Tie as tie
 
 enum-known-i : tie.Need-enum-known-i
 enum-known-i c = search needs

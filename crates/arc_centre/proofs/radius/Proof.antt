@@ -1,8 +1,8 @@
--- `arc_numbers::radius` meets its contract. Assumes nothing.
-use Rattle.arc_numbers.specs.Arc.{radius}
+-- `arc_centre::radius` meets its contract. Assumes nothing.
+use Rattle.arc_centre.specs.Centre.{radius}
 use borrow.Author.Needs.{needs}
-use Rattle.arc_numbers.proofs.radius.Statement.{statement}
-use Rattle.arc_numbers.proofs.radius.Tie as tie
+use Rattle.arc_centre.proofs.radius.Statement.{statement}
+use Rattle.arc_centre.proofs.radius.Tie as tie
 
 root-requires : tie.Need-root-requires
 root-requires c κs = search needs

@@ -1,8 +1,8 @@
--- `arc_numbers::by_radius` meets its contract. Assumes nothing.
-use Rattle.arc_numbers.specs.Arc.{crCentre, wideCentre}
+-- `arc_centre::by_radius` meets its contract. Assumes nothing.
+use Rattle.arc_centre.specs.Centre.{crCentre, wideCentre}
 use borrow.Author.Needs.{needs}
-use Rattle.arc_numbers.proofs.by_radius.Statement.{statement}
-use Rattle.arc_numbers.proofs.by_radius.Tie as tie
+use Rattle.arc_centre.proofs.by_radius.Statement.{statement}
+use Rattle.arc_centre.proofs.by_radius.Tie as tie
 
 root-requires : tie.Need-root-requires
 root-requires c κs = search needs

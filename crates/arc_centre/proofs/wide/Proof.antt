@@ -1,8 +1,8 @@
--- `arc_numbers::wide` meets its contract. Assumes nothing.
-use Rattle.arc_numbers.specs.Arc.{wideCentre}
+-- `arc_centre::wide` meets its contract. Assumes nothing.
+use Rattle.arc_centre.specs.Centre.{wideCentre}
 use borrow.Author.Needs.{needs}
-use Rattle.arc_numbers.proofs.wide.Statement.{statement}
-use Rattle.arc_numbers.proofs.wide.Tie as tie
+use Rattle.arc_centre.proofs.wide.Statement.{statement}
+use Rattle.arc_centre.proofs.wide.Tie as tie
 
 radius-requires : tie.Need-radius-requires
 radius-requires c κs = search needs

@@ -1,7 +1,7 @@
--- `arc_numbers::side` meets its contract. Assumes nothing.
-use Rattle.arc_numbers.specs.Arc.{sideOf}
-use Rattle.arc_numbers.proofs.side.Statement.{statement}
-use Rattle.arc_numbers.proofs.side.Tie as tie
+-- `arc_centre::side` meets its contract. Assumes nothing.
+use Rattle.arc_centre.specs.Centre.{sideOf}
+use Rattle.arc_centre.proofs.side.Statement.{statement}
+use Rattle.arc_centre.proofs.side.Tie as tie
 
 returns : tie.Need-returns
 unfolding sideOf
