@@ -15,9 +15,11 @@ use Rattle.floats.specs.Fill.{at-filled, length-filled, filled-all}
 use Rattle.curve_metric.specs.Below.{Below}
 use Rattle.fit_knots.specs.Blocks.{Block, Blocks}
 use Rattle.fit_knots.specs.Fit.{keptTo, fitOf}
-use Rattle.fit_knots.specs.Kept.{Kept, kept-in, kept-rising}
+use Rattle.fit_knots.specs.Kept.{Kept}
+use Rattle.fit_knots.specs.KeptLaws.{kept-in, kept-rising}
 use Rattle.fit_knots.specs.Memory.{Rising, FitHeld}
-use Rattle.fit_knots.specs.Prepare.{slopeOf, timeAt, numberAt, columnOf, channelAt, fit-is, TimesRise, FitRoom, FitReady}
+use Rattle.fit_knots.specs.Prepare.{slopeOf, timeAt, numberAt, columnOf, channelAt, TimesRise, FitRoom, FitReady}
+use Rattle.fit_knots.specs.PrepareLaws.{fit-is}
 
 -- a part of a list, written over
 block-put : {f : ℕ → Float} {a m : ℕ} {l : List Float} (ys : List Float) → a + m ≤ length l → length ys ≡ length (take (a + m - a) (drop a l))

@@ -18,9 +18,10 @@ use Rattle.curve_metric.specs.Points.{length-rows}
 use Rattle.curve_metric.specs.Walk.{Sample, samples}
 use Rattle.curve_metric.specs.WalkLaws.{samples-end, samples-few, samples-wide}
 use Rattle.fit_knots.specs.Fit.{Fit, pieceOf, keptTo, fitOf, evalFit, fitRun, fitRuns}
-use Rattle.fit_knots.specs.Kept.{kept-in}
-use Rattle.fit_knots.specs.Memory.{FitHeld, fitAt, piece-below, eval-same}
-use Rattle.fit_knots.specs.Prepare.{at-map, take-filled}
+use Rattle.fit_knots.specs.KeptLaws.{kept-in}
+use Rattle.fit_knots.specs.Memory.{FitHeld, fitAt}
+use Rattle.fit_knots.specs.MemoryLaws.{piece-below, eval-same}
+use Rattle.fit_knots.specs.PrepareLaws.{at-map, take-filled}
 
 -- a point of ch numbers
 abbrev pub OfWidth : ℕ → List Float → Type 0

@@ -5,7 +5,7 @@ use native.Mathlib.Omega.{arith}
 use lib.ListN.{length}
 use Rattle.floats.specs.Numbers.{at}
 use Rattle.floats.specs.Fill.{Filling, filling-none, filling-more}
-use Rattle.fit_knots.specs.Memory.{cell-fits}
+use Rattle.fit_knots.specs.MemoryLaws.{cell-fits}
 use Rattle.fit_slopes.specs.Filled.{filling-end}
 use borrow.Author.Needs.{needs}
 use Rattle.fit_knots.proofs.gather.column.Statement.{statement}

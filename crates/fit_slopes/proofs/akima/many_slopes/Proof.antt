@@ -5,7 +5,7 @@ use native.Mathlib.Omega.{arith}
 use lib.ListN.{length}
 use Rattle.floats.specs.Fill.{Filling, filling-none, filling-more}
 use Rattle.fit_slopes.specs.Slopes.{widened, akimaAt}
-use Rattle.fit_slopes.specs.Akima.{Window, window-more, akima-of}
+use Rattle.fit_slopes.specs.AkimaLaws.{Window, window-more, akima-of}
 use Rattle.fit_slopes.specs.Filled.{filling-end}
 use borrow.Author.Needs.{needs}
 use Rattle.fit_slopes.proofs.akima.many_slopes.Statement.{statement}
