@@ -1,59 +1,15 @@
--- Document 01, "Arc": the numbers of one arc, by the sentences of that section. Assumes nothing.
+-- DEFINITIONS. The numbers of one arc. Assumes nothing.
 use Prim.Native.Nat.{ℕ, min, max}
-use mathlib.Core.Bool.{Bool, _&&_, _||_, not, cond, Bool·beq}
-use mathlib.Core.Option.{Option, none, some, Option·getD}
+use mathlib.Core.Bool.{Bool, _&&_, cond}
+use mathlib.Core.Option.{Option, none, some}
 use lib.Ieee.{Float, neg, lt}
-use Rattle.floats.specs.Numbers.{_⊕_, _⊖_, _⊗_, _⊘_, ofNat, f0, f1, f2, tau, 1e-9, 1e-12, absOf, largerOf, heldIn}
-use Rattle.root.specs.Root.{root}
+use Rattle.floats.specs.Numbers.{_⊕_, _⊖_, _⊗_, _⊘_, ofNat, f1, f2, tau, 1e-9, 1e-12, absOf, largerOf, heldIn}
 use Rattle.whole.specs.Whole.{ceilCount, halfUpCount}
+pub use Rattle.arc_centre.specs.Centre.{Centre, centred, warned, Ends}
+unfoldable pub use Rattle.arc_centre.specs.Centre.{sideOf, crCentre, centreOf, radius, wideCentre}
 use Rattle.trig.specs.Trig.{atan2Steps, acosSteps, euclid}
 
--- ---- the centre: "one answer whose cases carry the two centre numbers, or the warning"
-pub data Centre : Type 0 where
-  centred : Float → Float → Centre
-  warned : ℕ → Centre
-
--- start and end on the two plane axes
-pub record Ends : Type 0 where
-  pub su : Float
-  pub sv : Float
-  pub eu : Float
-  pub ev : Float
-
--- "CR centre: for G3 with CR at or above 0, left of the chord from start to end; G2 or negative CR each flip it"
-unfoldable pub sideOf : Bool → Float → Float
-sideOf cw cr = cond (Bool·beq cw (not (lt cr f0))) (neg f1) f1
-
--- "2 CR with chord below 1e-12; 3 |CR| below half the chord less 1e-9"
-unfoldable pub crCentre : Bool → Ends → Float → Centre
-crCentre cw e cr =
-    let du = e .eu ⊖ e .su in
-    let dv = e .ev ⊖ e .sv in
-    let chord = root (du ⊗ du ⊕ dv ⊗ dv) in
-    let half = chord ⊘ f2 in
-    let h = root (largerOf (absOf cr ⊗ absOf cr ⊖ half ⊗ half) f0) in
-    let far = sideOf cw cr ⊗ h in
-    cond (lt chord 1e-12) (warned 2)
-    (cond (lt (absOf cr) (half ⊖ 1e-9)) (warned 3)
-    (centred ((e .su ⊕ e .eu) ⊘ f2 ⊕ far ⊗ (neg dv ⊘ chord)) ((e .sv ⊕ e .ev) ⊘ f2 ⊕ far ⊗ (du ⊘ chord))))
-
--- "4 neither offset nor CR"; "Offsets win over CR"
-unfoldable pub centreOf : Bool → Ends → Option Float → Option Float → Option Float → Centre
-centreOf cw e none none none = warned 4
-centreOf cw e none none (some cr) = crCentre cw e cr
-centreOf cw e none (some j) cr = centred (e .su ⊕ f0) (e .sv ⊕ j)
-centreOf cw e (some i) j cr = centred (e .su ⊕ i) (e .sv ⊕ Option·getD j f0)
-
--- "5 a radius below 1e-9"
-unfoldable pub radius : Float → Float → Float → Float → Float
-radius u v cu cv = root ((u ⊖ cu) ⊗ (u ⊖ cu) ⊕ (v ⊖ cv) ⊗ (v ⊖ cv))
-
-unfoldable pub wideCentre : Ends → Centre → Centre
-wideCentre e (warned n) = warned n
-wideCentre e (centred cu cv) =
-    cond (lt (radius (e .su) (e .sv) cu cv) 1e-9 || lt (radius (e .eu) (e .ev) cu cv) 1e-9) (warned 5) (centred cu cv)
-
--- ---- the arc: "one record by value"
+-- ---- the arc
 pub record Arc : Type 0 where
   pub cu : Float
   pub cv : Float
@@ -63,21 +19,21 @@ pub record Arc : Type 0 where
   pub sweep : Float
   pub tol : Float
 
--- "If start and end agree on both plane axes to below 1e-9"
+-- start and end are one point
 unfoldable pub agree : Ends → Bool
 agree e = lt (absOf (e .eu ⊖ e .su)) 1e-9 && lt (absOf (e .ev ⊖ e .sv)) 1e-9
 
--- "end angle less start angle, brought to 0..tau as 000 does"; ".. and the sweep is below 1e-12, it becomes tau"
+-- the sweep of G3 by the difference of the angles; a full circle where start and end are one point and nothing is swept
 unfoldable pub sweepLeft : Bool → Float → Float
 sweepLeft full d = let s = euclid d in cond (lt s 1e-12 && full) tau s
 
--- "G2 subtracts tau; if they so agree and the result is above -1e-12, it becomes -tau"
+-- G2 goes the other way round
 unfoldable pub sweepOf : Bool → Bool → Float → Float
 sweepOf cw full d =
     let s = sweepLeft full d in
     cond cw (cond (full && lt (neg 1e-12) (s ⊖ tau)) (neg tau) (s ⊖ tau)) s
 
--- "TURN: below zero counts as zero, halves round up, that many tau are added in the arc's direction"
+-- TURN adds whole turns in the arc's direction: none where it is below 0, a half counts up
 unfoldable pub turned : Bool → Float → Option Float → Float
 turned cw s none = s
 turned cw s (some t) = s ⊕ cond cw (neg tau) tau ⊗ ofNat (halfUpCount t)
@@ -96,18 +52,21 @@ arcOf tol cw e cu cv turn =
       tol = tol;
     }
 
--- "step is twice the arc cosine of 1 - tolerance/larger radius, held in -1..1"
+-- the angle whose chord leaves the larger circle by the tolerance
 unfoldable pub stepOf : Arc → Float
 stepOf c = f2 ⊗ acosSteps (heldIn (neg f1) f1 (f1 ⊖ c .tol ⊘ largerOf (c .rs) (c .re)))
 
--- "If the step is above 1e-12, |sweep|/step rounded up, else 1; then held in 1..100,000. Above that, warning 6 with the wanted count"
+-- the rows that the tolerance asks for, and those that are made: one at least, and no more than an arc may have
 unfoldable pub wantedOf : Arc → ℕ
 wantedOf c = let s = stepOf c in cond (lt 1e-12 s) (ceilCount (absOf (c .sweep) ⊘ s)) 1
 
-unfoldable pub countOf : ℕ → ℕ
-countOf wanted = max 1 (min 100000 wanted)
+abbrev pub mostArcRows : ℕ
+mostArcRows = 100000
 
--- "Row k of n: fraction k/n, angle and radius in proportion"
+unfoldable pub countOf : ℕ → ℕ
+countOf wanted = max 1 (min mostArcRows wanted)
+
+-- angle and radius at a fraction of the arc
 abbrev pub angleAt : Arc → Float → Float
 angleAt c f = c .from ⊕ c .sweep ⊗ f
 

@@ -1,42 +1,14 @@
-// The numbers of an arc: its centre or the warning, sweep, count of rows, and a sample's place.
+// The numbers of an arc about its centre: sweep, count of rows, and a sample's place.
+use arc_centre::SMALL;
+use floats::TINY;
+use trig::TAU;
 ghost use mathlib.Core.Path.{_≡_};
-ghost use lib.Ieee.{neg};
-ghost use Rattle.floats.specs.Numbers.{f1, largerOf, heldIn};
-ghost use Rattle.arc_numbers.specs.Arc.{sideOf, crCentre, centreOf, wideCentre, radius, agree, sweepLeft, sweepOf, turned, arcOf, stepOf, wantedOf, countOf};
-ghost use Rattle.arc_numbers.specs.Arc as Spec;
-ghost use Rattle.arc_numbers.specs.Types.{centreIs, numberIs, endsIs, arcIs, PointAt};
+ghost use Rattle.arc_centre.specs.Types.{numberIs, endsIs};
+ghost use Rattle.arc_numbers.specs.Arc.{agree, sweepLeft, sweepOf, turned, arcOf, stepOf, wantedOf, countOf};
+ghost use Rattle.arc_numbers.specs.Types.{arcIs, PointAt};
 
-const TAU: f64 = 6.283185307179586;
-
-// The limits of section "Arc": chord and sweep, radius and agreement, rows of one arc.
-const TINY: f64 = 1e-12;
-
-const SMALL: f64 = 1e-9;
-
+// Rows of one arc at most.
 pub const MOST_ROWS: u64 = 100000;
-
-// A number cell that may be absent.
-pub enum Cell {
-    Number(f64),
-    Absent,
-}
-
-// Start and end on the two plane axes.
-pub struct Ends {
-    pub su: f64,
-    pub sv: f64,
-    pub eu: f64,
-    pub ev: f64,
-}
-
-// What the centre search answers: the centre, or why there is none.
-pub enum Centre {
-    At(f64, f64),
-    Coincident,
-    Short,
-    Missing,
-    Small,
-}
 
 // Centre, radii at start and end, start angle, sweep, tolerance.
 pub struct Arc {
@@ -54,87 +26,8 @@ pub struct Point {
     pub v: f64,
 }
 
-fn larger(x: f64, y: f64) -> f64
-    ensures { λ r. ⌜ r ≡ largerOf x y ⌝ }
-{
-    if x < y { y } else { x }
-}
-
-// 1 for a centre left of the chord from start to end, -1 for one right of it.
-fn side(cw: bool, cr: f64) -> f64
-    ensures { λ r. ⌜ r ≡ sideOf cw cr ⌝ }
-{
-    if cr < 0.0 {
-        if cw { 1.0 } else { -1.0 }
-    } else {
-        if cw { -1.0 } else { 1.0 }
-    }
-}
-
-fn radius(u: f64, v: f64, cu: f64, cv: f64) -> f64
-    ensures { λ r. ⌜ r ≡ radius u v cu cv ⌝ }
-{
-    root::root((u - cu) * (u - cu) + (v - cv) * (v - cv))
-}
-
-// The centre, where neither radius is too small.
-fn wide(e: Ends, cu: f64, cv: f64) -> Centre
-    ensures { λ r. ⌜ centreIs r ≡ wideCentre (endsIs e) (Spec.centred cu cv) ⌝ }
-{
-    if radius(e.su, e.sv, cu, cv) < SMALL {
-        return Centre::Small;
-    }
-    if radius(e.eu, e.ev, cu, cv) < SMALL {
-        return Centre::Small;
-    }
-    Centre::At(cu, cv)
-}
-
-// The centre by CR.
-fn by_radius(cw: bool, e: Ends, cr: f64) -> Centre
-    ensures { λ r. ⌜ centreIs r ≡ wideCentre (endsIs e) (crCentre cw (endsIs e) cr) ⌝ }
-{
-    let du = e.eu - e.su;
-    let dv = e.ev - e.sv;
-    let chord = root::root(du * du + dv * dv);
-    if chord < TINY {
-        return Centre::Coincident;
-    }
-    let r = floats::abs(cr);
-    let half = chord / 2.0;
-    if r < half - SMALL {
-        return Centre::Short;
-    }
-    let h = root::root(larger(r * r - half * half, 0.0));
-    let far = side(cw, cr) * h;
-    wide(
-        e,
-        (e.su + e.eu) / 2.0 + far * (-dv / chord),
-        (e.sv + e.ev) / 2.0 + far * (du / chord),
-    )
-}
-
-// The centre by the offsets i and j, else by CR.
-pub fn find_centre(cw: bool, e: Ends, i: Cell, j: Cell, cr: Cell) -> Centre
-    ensures { λ r. ⌜ centreIs r ≡ wideCentre (endsIs e) (centreOf cw (endsIs e) (numberIs i) (numberIs j) (numberIs cr)) ⌝ }
-{
-    match i {
-        Cell::Number(x) => match j {
-            Cell::Number(y) => wide(e, e.su + x, e.sv + y),
-            Cell::Absent => wide(e, e.su + x, e.sv + 0.0),
-        },
-        Cell::Absent => match j {
-            Cell::Number(y) => wide(e, e.su + 0.0, e.sv + y),
-            Cell::Absent => match cr {
-                Cell::Number(r) => by_radius(cw, e, r),
-                Cell::Absent => Centre::Missing,
-            },
-        },
-    }
-}
-
 // Start and end are one point: a full circle.
-fn agree(e: Ends) -> bool
+fn agree(e: arc_centre::Ends) -> bool
     ensures { λ r. ⌜ r ≡ agree (endsIs e) ⌝ }
 {
     if floats::abs(e.eu - e.su) < SMALL {
@@ -173,19 +66,26 @@ fn sweep(cw: bool, full: bool, d: f64) -> f64
 }
 
 // The sweep s with the whole turns of TURN.
-fn turned(cw: bool, s: f64, turn: Cell) -> f64
+fn turned(cw: bool, s: f64, turn: arc_centre::Cell) -> f64
     ensures { λ r. ⌜ r ≡ turned cw s (numberIs turn) ⌝ }
 {
     match turn {
-        Cell::Number(t) => {
+        arc_centre::Cell::Number(t) => {
             let n = std::num::nearest_u64_to_f64(whole::half_up_count(t));
             if cw { s + -TAU * n } else { s + TAU * n }
         }
-        Cell::Absent => s,
+        arc_centre::Cell::Absent => s,
     }
 }
 
-pub fn arc_of(tol: f64, cw: bool, e: Ends, cu: f64, cv: f64, turn: Cell) -> Arc
+pub fn arc_of(
+    tol: f64,
+    cw: bool,
+    e: arc_centre::Ends,
+    cu: f64,
+    cv: f64,
+    turn: arc_centre::Cell,
+) -> Arc
     ensures { λ r. ⌜ arcIs r ≡ arcOf tol cw (endsIs e) cu cv (numberIs turn) ⌝ }
 {
     let a = trig::atan2(e.sv - cv, e.su - cu);
@@ -193,23 +93,11 @@ pub fn arc_of(tol: f64, cw: bool, e: Ends, cu: f64, cv: f64, turn: Cell) -> Arc
     Arc {
         cu,
         cv,
-        rs: radius(e.su, e.sv, cu, cv),
-        re: radius(e.eu, e.ev, cu, cv),
+        rs: arc_centre::radius(e.su, e.sv, cu, cv),
+        re: arc_centre::radius(e.eu, e.ev, cu, cv),
         from: a,
         sweep: turned(cw, sweep(cw, agree(e), b - a), turn),
         tol,
-    }
-}
-
-fn held(x: f64) -> f64
-    ensures { λ r. ⌜ r ≡ heldIn (neg f1) f1 x ⌝ }
-{
-    if x < -1.0 {
-        -1.0
-    } else if 1.0 < x {
-        1.0
-    } else {
-        x
     }
 }
 
@@ -217,7 +105,7 @@ fn held(x: f64) -> f64
 fn step(c: Arc) -> f64
     ensures { λ r. ⌜ r ≡ stepOf (arcIs c) ⌝ }
 {
-    2.0 * trig::acos(held(1.0 - c.tol / larger(c.rs, c.re)))
+    2.0 * trig::acos(floats::held_in(-1.0, 1.0, 1.0 - c.tol / floats::larger(c.rs, c.re)))
 }
 
 // The rows that the tolerance asks for.

@@ -1,4 +1,4 @@
--- Whether some geometric axis of a mask is programmed, axis by axis. Assumes nothing.
+-- LAWS. Whether some geometric axis of a mask is programmed, axis by axis. Assumes nothing.
 use Prim.Native.Nat.{ℕ, _<_}
 use mathlib.Core.Path.{_≡_, sym, _∙_}
 use mathlib.Core.Bool.{true, false, _&&_}

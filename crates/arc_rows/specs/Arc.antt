@@ -1,4 +1,4 @@
--- Document 01, "Arc": the group of one arc block, by the sentences of that section. Assumes nothing.
+-- DEFINITIONS. The group of one arc block. Assumes nothing.
 use Prim.Native.Nat.{ℕ, zero, suc, _+_, _^_}
 use mathlib.Core.Bool.{Bool, _&&_, _||_, not, cond}
 use mathlib.Core.List.{List, [], _∷_}
@@ -7,8 +7,9 @@ use lib.Dec.{ltb, eqb}
 use lib.Ieee.{Float}
 use Rattle.floats.specs.Numbers.{num}
 use Rattle.floats.specs.Lists.{upto, member, isSome}
-pub use Rattle.arc_numbers.specs.Arc.{Centre, centred, warned, Ends, Arc, angleAt, radiusAt}
-unfoldable pub use Rattle.arc_numbers.specs.Arc.{sideOf, crCentre, centreOf, radius, wideCentre, agree, sweepLeft, sweepOf, turned, arcOf, stepOf, wantedOf, countOf}
+pub use Rattle.arc_numbers.specs.Arc.{mostArcRows, Centre, centred, warned, Ends, Arc, angleAt, radiusAt}
+unfoldable pub use Rattle.arc_numbers.specs.Arc.{sideOf, crCentre, centreOf, radius, wideCentre, agree, sweepLeft, sweepOf, turned, arcOf}
+unfoldable pub use Rattle.arc_numbers.specs.Arc.{stepOf, wantedOf, countOf}
 unfoldable pub use Rattle.arc_sample.specs.Samples.{ramp, lastCell, midCell, arcRow}
 use Rattle.layout.specs.Layout.{cCR, cTURN, axisCodes}
 use Rattle.row_cells.specs.Codes.{planeU, planeV, offsetOf}
@@ -22,17 +23,17 @@ pub record Answer : Type 0 where
   pub wanted : ℕ
   pub held : ℕ
 
--- "the row goes out unchanged", with a warning or 0
+-- the row unchanged, with a warning or 0
 unfoldable pub passed : ℕ → List ℕ → Answer
 passed warning r = record { rows = outRow r ∷ []; warning = warning; wanted = 0; held = 0 }
 
--- "No geometric axis, no offset of the plane and no CR: pass unchanged, no warning"
+-- a block that names no geometric axis, no offset of the plane and no CR
 unfoldable pub silent : List ℕ → ℕ → List ℕ → Bool
 silent gs plane r =
     not (hasPoint gs r
     || (has (presentOf r) (offsetOf (planeU plane)) || (has (presentOf r) (offsetOf (planeV plane)) || has (presentOf r) cCR)))
 
--- ".. and set their bit in the held-axes reply"
+-- the axes that stay at their end, a bit each
 unfoldable pub heldAxes : List ℕ → ℕ → (ℕ → Option ℕ) → List ℕ → ℕ → ℕ
 heldAxes gs plane pos r zero = 0
 heldAxes gs plane pos r (suc k) =
@@ -45,17 +46,17 @@ arcRows gs plane pos r e c =
     let n = countOf wanted in
     record {
       rows = upto (λ (k : ℕ). arcRow gs plane pos r e c n (k + 1)) n;
-      warning = cond (ltb 100000 wanted) 6 0;
-      wanted = cond (ltb 100000 wanted) wanted 0;
+      warning = cond (ltb mostArcRows wanted) 6 0;
+      wanted = cond (ltb mostArcRows wanted) wanted 0;
       held = heldAxes gs plane pos r axisCodes;
     }
 
--- "Warnings, each a pass-through that tracks positions": the rows of the arc, or the block unchanged
+-- the rows of the arc, or the block unchanged with the warning
 unfoldable pub fromCentre : Float → List ℕ → ℕ → Bool → (ℕ → Option ℕ) → List ℕ → Ends → Centre → Answer
 fromCentre tol gs plane cw pos r e (centred cu cv) = arcRows gs plane pos r e (arcOf tol cw e cu cv (number r cTURN))
 fromCentre tol gs plane cw pos r e (warned n) = passed n r
 
--- "1 start of a plane axis unknown"
+-- warning 1 where the start of a plane axis is not known
 unfoldable pub fromStart : Float → List ℕ → ℕ → Bool → (ℕ → Option ℕ) → List ℕ → Option ℕ → Option ℕ → Answer
 fromStart tol gs plane cw pos r none sv = passed 1 r
 fromStart tol gs plane cw pos r (some su) none = passed 1 r

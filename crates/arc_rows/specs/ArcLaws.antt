@@ -1,4 +1,4 @@
--- Laws of an arc block's answer: what it depends on, its cases, and its rows. Assumes nothing.
+-- LAWS. An arc block's answer: what it depends on, its cases, and its rows. Assumes nothing.
 use Prim.Native.Nat.{ℕ, zero, suc, _+_, _*_, _<_, _≤_}
 use mathlib.Core.Path.{_≡_, refl, sym, _∙_, ap, ap₂, fun-ext}
 use mathlib.Core.Bool.{Bool, true, false, cond, or-true, and-false, false≢true}
@@ -23,7 +23,8 @@ use Rattle.row_put.specs.MadeLaws.{made-same, made-cell}
 use Rattle.row_cells.specs.RowLaws.{length-out}
 use Rattle.arc_sample.specs.Rowing.{length-rows, flatten-one}
 use Rattle.arc_sample.specs.Draw.{arc-long}
-use Rattle.arc_rows.specs.Arc.{Answer, passed, silent, Ends, Arc, Centre, centred, warned, wantedOf, countOf, lastCell, midCell, arcRow, heldAxes, arcRows, fromCentre, fromStart, arcAnswer}
+use Rattle.arc_rows.specs.Arc.{mostArcRows, Answer, passed, silent, Ends, Arc, Centre, centred, warned, wantedOf, countOf, lastCell}
+use Rattle.arc_rows.specs.Arc.{midCell, arcRow, heldAxes, arcRows, fromCentre, fromStart, arcAnswer}
 
 -- ---- some of a list passes: by its members alone
 pub any-there : (f : ℕ → Bool) (xs : List ℕ) (k : ℕ) → member k xs ≡ true → f k ≡ true → anyOf f xs ≡ true
@@ -66,9 +67,10 @@ module _ (gs gs′ : List ℕ) (e : (k : ℕ) → member k gs ≡ member k gs′
   row-same : (E : Ends) (c : Arc) (n k : ℕ) → arcRow gs plane pos r E c n k ≡ arcRow gs′ plane pos r E c n k
   unfolding arcRow
   row-same E c n k =
+      let f = ofNat k ⊘ ofNat n in
       ap₂ (λ (a b : List ℕ). cond (eqb k n) a b)
       (made-same gs gs′ r (eqb k 1) gOne false (lastCell gs plane E r) (lastCell gs′ plane E r) (λ j h. e j) (λ j h. last-same E j))
-      (made-same gs gs′ r (eqb k 1) gOne true (midCell gs plane pos r c (ofNat k ⊘ ofNat n)) (midCell gs′ plane pos r c (ofNat k ⊘ ofNat n)) (λ j h. e j) (λ j h. mid-same c (ofNat k ⊘ ofNat n) j))
+      (made-same gs gs′ r (eqb k 1) gOne true (midCell gs plane pos r c f) (midCell gs′ plane pos r c f) (λ j h. e j) (λ j h. mid-same c f j))
 
   held-same : (n : ℕ) → heldAxes gs plane pos r n ≡ heldAxes gs′ plane pos r n
   unfolding heldAxes
@@ -79,7 +81,9 @@ module _ (gs gs′ : List ℕ) (e : (k : ℕ) → member k gs ≡ member k gs′
   unfolding arcRows
   rows-same E c =
       let n = countOf (wantedOf c) in
-      ap₂ (λ (rows : List (List ℕ)) (held : ℕ). let a : Answer = record { rows = rows; warning = cond (ltb 100000 (wantedOf c)) 6 0; wanted = cond (ltb 100000 (wantedOf c)) (wantedOf c) 0; held = held } in a)
+      let many = ltb mostArcRows (wantedOf c) in
+      let of : List (List ℕ) → ℕ → Answer = λ rows held. record { rows = rows; warning = cond many 6 0; wanted = cond many (wantedOf c) 0; held = held } in
+      ap₂ of
       (upto-same (λ (k : ℕ). arcRow gs plane pos r E c n (k + 1)) (λ (k : ℕ). arcRow gs′ plane pos r E c n (k + 1)) (λ k. row-same E c n (k + 1)) n)
       (held-same axisCodes)
 
@@ -133,14 +137,14 @@ module _ (tol : Float) (gs : List ℕ) (plane : ℕ) (cw : Bool) (pos : ℕ → 
   unfolding arcRows
   along-count E c = length-upto (λ (k : ℕ). arcRow gs plane pos r E c (countOf (wantedOf c)) (k + 1)) (countOf (wantedOf c))
 
-  few : (w : ℕ) → (1 ≤ countOf w) × (countOf w ≤ 100000)
+  few : (w : ℕ) → (1 ≤ countOf w) × (countOf w ≤ mostArcRows)
   unfolding countOf
   few w = omega arith
 
-  pub arc-count : (1 ≤ length (arcAnswer tol gs plane cw pos r .rows)) × (length (arcAnswer tol gs plane cw pos r .rows) ≤ 100000)
+  pub arc-count : (1 ≤ length (arcAnswer tol gs plane cw pos r .rows)) × (length (arcAnswer tol gs plane cw pos r .rows) ≤ mostArcRows)
   unfolding passed
   arc-count =
-      arc-cases tol gs plane cw pos r (λ (a : Answer). (1 ≤ length (a .rows)) × (length (a .rows) ≤ 100000))
+      arc-cases tol gs plane cw pos r (λ (a : Answer). (1 ≤ length (a .rows)) × (length (a .rows) ≤ mostArcRows))
       (λ w. omega arith)
       (λ E c. rw (along-count E c) (few (wantedOf c)))
 
@@ -149,7 +153,9 @@ module _ (tol : Float) (gs : List ℕ) (plane : ℕ) (cw : Bool) (pos : ℕ → 
   arc-words =
       arc-cases tol gs plane cw pos r (λ (a : Answer). length (flatten (a .rows)) ≡ length (a .rows) * rowWords)
       (λ w. ap length (flatten-one (outRow r)) ∙ length-out r)
-      (λ E c. rw (along-count E c) (length-rows (λ (k : ℕ). arcRow gs plane pos r E c (countOf (wantedOf c)) (k + 1)) (λ k. arc-long gs plane pos r E c (countOf (wantedOf c)) (k + 1)) (countOf (wantedOf c))))
+      (λ E c.
+      let n = countOf (wantedOf c) in
+      rw (along-count E c) (length-rows (λ (k : ℕ). arcRow gs plane pos r E c n (k + 1)) (λ k. arc-long gs plane pos r E c n (k + 1)) n))
 
 -- ---- one row of an arc: the last is made of the programmed end, the others of samples
 module _ (gs : List ℕ) (plane : ℕ) (pos : ℕ → Option ℕ) (r : List ℕ) (E : Ends) (c : Arc) (n : ℕ) where
@@ -161,7 +167,7 @@ module _ (gs : List ℕ) (plane : ℕ) (pos : ℕ → Option ℕ) (r : List ℕ)
   unfolding arcRow
   mid-is k d = rw (ne-eqb k n d)
 
-  -- ".. unmarked. Others are marked"
+  -- only the last row has no mark
   pub arc-mark : (k : ℕ) → markOf (arcRow gs plane pos r E c n k) ≡ cond (eqb k n) 0 1
   unfolding arcRow madeRow rowOf
   arc-mark k = by-bit (eqb k n) (λ b. rw b (by-bit (eqb k 1) (λ d. rw d) (λ d. rw d))) (λ b. rw b (by-bit (eqb k 1) (λ d. rw d) (λ d. rw d)))
@@ -170,8 +176,10 @@ module _ (gs : List ℕ) (plane : ℕ) (pos : ℕ → Option ℕ) (r : List ℕ)
   unfolding arcRow madeRow rowOf
   arc-line k = by-bit (eqb k n) (λ b. rw b (by-bit (eqb k 1) (λ d. rw d) (λ d. rw d))) (λ b. rw b (by-bit (eqb k 1) (λ d. rw d) (λ d. rw d)))
 
-  -- "First row: motion G1, plane, .. and carry"; a later row has none of them
-  pub arc-head : (k : ℕ) → (motionOf (arcRow gs plane pos r E c n k) ≡ cond (eqb k 1) gOne 0) × ((planeOf (arcRow gs plane pos r E c n k) ≡ cond (eqb k 1) (planeOf r) 0) × (carryOf (arcRow gs plane pos r E c n k) ≡ cond (eqb k 1) (carryOf r) 0))
+  -- motion, plane and carry stand on the first row alone
+  pub arc-head : (k : ℕ) →
+      let a = arcRow gs plane pos r E c n k in
+      (motionOf a ≡ cond (eqb k 1) gOne 0) × ((planeOf a ≡ cond (eqb k 1) (planeOf r) 0) × (carryOf a ≡ cond (eqb k 1) (carryOf r) 0))
   unfolding arcRow madeRow rowOf
   arc-head k = by-bit (eqb k n)
       (λ b. rw b (by-bit (eqb k 1) (λ d. rw d (refl, (refl, refl))) (λ d. rw d (refl, (refl, refl)))))
@@ -180,4 +188,5 @@ module _ (gs : List ℕ) (plane : ℕ) (pos : ℕ → Option ℕ) (r : List ℕ)
   -- a listed axis on the last row
   pub last-cell : (k : ℕ) → k < cells → member k gs ≡ true → cell (arcRow gs plane pos r E c n n) k ≡ lastCell gs plane E r k
   unfolding madeCell withRiders rides
-  last-cell k h m = ap (λ (l : List ℕ). cell l k) last-is ∙ made-cell gs r (eqb n 1) gOne false (lastCell gs plane E r) k h ∙ by-bit (eqb n 1) (λ b. rw (b, m, and-false)) (λ b. rw b)
+  last-cell k h m = ap (λ (l : List ℕ). cell l k) last-is ∙ made-cell gs r (eqb n 1) gOne false (lastCell gs plane E r) k h
+      ∙ by-bit (eqb n 1) (λ b. rw (b, m, and-false)) (λ b. rw b)

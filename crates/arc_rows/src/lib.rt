@@ -2,23 +2,20 @@
 use layout::R_PRESENT;
 ghost use mathlib.Core.Path.{_≡_};
 ghost use mathlib.Core.Option.{Option·getD};
-ghost use Prim.Native.Nat.{_+_, _^_, _<_, _≤_};
+ghost use Prim.Native.Nat.{_<_, _≤_};
 ghost use lib.ListN.{length};
 ghost use Rattle.floats.specs.Numbers.{num};
-ghost use Rattle.floats.specs.Lists.{flatten, spliced};
-ghost use Rattle.layout.specs.Layout.{axisCodes, cells, rowWords};
+ghost use Rattle.floats.specs.Lists.{spliced};
+ghost use Rattle.layout.specs.Layout.{axisCodes, axisMasks, cells, rowWords};
 ghost use Rattle.row_cells.specs.Row.{cell, number, shown, axesOf, hasPoint, presentOf};
 ghost use Rattle.row_cells.specs.Bits.{maskSum};
-ghost use Rattle.arc_numbers.specs.Types.{numberIs, endsIs};
-ghost use Rattle.arc_rows.specs.Arc.{arcAnswer};
-ghost use Rattle.arc_rows.specs.Plan.{BlockOf, silentAt, holds, endsAt, passPlan, alongPlan, planRows, Planned, WriteOf};
-
-const FIRST_OFFSET: usize = 15;
+ghost use Rattle.arc_centre.specs.Types.{centreIs, numberIs, endsIs};
+ghost use Rattle.arc_rows.specs.Plan.{BlockOf, silentAt, holds, endsAt, centreAt, passPlan, alongPlan, planOut, PlannedFrom, PlanOf, WriteOf};
 
 // How a block's rows come about: it passes unchanged, or it goes along an arc.
 pub enum Way {
     Pass,
-    Along(arc_numbers::Ends, arc_numbers::Arc),
+    Along(arc_centre::Ends, arc_numbers::Arc),
 }
 
 // What a block comes to: its rows' number, the warning, with warning 6 the wanted count, the held axes.
@@ -30,14 +27,14 @@ pub struct Plan {
     pub way: Way,
 }
 
-fn cell_number(row: &[u64], k: usize) -> arc_numbers::Cell
+fn cell_number(row: &[u64], k: usize) -> arc_centre::Cell
     requires { ⌜ (length (now row) ≡ rowWords) × (k < cells) ⌝ }
     ensures { λ r. ⌜ numberIs r ≡ number (now (row .entry)) k ⌝ }
 {
     if row_cells::has_bit(row[R_PRESENT], k as u64) {
-        return arc_numbers::Cell::Number(floats::of_bits(row[layout::R_CELLS + k]));
+        return arc_centre::Cell::Number(floats::of_bits(row[layout::R_CELLS + k]));
     }
-    arc_numbers::Cell::Absent
+    arc_centre::Cell::Absent
 }
 
 // The programmed end on axis k, or the start where none is programmed.
@@ -51,13 +48,13 @@ fn end_on(row: &[u64], k: usize, start: u64) -> f64
     floats::of_bits(start)
 }
 
-fn ends(row: &[u64], at: &[u64], u: usize, v: usize) -> arc_numbers::Ends
+fn ends(row: &[u64], at: &[u64], u: usize, v: usize) -> arc_centre::Ends
     requires { ⌜ (length (now row) ≡ rowWords) × ((axisCodes ≤ length (now at)) × ((u < axisCodes) × (v < axisCodes))) ⌝ }
     ensures { λ r. ⌜ endsIs r ≡ endsAt (now (row .entry)) (now (at .entry)) u v ⌝ }
 {
     let su = at[u];
     let sv = at[v];
-    arc_numbers::Ends {
+    arc_centre::Ends {
         su: floats::of_bits(su),
         sv: floats::of_bits(sv),
         eu: end_on(row, u, su),
@@ -66,7 +63,7 @@ fn ends(row: &[u64], at: &[u64], u: usize, v: usize) -> arc_numbers::Ends
 }
 
 fn has_point(row: &[u64], gs: u64) -> bool
-    requires { ⌜ (length (now row) ≡ rowWords) × (gs < 2 ^ axisCodes) ⌝ }
+    requires { ⌜ (length (now row) ≡ rowWords) × (gs < axisMasks) ⌝ }
     ensures { λ r. ⌜ r ≡ hasPoint (axesOf gs) (now (row .entry)) ⌝ }
 {
     let present = row[R_PRESENT];
@@ -81,16 +78,16 @@ fn has_point(row: &[u64], gs: u64) -> bool
 }
 
 fn is_silent(row: &[u64], gs: u64, u: usize, v: usize) -> bool
-    requires { ⌜ (length (now row) ≡ rowWords) × ((gs < 2 ^ axisCodes) × ((u < 3) × (v < 3))) ⌝ }
+    requires { ⌜ (length (now row) ≡ rowWords) × ((gs < axisMasks) × ((u < 3) × (v < 3))) ⌝ }
     ensures { λ r. ⌜ r ≡ silentAt (axesOf gs) u v (now (row .entry)) ⌝ }
 {
     if has_point(row, gs) {
         return false;
     }
-    if row_cells::has_bit(row[R_PRESENT], (FIRST_OFFSET + u) as u64) {
+    if row_cells::has_bit(row[R_PRESENT], (layout::C_OFFSET + u) as u64) {
         return false;
     }
-    if row_cells::has_bit(row[R_PRESENT], (FIRST_OFFSET + v) as u64) {
+    if row_cells::has_bit(row[R_PRESENT], (layout::C_OFFSET + v) as u64) {
         return false;
     }
     !row_cells::has_bit(row[R_PRESENT], layout::C_CR as u64)
@@ -139,7 +136,7 @@ fn passing(warning: u64) -> Plan
     }
 }
 
-fn along(e: arc_numbers::Ends, c: arc_numbers::Arc, held: u64) -> Plan
+fn along(e: arc_centre::Ends, c: arc_numbers::Arc, held: u64) -> Plan
     ensures { λ p. ⌜ p ≡ alongPlan e c held ⌝ }
 {
     let wanted = arc_numbers::wanted(c);
@@ -163,6 +160,44 @@ fn along(e: arc_numbers::Ends, c: arc_numbers::Arc, held: u64) -> Plan
     }
 }
 
+// The centre of an arc block, by its offsets or CR.
+fn seek_centre(row: &[u64], cw: bool, e: arc_centre::Ends, u: usize, v: usize) -> arc_centre::Centre
+    requires { ⌜ (length (now row) ≡ rowWords) × ((u < 3) × (v < 3)) ⌝ }
+    ensures { λ r. ⌜ centreIs r ≡ centreAt cw (endsIs e) u v (now (row .entry)) ⌝ }
+{
+    let i = cell_number(row, layout::C_OFFSET + u);
+    let j = cell_number(row, layout::C_OFFSET + v);
+    let cr = cell_number(row, layout::C_CR);
+    arc_centre::find_centre(cw, e, i, j, cr)
+}
+
+// What an arc block from e's start to its end comes to by its centre.
+fn from_centre(
+    row: &[u64],
+    f: arc_sample::Setting,
+    cw: bool,
+    tol: f64,
+    e: arc_centre::Ends,
+    centre: arc_centre::Centre,
+) -> Plan
+    requires { ⌜ (length (now row) ≡ rowWords) × (f .gs < axisMasks) ⌝ }
+    ensures { λ p. ⌜ PlannedFrom tol cw f (now (row .entry)) (endsIs e) (centreIs centre) p ⌝ }
+{
+    match centre {
+        arc_centre::Centre::At(cu, cv) => {
+            let turn = cell_number(row, layout::C_TURN);
+            let c = arc_numbers::arc_of(tol, cw, e, cu, cv, turn);
+            let u = arc_sample::plane_u(f.plane);
+            let v = arc_sample::plane_v(f.plane);
+            along(e, c, held_axes(row, f.gs, f.known, u, v))
+        }
+        arc_centre::Centre::Coincident => passing(2),
+        arc_centre::Centre::Short => passing(3),
+        arc_centre::Centre::Missing => passing(4),
+        arc_centre::Centre::Small => passing(5),
+    }
+}
+
 // What an arc block comes to. gs is the mask of the geometric axes, known that of the positions at hand.
 pub fn plan_arc(
     row: &[u64],
@@ -174,7 +209,7 @@ pub fn plan_arc(
     tol: f64,
 ) -> Plan
     requires { ⌜ BlockOf (now row) gs (now at) ⌝ }
-    ensures { λ p. ⌜ Planned (axesOf gs) plane (shown known (now (at .entry))) (now (row .entry)) (arcAnswer tol (axesOf gs) plane cw (shown known (now (at .entry))) (now (row .entry))) p ⌝ }
+    ensures { λ p. ⌜ PlanOf tol (axesOf gs) plane cw (shown known (now (at .entry))) (now (row .entry)) p ⌝ }
 {
     let u = arc_sample::plane_u(plane);
     let v = arc_sample::plane_v(plane);
@@ -188,20 +223,8 @@ pub fn plan_arc(
         return passing(1);
     }
     let e = ends(row, at, u, v);
-    let i = cell_number(row, FIRST_OFFSET + u);
-    let j = cell_number(row, FIRST_OFFSET + v);
-    let cr = cell_number(row, layout::C_CR);
-    match arc_numbers::find_centre(cw, e, i, j, cr) {
-        arc_numbers::Centre::At(cu, cv) => {
-            let turn = cell_number(row, layout::C_TURN);
-            let c = arc_numbers::arc_of(tol, cw, e, cu, cv, turn);
-            along(e, c, held_axes(row, gs, known, u, v))
-        }
-        arc_numbers::Centre::Coincident => passing(2),
-        arc_numbers::Centre::Short => passing(3),
-        arc_numbers::Centre::Missing => passing(4),
-        arc_numbers::Centre::Small => passing(5),
-    }
+    let f = arc_sample::Setting { gs, plane, known };
+    from_centre(row, f, cw, tol, e, seek_centre(row, cw, e, u, v))
 }
 
 // Writes the rows of a planned block from word `from` on.
@@ -216,12 +239,15 @@ pub fn write_arc(
     plan: Plan,
 )
     requires { ⌜ BlockOf (now row) gs (now at) × WriteOf (axesOf gs) plane (shown known (now at)) (now row) (now rows) from plan ⌝ }
-    ensures { λ _. ⌜ now (rows .exit) ≡ spliced (now (rows .entry)) from (flatten (planRows (axesOf gs) plane (shown known (now (at .entry))) (now (row .entry)) plan)) ⌝ }
+    ensures { λ _. ⌜ now (rows .exit) ≡ spliced (now (rows .entry)) from (planOut (axesOf gs) plane (shown known (now (at .entry))) (now (row .entry)) plan) ⌝ }
 {
     let n = plan.count;
     let way = plan.way;
     match way {
         Way::Pass => row_put::put_row(rows, from, row),
-        Way::Along(e, c) => arc_sample::draw(rows, from, row, gs, plane, known, at, e, c, n),
+        Way::Along(e, c) => {
+            let f = arc_sample::Setting { gs, plane, known };
+            arc_sample::draw(rows, from, row, at, f, e, c, n)
+        }
     }
 }

@@ -1,4 +1,4 @@
--- Laws of words in axis order: a filled slice of as many words as axes, and one word set in it. Assumes nothing.
+-- LAWS. Words in axis order: a filled slice of as many words as axes, and one word set in it. Assumes nothing.
 use Prim.Native.Nat.{ℕ, _<_}
 use mathlib.Core.Path.{_≡_, sym, _∙_, ap}
 use mathlib.Core.Bool.{cond}

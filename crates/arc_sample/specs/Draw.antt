@@ -1,102 +1,31 @@
--- The rows of an arc as the code makes them: the axes that they have, the words of a sample and of the end; and that they are the definition's rows. Assumes nothing.
+-- LAWS. The rows of an arc as the code makes them, axis by axis, are the definition's. Assumes nothing.
 use Prim.Native.Nat.{ℕ, _+_, _-_, _*_, _^_, _<_, _≤_}
 use mathlib.Core.Path.{_≡_, refl, sym, _∙_, ap}
 use mathlib.Core.Bool.{Bool, true, false, _&&_, _||_, cond}
 use mathlib.Core.List.{List}
-use mathlib.Core.Option.{Option, none, some, Option·getD}
+use mathlib.Core.Option.{Option, none, some}
 use mathlib.Core.Logic.{⊎-elim}
 use native.Mathlib.Omega.{arith}
-use lib.ListN.{length, getD}
+use lib.ListN.{length}
 use lib.Dec.{eqb}
 use lib.Ieee.{Float, nan}
 use borrow.Author.Tests.{eqb-true, ne-eqb, eq-eqb}
-use Rattle.floats.specs.Numbers.{_⊕_, _⊖_, _⊗_, _⊘_, num, bits, ofNat, at}
+use Rattle.floats.specs.Numbers.{_⊕_, _⊗_, _⊘_, bits, ofNat, at}
 use Rattle.floats.specs.Lists.{upto, member, opt, flatten, spliced}
 use Rattle.floats.specs.Fill.{at-upto, lt-or-le}
 use Rattle.trig.specs.Trig.{sinSteps, cosSteps}
-use Rattle.layout.specs.Layout.{axisCodes, rCells, rowWords}
+use Rattle.layout.specs.Layout.{axisCodes, rowWords}
 use Rattle.motion.specs.Motion.{gOne}
 use Rattle.row_cells.specs.Codes.{planeU, planeV}
-use Rattle.row_cells.specs.Bits.{has, maskSum}
+use Rattle.row_cells.specs.Bits.{has}
 use Rattle.row_cells.specs.Row.{cell, shown, presentOf, axesOf}
-use Rattle.row_put.specs.Made.{madeRow}
 use Rattle.floats.specs.Truth.{by-bit}
 use Rattle.row_cells.specs.Masks.{mask-lt, has-mask, has-past, member-small}
 use Rattle.row_put.specs.MadeLaws.{made-same, length-made}
 use Rattle.arc_numbers.specs.Arc.{Ends, Arc, angleAt, radiusAt}
 use Rattle.arc_sample.specs.Rowing.{Rowing, rowing-same, rowing-more}
+use Rattle.arc_sample.specs.Drawn.{drawn, drawnMask, startOf, spanOf, rampOf, sampleWord, endWord, lastWord, midRow, midRows, lastRow}
 use Rattle.arc_sample.specs.Samples.{ramp, lastCell, midCell, arcRow}
-
--- the axes that the rows of an arc have: the two of the plane, and the programmed ones of the started list
-unfoldable pub drawn : ℕ → ℕ → ℕ → ℕ → ℕ → Bool
-drawn gs present u v k = eqb k u || (eqb k v || (has gs k && has present k))
-
-abbrev pub drawnMask : ℕ → List ℕ → ℕ → ℕ → ℕ
-drawnMask gs r u v = maskSum (drawn gs (presentOf r) u v) axisCodes
-
--- "Other programmed axes ramp; with unknown start they hold the end": where axis k starts, and how far it goes
-unfoldable pub startOf : List ℕ → (ℕ → Option ℕ) → ℕ → Float
-startOf r pos k = num (Option·getD (pos k) (getD r (rCells + k) 0))
-
-unfoldable pub spanOf : List ℕ → List Float → ℕ → Float
-spanOf r starts k = num (getD r (rCells + k) 0) ⊖ at starts k
-
-unfoldable pub rampOf : List Float → List Float → Float → ℕ → ℕ
-rampOf starts spans f k = bits (at starts k ⊕ at spans k ⊗ f)
-
--- axis k's word in the row at the fraction f, and in the last row
-unfoldable pub sampleWord : Arc → ℕ → ℕ → List Float → List Float → Float → ℕ → ℕ
-sampleWord c u v starts spans f k =
-    cond (eqb k u) (bits (c .cu ⊕ radiusAt c f ⊗ cosSteps (angleAt c f)))
-    (cond (eqb k v) (bits (c .cv ⊕ radiusAt c f ⊗ sinSteps (angleAt c f))) (rampOf starts spans f k))
-
-unfoldable pub endWord : List ℕ → ℕ → ℕ
-endWord r k = getD r (rCells + k) 0
-
-unfoldable pub lastWord : Ends → ℕ → ℕ → List ℕ → ℕ → ℕ
-lastWord e u v r k = cond (eqb k u) (bits (e .eu)) (cond (eqb k v) (bits (e .ev)) (endWord r k))
-
--- row k of n, where n is a float, and the last row
-unfoldable pub midRow : List ℕ → List ℕ → ℕ → (Float → ℕ → ℕ) → Float → ℕ → List ℕ
-midRow gs r mask word n k = madeRow gs r (eqb k 1) gOne true (shown mask (upto (word (ofNat k ⊘ n)) axisCodes))
-
-abbrev pub midRows : List ℕ → List ℕ → ℕ → (Float → ℕ → ℕ) → ℕ → ℕ → List ℕ
-midRows gs r mask word n j = midRow gs r mask word (ofNat n) (j + 1)
-
-unfoldable pub lastRow : List ℕ → List ℕ → ℕ → (ℕ → ℕ) → Bool → List ℕ
-lastRow gs r mask word first = madeRow gs r first gOne false (shown mask (upto word axisCodes))
-
--- ---- what the code asks
-pub record SampleOf (words : List ℕ) (u v : ℕ) (starts spans : List Float) : Type 0 where
-  pub room : length words ≡ axisCodes
-  pub onU : u < axisCodes
-  pub onV : v < axisCodes
-  pub from : length starts ≡ axisCodes
-  pub by : length spans ≡ axisCodes
-
-pub record RowOf (rows : List ℕ) (place : ℕ) (r : List ℕ) (gs mask u v : ℕ) : Type 0 where
-  pub room : place + rowWords ≤ length rows
-  pub long : length r ≡ rowWords
-  pub axes : gs < 2 ^ axisCodes
-  pub shows : mask < 2 ^ axisCodes
-  pub onU : u < axisCodes
-  pub onV : v < axisCodes
-
-pub record RowsOf (rows : List ℕ) (from : ℕ) (r : List ℕ) (gs mask u v n : ℕ) : Type 0 where
-  pub room : from + n * rowWords ≤ length rows
-  pub some : 1 ≤ n
-  pub long : length r ≡ rowWords
-  pub axes : gs < 2 ^ axisCodes
-  pub shows : mask < 2 ^ axisCodes
-  pub onU : u < axisCodes
-  pub onV : v < axisCodes
-
-pub record DrawOf (rows : List ℕ) (from : ℕ) (r : List ℕ) (gs : ℕ) (at : List ℕ) (n : ℕ) : Type 0 where
-  pub room : from + n * rowWords ≤ length rows
-  pub some : 1 ≤ n
-  pub long : length r ≡ rowWords
-  pub axes : gs < 2 ^ axisCodes
-  pub wide : axisCodes ≤ length at
 
 -- ---- the code's words are the definition's cells
 module _ (gs : ℕ) (small : gs < 2 ^ axisCodes) (r : List ℕ) (u v : ℕ) (onU : u < axisCodes) (onV : v < axisCodes) where
@@ -121,7 +50,9 @@ module _ (gs : ℕ) (small : gs < 2 ^ axisCodes) (r : List ℕ) (u v : ℕ) (onU
       (λ p. rw p (sym (en k p)))))
       (λ d. rw d)))))))
       (λ (g : axisCodes ≤ k).
-      rw (has-past (drawnMask gs r u v) axisCodes k (mask-lt (drawn gs (presentOf r) u v) axisCodes) g, member-small gs k small, has-past gs axisCodes k small g, ne-eqb k u (λ (e : k ≡ u). omega arith), ne-eqb k v (λ (e : k ≡ v). omega arith)))
+      let past : has (drawnMask gs r u v) k ≡ false = has-past (drawnMask gs r u v) axisCodes k (mask-lt (drawn gs (presentOf r) u v) axisCodes) g in
+      let off : (i : ℕ) → i < axisCodes → eqb k i ≡ false = λ i h. ne-eqb k i (λ (e : k ≡ i). omega arith) in
+      rw (past, member-small gs k small, has-past gs axisCodes k small g, off u onU, off v onV))
       (lt-or-le k axisCodes)
 
   module _ (plane : ℕ) (isU : u ≡ planeU plane) (isV : v ≡ planeV plane) where
@@ -160,15 +91,18 @@ module _ (gs : ℕ) (small : gs < 2 ^ axisCodes) (r : List ℕ) (u v : ℕ) (onU
     unfolding lastRow arcRow
     last-row pos e c n first ef =
         rw (ef, eq-eqb n n refl)
-        (made-same (axesOf gs) (axesOf gs) r (eqb n 1) gOne false (shown (drawnMask gs r u v) (upto (lastWord e u v r) axisCodes)) (lastCell (axesOf gs) plane e r) (λ k l. refl) (λ k l. last-shown e k))
+        (made-same (axesOf gs) (axesOf gs) r (eqb n 1) gOne false (shown (drawnMask gs r u v) (upto (lastWord e u v r) axisCodes))
+        (lastCell (axesOf gs) plane e r) (λ k l. refl) (λ k l. last-shown e k))
 
     pub mid-row : (pos : ℕ → Option ℕ) (e : Ends) (c : Arc) (starts spans : List Float) → starts ≡ upto (startOf r pos) axisCodes
         → spans ≡ upto (spanOf r starts) axisCodes → (n j : ℕ) → j + 1 < n
         → midRows (axesOf gs) r (drawnMask gs r u v) (sampleWord c u v starts spans) n j ≡ arcRow (axesOf gs) plane pos r e c n (j + 1)
     unfolding midRow arcRow
     mid-row pos e c starts spans es ep n j l =
+        let f = ofNat (j + 1) ⊘ ofNat n in
         rw (ne-eqb (j + 1) n (λ (q : j + 1 ≡ n). omega arith))
-        (made-same (axesOf gs) (axesOf gs) r (eqb (j + 1) 1) gOne true (shown (drawnMask gs r u v) (upto (sampleWord c u v starts spans (ofNat (j + 1) ⊘ ofNat n)) axisCodes)) (midCell (axesOf gs) plane pos r c (ofNat (j + 1) ⊘ ofNat n)) (λ k l. refl) (λ k l. mid-shown pos c (ofNat (j + 1) ⊘ ofNat n) starts spans es ep k))
+        (made-same (axesOf gs) (axesOf gs) r (eqb (j + 1) 1) gOne true (shown (drawnMask gs r u v) (upto (sampleWord c u v starts spans f) axisCodes))
+        (midCell (axesOf gs) plane pos r c f) (λ k l. refl) (λ k l. mid-shown pos c f starts spans es ep k))
 
 pub mid-long : (gs r : List ℕ) (mask : ℕ) (word : Float → ℕ → ℕ) (n j : ℕ) → length (midRows gs r mask word n j) ≡ rowWords
 unfolding midRow

@@ -1,4 +1,4 @@
--- Rows written one after another over a list of words, as a loop does it. Assumes nothing.
+-- LAWS. Rows written one after another over a list of words, as a loop does it. Assumes nothing.
 use Prim.Native.Nat.{ℕ, zero, suc, _+_, _*_, _<_, _≤_}
 use mathlib.Core.Path.{_≡_, refl, sym, _∙_, ap}
 use mathlib.Core.List.{List, [], _∷_, _++_, append-assoc, append-nil}

@@ -1,4 +1,4 @@
--- Document 01, "Arc": the rows of an arc, by the sentences of that section. Assumes nothing.
+-- DEFINITIONS. The rows of an arc. Assumes nothing.
 use Prim.Native.Nat.{ℕ}
 use mathlib.Core.Bool.{true, false, cond}
 use mathlib.Core.List.{List}
@@ -14,11 +14,11 @@ use Rattle.row_cells.specs.Codes.{planeU, planeV}
 use Rattle.row_cells.specs.Row.{cell}
 use Rattle.row_put.specs.Made.{madeRow}
 
--- "Other programmed axes ramp; with unknown start they hold the end"
+-- an axis outside the plane goes evenly from its start to its end; it stays at its end where the start is not known
 unfoldable pub ramp : Option ℕ → ℕ → Float → Float
 ramp start end f = let s = num (Option·getD start end) in s ⊕ (num end ⊖ s) ⊗ f
 
--- the cells of the last row: "The last takes the programmed end, or the held start of an unprogrammed plane axis"
+-- the cells of the last row: each axis at its programmed end, one of the plane at its start where it has none
 unfoldable pub lastCell : List ℕ → ℕ → Ends → List ℕ → ℕ → Option ℕ
 lastCell gs plane e r k =
     cond (eqb k (planeU plane)) (some (bits (e .eu)))
@@ -33,7 +33,7 @@ midCell gs plane pos r c f k =
     let w : Option ℕ = opt (λ (end : ℕ). bits (ramp (pos k) end f)) (cell r k) in
     cond (eqb k (planeU plane)) u (cond (eqb k (planeV plane)) v (cond (member k gs) w none))
 
--- ".. unmarked. Others are marked"; "First row: motion G1"
+-- row k of n: only the last has no mark, and only the first a motion
 unfoldable pub arcRow : List ℕ → ℕ → (ℕ → Option ℕ) → List ℕ → Ends → Arc → ℕ → ℕ → List ℕ
 arcRow gs plane pos r e c n k =
     let last = madeRow gs r (eqb k 1) gOne false (lastCell gs plane e r) in

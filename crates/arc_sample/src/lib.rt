@@ -1,20 +1,36 @@
 // The rows of an arc: samples along it, and its programmed end.
 use layout::R_PRESENT;
+use motion::G1;
 ghost use mathlib.Core.Path.{_≡_};
 ghost use mathlib.Core.Bool.{_&&_};
-ghost use Prim.Native.Nat.{ℕ, _+_, _-_, _<_, _≤_};
+ghost use Prim.Native.Nat.{_+_, _-_, _*_, _<_, _≤_};
 ghost use lib.ListN.{length};
-ghost use Rattle.floats.specs.Lists.{upto, flatten, spliced};
+ghost use Rattle.floats.specs.Lists.{upto, spliced};
 ghost use Rattle.layout.specs.Layout.{axisCodes, rowWords};
 ghost use Rattle.row_cells.specs.Codes.{planeU, planeV};
 ghost use Rattle.row_cells.specs.Bits.{has, maskSum};
-ghost use Rattle.row_cells.specs.Row.{shown, axesOf, presentOf};
-ghost use Rattle.arc_numbers.specs.Types.{endsIs, arcIs};
-ghost use Rattle.arc_sample.specs.Samples.{arcRow};
+ghost use Rattle.row_cells.specs.Row.{shown, presentOf};
+ghost use Rattle.arc_centre.specs.Types.{endsIs};
+ghost use Rattle.arc_numbers.specs.Types.{arcIs};
 ghost use Rattle.arc_sample.specs.Rowing.{Rowing};
-ghost use Rattle.arc_sample.specs.Draw.{drawn, startOf, spanOf, rampOf, sampleWord, endWord, lastWord, midRow, midRows, lastRow, SampleOf, RowOf, RowsOf, DrawOf};
+ghost use Rattle.arc_sample.specs.Drawn.{drawn, startOf, spanOf, rampOf, sampleWord, endWord, lastWord, mid, mids, last, settingRows};
+ghost use Rattle.arc_sample.specs.Asks.{SampleOf, DrawingOf, Ramps, DrawOf};
 
-const G1: u64 = 2;
+// What an arc block is drawn in: the mask of the geometric axes, the plane's word, the mask of the positions at hand.
+pub struct Setting {
+    pub gs: u64,
+    pub plane: u64,
+    pub known: u64,
+}
+
+// What every row of an arc takes: the geometric axes, the axes that the rows have, the two of the plane, the arc.
+struct Drawing {
+    gs: u64,
+    mask: u64,
+    u: usize,
+    v: usize,
+    c: arc_numbers::Arc,
+}
 
 pub fn plane_u(plane: u64) -> usize
     ensures { λ r. ⌜ (r ≡ planeU plane) × (r < 3) ⌝ }
@@ -155,7 +171,7 @@ fn put_ends(words: &mut [u64], row: &[u64])
 }
 
 // The words of the last row.
-fn put_last(words: &mut [u64], row: &[u64], e: arc_numbers::Ends, u: usize, v: usize)
+fn put_last(words: &mut [u64], row: &[u64], e: arc_centre::Ends, u: usize, v: usize)
     requires { ⌜ (length (now words) ≡ axisCodes) × ((length (now row) ≡ rowWords) × ((u < axisCodes) × (v < axisCodes))) ⌝ }
     ensures { λ _. ⌜ now (words .exit) ≡ upto (lastWord (endsIs e) u v (now (row .entry))) axisCodes ⌝ }
 {
@@ -169,73 +185,50 @@ fn put_mid_row(
     rows: &mut [u64],
     place: usize,
     row: &[u64],
-    gs: u64,
-    mask: u64,
-    c: arc_numbers::Arc,
-    u: usize,
-    v: usize,
+    d: Drawing,
     starts: &[f64],
     spans: &[f64],
     k: usize,
     n: f64,
 )
-    requires { ⌜ RowOf (now rows) place (now row) gs mask u v × ((length (now starts) ≡ axisCodes) × (length (now spans) ≡ axisCodes)) ⌝ }
-    ensures { λ _. ⌜ now (rows .exit) ≡ spliced (now (rows .entry)) place (midRow (axesOf gs) (now (row .entry)) mask (sampleWord (arcIs c) u v (now (starts .entry)) (now (spans .entry))) n k) ⌝ }
+    requires { ⌜ DrawingOf (now row) d × Ramps (now starts) (now spans) ⌝ }
+    requires { ⌜ place + rowWords ≤ length (now rows) ⌝ }
+    ensures { λ _. ⌜ now (rows .exit) ≡ spliced (now (rows .entry)) place (mid d (now (row .entry)) (now (starts .entry)) (now (spans .entry)) n k) ⌝ }
 {
     let f = std::num::nearest_u64_to_f64(k as u64) / n;
+    let c = d.c;
     let mut words = [0u64; layout::AXIS_CODES];
-    put_sample(&mut words, c, u, v, starts, spans, f);
-    row_put::put_made(
-        rows,
-        place,
-        row,
-        row_put::Made {
-            axes: gs,
-            mask: mask,
-            first: k == 1,
-            motion: G1,
-            marked: true,
-        },
-        &words,
-    );
+    put_sample(&mut words, c, d.u, d.v, starts, spans, f);
+    let made = row_put::Made {
+        axes: d.gs,
+        mask: d.mask,
+        first: k == 1,
+        motion: G1,
+        marked: true,
+    };
+    row_put::put_made(rows, place, row, made, &words);
 }
 
 // The rows before the last of n, and where they end.
 fn put_mid_rows(
     rows: &mut [u64],
-    from: usize,
+    at: usize,
     row: &[u64],
-    gs: u64,
-    mask: u64,
-    c: arc_numbers::Arc,
-    u: usize,
-    v: usize,
+    d: Drawing,
     starts: &[f64],
     spans: &[f64],
     n: usize,
 ) -> usize
-    requires { ⌜ RowsOf (now rows) from (now row) gs mask u v n × ((length (now starts) ≡ axisCodes) × (length (now spans) ≡ axisCodes)) ⌝ }
-    ensures { λ r. ⌜ Rowing (midRows (axesOf gs) (now (row .entry)) mask (sampleWord (arcIs c) u v (now (starts .entry)) (now (spans .entry))) n) from (n - 1) (now (rows .entry)) (now (rows .exit)) r ⌝ }
+    requires { ⌜ DrawingOf (now row) d × Ramps (now starts) (now spans) ⌝ }
+    requires { ⌜ (1 ≤ n) × (at + n * rowWords ≤ length (now rows)) ⌝ }
+    ensures { λ r. ⌜ Rowing (mids d (now (row .entry)) (now (starts .entry)) (now (spans .entry)) n) at (n - 1) (now (rows .entry)) (now (rows .exit)) r ⌝ }
 {
     let last = n - 1;
     let whole = std::num::nearest_u64_to_f64(n as u64);
-    let mut place = from;
+    let mut place = at;
     let mut j: usize = 0;
     while j < last {
-        put_mid_row(
-            rows,
-            place,
-            row,
-            gs,
-            mask,
-            c,
-            u,
-            v,
-            starts,
-            spans,
-            j + 1,
-            whole,
-        );
+        put_mid_row(rows, place, row, d, starts, spans, j + 1, whole);
         place += layout::ROW_WORDS;
         j += 1;
     }
@@ -246,31 +239,24 @@ fn put_last_row(
     rows: &mut [u64],
     place: usize,
     row: &[u64],
-    gs: u64,
-    mask: u64,
+    d: Drawing,
     first: bool,
-    e: arc_numbers::Ends,
-    u: usize,
-    v: usize,
+    e: arc_centre::Ends,
 )
-    requires { ⌜ RowOf (now rows) place (now row) gs mask u v ⌝ }
-    ensures { λ _. ⌜ now (rows .exit) ≡ spliced (now (rows .entry)) place (lastRow (axesOf gs) (now (row .entry)) mask (lastWord (endsIs e) u v (now (row .entry))) first) ⌝ }
+    requires { ⌜ DrawingOf (now row) d ⌝ }
+    requires { ⌜ place + rowWords ≤ length (now rows) ⌝ }
+    ensures { λ _. ⌜ now (rows .exit) ≡ spliced (now (rows .entry)) place (last d (now (row .entry)) (endsIs e) first) ⌝ }
 {
     let mut words = [0u64; layout::AXIS_CODES];
-    put_last(&mut words, row, e, u, v);
-    row_put::put_made(
-        rows,
-        place,
-        row,
-        row_put::Made {
-            axes: gs,
-            mask: mask,
-            first: first,
-            motion: G1,
-            marked: false,
-        },
-        &words,
-    );
+    put_last(&mut words, row, e, d.u, d.v);
+    let made = row_put::Made {
+        axes: d.gs,
+        mask: d.mask,
+        first,
+        motion: G1,
+        marked: false,
+    };
+    row_put::put_made(rows, place, row, made, &words);
 }
 
 // The n rows of the arc c from e's start to its end.
@@ -278,24 +264,29 @@ pub fn draw(
     rows: &mut [u64],
     from: usize,
     row: &[u64],
-    gs: u64,
-    plane: u64,
-    known: u64,
     at: &[u64],
-    e: arc_numbers::Ends,
+    f: Setting,
+    e: arc_centre::Ends,
     c: arc_numbers::Arc,
     n: usize,
 )
-    requires { ⌜ DrawOf (now rows) from (now row) gs (now at) n ⌝ }
-    ensures { λ _. ⌜ now (rows .exit) ≡ spliced (now (rows .entry)) from (flatten (upto (λ (k : ℕ). arcRow (axesOf gs) plane (shown known (now (at .entry))) (now (row .entry)) (endsIs e) (arcIs c) n (k + 1)) n)) ⌝ }
+    requires { ⌜ DrawOf (now rows) from (now row) (f .gs) (now at) n ⌝ }
+    ensures { λ _. ⌜ now (rows .exit) ≡ spliced (now (rows .entry)) from (settingRows f (now (at .entry)) (now (row .entry)) (endsIs e) (arcIs c) n) ⌝ }
 {
-    let u = plane_u(plane);
-    let v = plane_v(plane);
-    let mask = drawn_axes(row, gs, u, v);
+    let u = plane_u(f.plane);
+    let v = plane_v(f.plane);
+    let mask = drawn_axes(row, f.gs, u, v);
     let mut starts = [0.0; layout::AXIS_CODES];
-    put_starts(&mut starts, row, known, at);
+    put_starts(&mut starts, row, f.known, at);
     let mut spans = [0.0; layout::AXIS_CODES];
     put_spans(&mut spans, row, &starts);
-    let place = put_mid_rows(rows, from, row, gs, mask, c, u, v, &starts, &spans, n);
-    put_last_row(rows, place, row, gs, mask, n == 1, e, u, v);
+    let d = Drawing {
+        gs: f.gs,
+        mask,
+        u,
+        v,
+        c,
+    };
+    let place = put_mid_rows(rows, from, row, d, &starts, &spans, n);
+    put_last_row(rows, place, row, d, n == 1, e);
 }

@@ -1,4 +1,4 @@
--- De Boor's triangle of degrees 1 to 4, written out. Assumes nothing.
+-- DEFINITIONS. De Boor's triangle of degrees 1 to 4, written out. Assumes nothing.
 use mathlib.Core.List.{List}
 use mathlib.Core.Path.{_≡_}
 use mathlib.Core.Bool.{cond}

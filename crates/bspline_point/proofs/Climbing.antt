@@ -1,4 +1,4 @@
--- The triangle in work memory: numbers put one after another, rows, levels. Assumes nothing.
+-- LAWS. The triangle in work memory: numbers put one after another, rows, levels. Assumes nothing.
 use mathlib.Core.Path.{_≡_, refl, sym, ap, _∙_}
 use mathlib.Core.List.{List, _++_}
 use mathlib.Core.Logic.{_⊎_, ⊎-elim}
@@ -10,14 +10,15 @@ use lib.ListN.{length, set, drop, length-drop, length-set}
 use lib.Seq.{getD-take, getD-drop, getD-set-same, getD-set-other, ext-getD, length-take-le}
 use lib.Ieee.{Float, nan}
 use borrow.Author.Tests.{le-ltb}
-use Rattle.floats.specs.Numbers.{_⊕_, _⊖_, _⊗_, _⊘_, ofNat, f0, f1, heldIn, at}
+use Rattle.floats.specs.Numbers.{_⊘_, ofNat, f0, heldIn, at}
 use Rattle.floats.specs.Lists.{filled, row}
 use Rattle.floats.specs.Fill.{length-upto, at-upto, lt-or-le, upto-below}
+use Rattle.layout.specs.Layout.{mostPoints}
 use Rattle.bspline_tables.specs.Basis.{share, raisedAt, levels}
 use Rattle.bspline_tables.specs.Tables.{weighted, window, heldAt, spanIn, curveAt}
 use Rattle.bspline_tables.specs.RowLaws.{length-row, row-order}
 use Rattle.bspline_low.specs.Low.{mixOf}
-use Rattle.bspline_point.specs.Climb.{Put, Raised, Level, column, Climbed, Loaded}
+use Rattle.bspline_point.specs.Climb.{mostWide, Put, Raised, Level, column, Climbed, Loaded}
 
 -- ---- numbers put one after another
 module _ {f : ℕ → Float} {l : List Float} {i : ℕ} where
@@ -47,7 +48,8 @@ four-put f l i h e0 e1 e2 e3 =
     let z : i ≡ i + 0 = omega arith in
     put-more (put-more (put-more (put-more put-none z (omega arith) e0) refl (omega arith) e1) refl (omega arith) e2) refl (omega arith) e3
 
-pub put-join : (f g : ℕ → Float) {l xs ys : List Float} {i j n m : ℕ} → Put f l xs i n → j ≡ i + n → ((c : ℕ) → c < m → g c ≡ f (n + c)) → Put g xs ys j m → Put f l ys i (n + m)
+pub put-join : (f g : ℕ → Float) {l xs ys : List Float} {i j n m : ℕ} → Put f l xs i n → j ≡ i + n → ((c : ℕ) → c < m → g c ≡ f (n + c)) → Put g xs ys j m
+    → Put f l ys i (n + m)
 put-join f g {l} {xs} {ys} {i} {j} {n} {m} p ej e q = record {
   same = q .same ∙ p .same;
   done = λ c h. ⊎-elim
@@ -71,15 +73,18 @@ put-first f p = record {
 }
 
 pub four-raised : (l : List Float) (i wide : ℕ) (a : Float) {x0 x1 x2 x3 : Float} → i + wide + 3 < length l
-    → x0 ≡ mixOf a (at l (i + wide)) (at l i) → x1 ≡ mixOf a (at l (i + wide + 1)) (at l (i + 1)) → x2 ≡ mixOf a (at l (i + wide + 2)) (at l (i + 2)) → x3 ≡ mixOf a (at l (i + wide + 3)) (at l (i + 3))
+    → x0 ≡ mixOf a (at l (i + wide)) (at l i) → x1 ≡ mixOf a (at l (i + wide + 1)) (at l (i + 1)) → x2 ≡ mixOf a (at l (i + wide + 2)) (at l (i + 2))
+    → x3 ≡ mixOf a (at l (i + wide + 3)) (at l (i + 3))
     → Raised l (set (set (set (set l i x0) (i + 1) x1) (i + 2) x2) (i + 3) x3) i 4 wide a
 four-raised l i wide a {x0} h e0 e1 e2 e3 =
     let z : i ≡ i + 0 = omega arith in
     let y : i + wide ≡ i + wide + 0 = omega arith in
-    let first : x0 ≡ mixOf a (at l (i + wide + 0)) (at l (i + 0)) = e0 ∙ ap (λ (j : ℕ). mixOf a (at l j) (at l i)) y ∙ ap (λ (j : ℕ). mixOf a (at l (i + wide + 0)) (at l j)) z in
+    let mix : ℕ → ℕ → Float = λ (j k : ℕ). mixOf a (at l j) (at l k) in
+    let first : x0 ≡ mix (i + wide + 0) (i + 0) = e0 ∙ ap (λ (j : ℕ). mix j i) y ∙ ap (mix (i + wide + 0)) z in
     record { is = four-put (λ c. mixOf a (at l (i + wide + c)) (at l (i + c))) l i (omega arith) first e1 e2 e3 }
 
-pub raised-join : {l xs ys : List Float} {i j n m wide : ℕ} {a : Float} → Raised l xs i n wide a → j ≡ i + n → Raised xs ys j m wide a → Raised l ys i (n + m) wide a
+pub raised-join : {l xs ys : List Float} {i j n m wide : ℕ} {a : Float} → Raised l xs i n wide a → j ≡ i + n → Raised xs ys j m wide a
+    → Raised l ys i (n + m) wide a
 raised-join {l} {xs} {ys} {i} {j} {n} {m} {wide} {a} v ej w =
     record {
       is = put-join (λ c. mixOf a (at l (i + wide + c)) (at l (i + c))) (λ c. mixOf a (at xs (j + wide + c)) (at xs (j + c))) (v .is) ej (λ c h.
@@ -99,7 +104,8 @@ module _ {l : List Float} {wide : ℕ} {a : ℕ → Float} where
   pub level-none : Level l l wide 0 a
   level-none = record { same = refl; done = λ g c h. absurd (omega arith); todo = λ j h. refl }
 
-  pub level-more : {xs ys : List Float} {h i : ℕ} {x : Float} → Level l xs wide h a → i ≡ h * wide → x ≡ a h → Raised xs ys i wide wide x → Level l ys wide (h + 1) a
+  pub level-more : {xs ys : List Float} {h i : ℕ} {x : Float} → Level l xs wide h a → i ≡ h * wide → x ≡ a h → Raised xs ys i wide wide x
+      → Level l ys wide (h + 1) a
   level-more {xs} {ys} {h} {i} {x} v ei ex w =
       let q = w .is in
       let s : (h + 1) * wide ≡ h * wide + wide = rw (add-one, suc-mul) in
@@ -127,7 +133,7 @@ module _ {l : List Float} {wide : ℕ} {a : ℕ → Float} where
 
 -- row j of the next level
 pub level-at : (ks : List Float) (u : Float) (p k : ℕ) (d : List Float) (r j : ℕ) → length d ≡ p + 1 → j < p + 1 → suc r ≤ j
-    → at (levels ks u p k d (suc r)) j ≡ (f1 ⊖ share ks u p k (suc r) j) ⊗ at (levels ks u p k d r) (j - 1) ⊕ share ks u p k (suc r) j ⊗ at (levels ks u p k d r) j
+    → at (levels ks u p k d (suc r)) j ≡ mixOf (share ks u p k (suc r) j) (at (levels ks u p k d r) (j - 1)) (at (levels ks u p k d r) j)
 unfolding levels raisedAt
 level-at ks u p k d r j n h g = at-upto _ (length d) j nan (omega arith) ∙ rw (le-ltb j (suc r) g)
 
@@ -141,7 +147,8 @@ module _ (ks : List Float) (u : Float) (p k wide : ℕ) (l : List Float) where
         sym (at-upto (λ j. at l ((p - j) * wide + c)) (p + 1) (p - h) nan (omega arith) ∙ ap (λ (z : ℕ). at l (z * wide + c)) e);
   }
 
-  pub climbed-more : {xs ys : List Float} {r j m : ℕ} → j ≡ suc r → m ≡ p - r → r < p → Climbed ks u p k wide l xs r → Level xs ys wide m (λ h. share ks u p k j (p - h)) → Climbed ks u p k wide l ys j
+  pub climbed-more : {xs ys : List Float} {r j m : ℕ} → j ≡ suc r → m ≡ p - r → r < p → Climbed ks u p k wide l xs r
+      → Level xs ys wide m (λ h. share ks u p k j (p - h)) → Climbed ks u p k wide l ys j
   climbed-more {xs} {ys} {r} {j} {m} ej em hr cx v = record {
     same = v .same ∙ cx .same;
     is = λ c h hc g.
@@ -149,8 +156,9 @@ module _ (ks : List Float) (u : Float) (p k wide : ℕ) (l : List Float) where
         let lt : h < m = omega arith in
         let nx : h * wide + wide + c ≡ (h + 1) * wide + c = rw (add-one, suc-mul) in
         let e : p - (h + 1) ≡ p - h - 1 = omega arith in
-        let x0 : at xs (h * wide + c) ≡ at (levels ks u p k (column l wide p c) r) (p - h) = cx .is c h hc (omega arith) in
-        let x1 : at xs (h * wide + wide + c) ≡ at (levels ks u p k (column l wide p c) r) (p - h - 1) = ap (at xs) nx ∙ cx .is c (h + 1) hc (omega arith) ∙ ap (at (levels ks u p k (column l wide p c) r)) e in
+        let level = levels ks u p k (column l wide p c) r in
+        let x0 : at xs (h * wide + c) ≡ at level (p - h) = cx .is c h hc (omega arith) in
+        let x1 : at xs (h * wide + wide + c) ≡ at level (p - h - 1) = ap (at xs) nx ∙ cx .is c (h + 1) hc (omega arith) ∙ ap (at level) e in
         v .done h c lt hc
         ∙ ap (λ (z : ℕ). mixOf (share ks u p k z (p - h)) (at xs (h * wide + wide + c)) (at xs (h * wide + c))) ej
         ∙ rw (x0, x1) (sym (level-at ks u p k (column l wide p c) r (p - h) (length-upto (λ i. at l ((p - i) * wide + c)) (p + 1)) (omega arith) (omega arith)))
@@ -161,7 +169,8 @@ module _ (ks : List Float) (u : Float) (p k wide : ℕ) (l : List Float) where
 pub loaded-none : {cw xs : List Float} {n k ch wide : ℕ} → Loaded cw xs n k ch wide 0
 loaded-none = record { is = λ g c h. absurd (omega arith) }
 
-pub loaded-more : {cw xs ys : List Float} {n k ch wide h i : ℕ} → Loaded cw xs n k ch wide h → i ≡ h * wide → ch < wide → Put (λ c. at cw (min c ch * n + (k - h))) xs ys i wide → Loaded cw ys n k ch wide (h + 1)
+pub loaded-more : {cw xs ys : List Float} {n k ch wide h i : ℕ} → Loaded cw xs n k ch wide h → i ≡ h * wide → ch < wide
+    → Put (λ c. at cw (min c ch * n + (k - h))) xs ys i wide → Loaded cw ys n k ch wide (h + 1)
 loaded-more {cw} {xs} {ys} {n} {k} {ch} {wide} {h} {i} v ei fit q = record {
   is = λ g c hg hc. ⊎-elim
       (λ (e : g ≡ h).
@@ -193,7 +202,8 @@ module _ (ks cw : List Float) (n p ch : ℕ) (t : Float) (l : List Float) where
       → Loaded cw d1 n k ch wide (p + 1) → Climbed ks u p k wide d1 d2 p → at d2 c ≡ weighted ks cw n p u k c
   unfolding weighted
   top-is u k c wide {d1} {d2} hc fit in-span under len e1 e2 =
-      let b : column d1 wide p c ≡ window cw n p k c = ext-getD nan (column d1 wide p c) (window cw n p k c) (length-upto (λ j. at d1 ((p - j) * wide + c)) (p + 1) ∙ sym len) (λ j g.
+      let b : column d1 wide p c ≡ window cw n p k c =
+      ext-getD nan (column d1 wide p c) (window cw n p k c) (length-upto (λ j. at d1 ((p - j) * wide + c)) (p + 1) ∙ sym len) (λ j g.
       let h : j < p + 1 = omega (arith, length-upto (λ i. at d1 ((p - i) * wide + c)) (p + 1)) in
       let e : c * n + (k - (p - j)) ≡ c * n + (k - p) + j = omega arith in
       at-upto (λ i. at d1 ((p - i) * wide + c)) (p + 1) j nan h ∙ e1 .is (p - j) c (omega arith) hc ∙ window-at cw n p k c j in-span under (omega arith) e) in
@@ -217,7 +227,8 @@ module _ (ks cw : List Float) (n p ch : ℕ) (t : Float) (l : List Float) where
       ∙ ap (λ (j : ℕ). weighted ks cw n p u j c ⊘ weighted ks cw n p u j ch) es
       ∙ ap (λ (x : Float). weighted ks cw n p x (spanIn n p (heldAt n p t)) c ⊘ weighted ks cw n p x (spanIn n p (heldAt n p t)) ch) eu))
 
-  pub eval-is : {u : Float} {k wide : ℕ} {d1 d2 r : List Float} → (ch + 1) * n ≤ length cw → p ≤ k → k < n → ch < wide → at ks n ≡ ofNat (n - p) → u ≡ heldIn f0 (at ks n) t → k ≡ spanIn n p u
+  pub eval-is : {u : Float} {k wide : ℕ} {d1 d2 r : List Float} → (ch + 1) * n ≤ length cw → p ≤ k → k < n → ch < wide → at ks n ≡ ofNat (n - p)
+      → u ≡ heldIn f0 (at ks n) t → k ≡ spanIn n p u
       → Loaded cw d1 n k ch wide (p + 1)
       → Climbed ks u p k wide d1 d2 p
       → r ≡ filled (λ c. at d2 c ⊘ at d2 ch) ch l
@@ -226,5 +237,5 @@ module _ (ks cw : List Float) (n p ch : ℕ) (t : Float) (l : List Float) where
       curve-is (at d2) hi eh ek (λ c h. top-is u k c wide h fit in-span under (window-length cw n p ch k room in-span under c h) e1 e2) er
 
 -- the largest work memory
-pub cells-in : (p wide : ℕ) → p ≤ 256 → wide ≤ 12 → (p + 1) * wide ≤ 3084
-cells-in p wide h g = le-trans (mul-le-mul-right wide (omega arith)) (mul-le-mul-left 257 g)
+pub cells-in : (p wide : ℕ) → p < mostPoints → wide ≤ mostWide → (p + 1) * wide ≤ mostPoints * mostWide
+cells-in p wide h g = le-trans (mul-le-mul-right wide (omega arith)) (mul-le-mul-left mostPoints g)

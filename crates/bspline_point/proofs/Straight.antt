@@ -1,4 +1,4 @@
--- The triangle of degrees 1 to 4, written out, is the curve's. Assumes nothing.
+-- LAWS. The triangle of degrees 1 to 4, written out, is the curve's. Assumes nothing.
 use mathlib.Core.Path.{_≡_, refl, sym, ap, _∙_}
 use mathlib.Core.List.{List}
 use mathlib.Core.Logic.{_⊎_, inl, inr, ⊎-elim}
@@ -78,7 +78,8 @@ module _ (ks cw : List Float) (n p : ℕ) (u : Float) (k c : ℕ) (in-span : p �
 
     -- the triangle one row up
     upper : top3 (s .high) cw (i + 1) ≡ lev 3 4
-    upper = up 2 4 (omega arith) (omega arith) (sh .third4) (up 1 3 (omega arith) (omega arith) (sh .second3) upper1 upper2) (up 1 4 (omega arith) (omega arith) (sh .second4) upper2 upper3)
+    upper = up 2 4 (omega arith) (omega arith) (sh .third4) (up 1 3 (omega arith) (omega arith) (sh .second3) upper1 upper2)
+        (up 1 4 (omega arith) (omega arith) (sh .second4) upper2 upper3)
 
     pub fourth-weighted : p ≡ 4 → top4 s cw (c * n + (k - p)) ≡ weighted ks cw n p u k c
     fourth-weighted e = up 3 4 (omega arith) (omega arith) (sh .fourth4) (three (s .low) (sh .low) (omega arith)) upper ∙ at-level 4 e

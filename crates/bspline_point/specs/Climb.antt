@@ -1,20 +1,35 @@
--- De Boor's triangle in work memory: row h is that of the control point h before the last, and number c of a row is channel c's. Assumes nothing.
+-- CONTRACTS. De Boor's triangle in work memory: row h is that of the control point h before the last, number c channel c's. Assumes nothing.
 use mathlib.Core.List.{List}
 use mathlib.Core.Path.{_≡_}
-use Prim.Native.Nat.{ℕ, _+_, _*_, _-_, _≤_, _<_}
+use Prim.Native.Nat.{ℕ, _+_, _*_, _-_, _/_, _≤_, _<_}
 use lib.ListN.{length}
 use lib.Ieee.{Float}
 use Rattle.floats.specs.Numbers.{at}
 use Rattle.floats.specs.Lists.{upto}
+use Rattle.layout.specs.Layout.{axisCodes}
 use Rattle.bspline_tables.specs.Basis.{levels}
 use Rattle.bspline_low.specs.Low.{mixOf}
+
+-- work memory of three sizes that are chosen; the highest degree has its own
+abbrev pub fewCells : ℕ
+fewCells = 64
+
+abbrev pub someCells : ℕ
+someCells = 256
+
+abbrev pub manyCells : ℕ
+manyCells = 1024
+
+-- numbers of a row at most: every axis and the weights, in whole fours
+abbrev pub mostWide : ℕ
+mostWide = (axisCodes + 4) / 4 * 4
 
 -- whole fours, of which there are three at most
 pub record Width (wide : ℕ) : Type 0 where
   pub some : 4 ≤ wide
-  pub few : wide ≤ 12
+  pub few : wide ≤ mostWide
   pub one : wide < 8 → wide ≤ 4
-  pub two : wide < 12 → wide ≤ 8
+  pub two : wide < mostWide → wide ≤ 8
 
 -- of xs, which was l: the n numbers from i on are f 0, .., f (n - 1), and the others are as they were
 pub record Put (f : ℕ → Float) (l xs : List Float) (i n : ℕ) : Type 0 where

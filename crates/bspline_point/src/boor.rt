@@ -1,18 +1,25 @@
 // De Boor's triangle in work memory: a row of numbers for each control point, one a channel, the last point first. So
 // each level goes upwards in place, over the rows that still count.
 use bspline_low::low::share_at;
+use curve_metric::WIDEST;
+use layout::AXIS_CODES;
 ghost use mathlib.Core.Path.{_≡_};
 ghost use Prim.Native.Nat.{_≤_, _<_, _+_, _*_, _-_, min};
 ghost use lib.ListN.{length, replicate};
 ghost use Rattle.floats.specs.Numbers.{_⊘_, f0, at};
 ghost use Rattle.floats.specs.Lists.{filled};
+ghost use Rattle.layout.specs.Layout.{axisCodes, mostPoints};
+ghost use Rattle.curve_metric.specs.Widest.{widest};
 ghost use Rattle.bspline_tables.specs.Basis.{share};
 ghost use Rattle.bspline_low.specs.Low.{placed};
 ghost use Rattle.bspline_point.specs.Climb.{Width, Put, Raised, Level, Climbed, Loaded};
 
+// Numbers of a row at most: every axis and the weights, in whole fours. Rows are written out for three fours.
+pub const MOST_WIDE: usize = (AXIS_CODES + 4) / 4 * 4;
+
 // The numbers of a row that has ch channels and the weights: whole fours.
 pub fn row_width(ch: usize) -> usize
-    requires { ⌜ ch ≤ 10 ⌝ }
+    requires { ⌜ ch ≤ axisCodes ⌝ }
     ensures { λ r. ⌜ Width r × (ch < r) ⌝ }
 {
     if ch < 4 {
@@ -21,7 +28,7 @@ pub fn row_width(ch: usize) -> usize
     if ch < 8 {
         return 8;
     }
-    12
+    MOST_WIDE
 }
 
 fn held(c: usize, ch: usize) -> usize
@@ -68,7 +75,7 @@ fn load_row(cw: &[f64], n: usize, s: usize, ch: usize, wide: usize, d: &mut [f64
         return;
     }
     load_four(cw, n, s, ch, 4, d, i + 4);
-    if wide < 12 {
+    if wide < MOST_WIDE {
         return;
     }
     load_four(cw, n, s, ch, 8, d, i + 8);
@@ -76,7 +83,7 @@ fn load_row(cw: &[f64], n: usize, s: usize, ch: usize, wide: usize, d: &mut [f64
 
 // A row for each control point that bears on span k.
 pub fn load_rows(cw: &[f64], n: usize, k: usize, p: usize, ch: usize, wide: usize, d: &mut [f64])
-    requires { ⌜ ((ch + 1) * n ≤ length (now cw)) × ((k < n) × ((n ≤ 257) × (p ≤ k))) ⌝ }
+    requires { ⌜ ((ch + 1) * n ≤ length (now cw)) × ((k < n) × ((n ≤ mostPoints) × (p ≤ k))) ⌝ }
     requires { ⌜ Width wide × (ch < wide) ⌝ }
     requires { ⌜ (p + 1) * wide ≤ length (now d) ⌝ }
     ensures { λ _. ⌜ Loaded (now (cw .entry)) (now (d .exit)) n k ch wide (p + 1) ⌝ }
@@ -118,7 +125,7 @@ fn raise_row(d: &mut [f64], i: usize, wide: usize, share: f64)
         return;
     }
     raise_four(d, i + 4, wide, share);
-    if wide < 12 {
+    if wide < MOST_WIDE {
         return;
     }
     raise_four(d, i + 8, wide, share);
@@ -164,11 +171,15 @@ pub fn climb_up(ks: &[f64], u: f64, p: usize, k: usize, wide: usize, d: &mut [f6
     }
 }
 
-// Channel c, by the weight; 0 where there is none.
+// Channel c, by the weight; 0 where there is none. Past the axes that is known where c is.
 fn first_at(d: &[f64], by: f64, ch: usize, c: usize) -> f64
     requires { ⌜ ch < length (now d) ⌝ }
+    requires { ⌜ ch ≤ axisCodes ⌝ }
     ensures { λ r. ⌜ r ≡ placed (at (now (d .entry))) by ch c ⌝ }
 {
+    if c >= AXIS_CODES {
+        return 0.0;
+    }
     if c < ch {
         return d[c] / by;
     }
@@ -176,10 +187,10 @@ fn first_at(d: &[f64], by: f64, ch: usize, c: usize) -> f64
 }
 
 // The first ch numbers, by number ch.
-pub fn project_first(d: &[f64], ch: usize) -> [f64; 16]
+pub fn project_first(d: &[f64], ch: usize) -> [f64; WIDEST]
     requires { ⌜ ch < length (now d) ⌝ }
-    requires { ⌜ ch ≤ 10 ⌝ }
-    ensures { λ r. ⌜ r ≡ filled (λ c. at (now (d .entry)) c ⊘ at (now (d .entry)) ch) ch (replicate 16 f0) ⌝ }
+    requires { ⌜ ch ≤ axisCodes ⌝ }
+    ensures { λ r. ⌜ r ≡ filled (λ c. at (now (d .entry)) c ⊘ at (now (d .entry)) ch) ch (replicate widest f0) ⌝ }
 {
     let by = d[ch];
     [
@@ -193,11 +204,11 @@ pub fn project_first(d: &[f64], ch: usize) -> [f64; 16]
         first_at(d, by, ch, 7),
         first_at(d, by, ch, 8),
         first_at(d, by, ch, 9),
-        0.0,
-        0.0,
-        0.0,
-        0.0,
-        0.0,
-        0.0,
+        first_at(d, by, ch, 10),
+        first_at(d, by, ch, 11),
+        first_at(d, by, ch, 12),
+        first_at(d, by, ch, 13),
+        first_at(d, by, ch, 14),
+        first_at(d, by, ch, 15),
     ]
 }

@@ -1,4 +1,4 @@
--- The control numbers, as they are filled. Assumes nothing.
+-- LAWS. The control numbers, as they are filled. Assumes nothing.
 use mathlib.Core.Path.{_≡_, sym, _∙_}
 use mathlib.Core.List.{List}
 use Prim.Native.Nat.{ℕ, suc, _+_, _*_, _-_, _<_, _≤_}

@@ -1,4 +1,4 @@
--- Knots, and one more turn of the owner's loops. Assumes nothing.
+-- LAWS. Knots, and one more turn of the owner's loops. Assumes nothing.
 use mathlib.Core.Path.{_≡_, refl, sym, ap, _∙_}
 use mathlib.Core.List.{List}
 use mathlib.Core.Bool.{true, false}
@@ -13,6 +13,7 @@ use lib.Ieee.{Float, nan, binary64}
 use Rattle.floats.specs.Numbers.{_⊕_, ofNat, f0, at}
 use Rattle.floats.specs.Lists.{filled, Agrees}
 use Rattle.floats.specs.Fill.{at-filled, at-upto}
+use Rattle.layout.specs.Layout.{axisCodes, mostPoints}
 use Rattle.bspline_tables.specs.Basis.{degreeOf, knots, knotSum}
 use Rattle.bspline_tables.specs.Tables.{grevilleAt, advanced}
 
@@ -23,12 +24,13 @@ zero-whole = refl
 pub knot-low : (k spans : ℕ) → k ≡ 0 → f0 ≡ ofNat (min k spans)
 knot-low k spans h = let e : min k spans ≡ 0 = omega arith in rw e zero-whole
 
-pub whole-in : (n : ℕ) → n ≤ 257 → T (Ieee.inFloat binary64 (pos n))
+pub whole-in : (n : ℕ) → n ≤ mostPoints → T (Ieee.inFloat binary64 (pos n))
 unfolding Ieee.inFloat
 whole-in n h = le→leb n 9007199254740992 (omega arith)
 
 -- the knots as they are filled
-pub knots-are : (n p : ℕ) (l : List Float) {ks : List Float} → ks ≡ filled (λ i. ofNat (min (i - p) (n - p))) (n + p + 1) l → Agrees ks (at (knots n p)) (n + p + 1)
+pub knots-are : (n p : ℕ) (l : List Float) {ks : List Float} → ks ≡ filled (λ i. ofNat (min (i - p) (n - p))) (n + p + 1) l
+    → Agrees ks (at (knots n p)) (n + p + 1)
 unfolding Agrees knots
 knots-are n p l e k h = ap (λ (z : List Float). at z k) e ∙ at-filled _ l (n + p + 1) k nan h ∙ sym (at-upto _ (n + p + 1) k nan h)
 
@@ -65,7 +67,7 @@ pub degree-in : (degree n : ℕ) {p : ℕ} → 2 ≤ n → p ≡ degreeOf n degr
 unfolding degreeOf
 degree-in degree n h e = omega arith
 
-pub product-in : (ch n len : ℕ) → ch ≤ 10 → 11 * n ≤ len → (ch + 1) * n ≤ len
+pub product-in : (ch n len : ℕ) → ch ≤ axisCodes → (axisCodes + 1) * n ≤ len → (ch + 1) * n ≤ len
 product-in ch n len h l =
-    let a : (ch + 1) * n ≤ 11 * n = mul-le-mul-right n (omega arith) in
+    let a : (ch + 1) * n ≤ (axisCodes + 1) * n = mul-le-mul-right n (omega arith) in
     omega arith

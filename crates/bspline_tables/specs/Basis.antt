@@ -1,4 +1,4 @@
--- Document 01, "Spline": BSPLINE, a clamped uniform rational B-spline, and whom its samples belong to. Assumes nothing.
+-- DEFINITIONS. BSPLINE, a clamped uniform rational B-spline, and whom its samples belong to. Assumes nothing.
 use Prim.Native.Nat.{ℕ, zero, suc, _+_, _-_, min, max}
 use mathlib.Core.Bool.{cond}
 use mathlib.Core.List.{List, [], _∷_, map}
@@ -11,7 +11,7 @@ use Rattle.curve_metric.specs.Metric.{pointOf}
 use Rattle.curve_metric.specs.Walk.{Sample, samples}
 use Rattle.whole.specs.Whole.{truncCount}
 
--- ---- BSPLINE: "degree at most points less one, counting the start"
+-- ---- the degree in force: below the number of points, the start among them
 unfoldable pub degreeOf : ℕ → ℕ → ℕ
 degreeOf n sd = max 1 (min sd (n - 1))
 
@@ -80,7 +80,7 @@ knotSum us i (suc k) = knotSum us i k ⊕ at us (i + 1 + k)
 unfoldable pub greville : Bspline → ℕ → Float
 greville b i = knotSum (b .knot) i (b .power) ⊘ ofNat (b .power)
 
--- "Samples belong to the first control point after the start whose Greville value is not below them": from o on, of `left` more
+-- whom a sample belongs to, from point o on, of `left` more: the first whose Greville value is not below the sample
 unfoldable pub ownerFrom : Bspline → Float → ℕ → ℕ → ℕ
 ownerFrom b t zero o = o
 ownerFrom b t (suc left) o = let next = ownerFrom b t left (o + 1) in cond (lt (greville b o) t) next o

@@ -1,4 +1,4 @@
--- Laws of a B-spline's runs: one for each control point after the start, end to end all the samples in curve order, every point with its channels. Assumes nothing.
+-- LAWS. A B-spline's runs: one a control point after the start, end to end all samples in curve order, each with its channels. Assumes nothing.
 use mathlib.Core.Path.{_≡_, refl, sym, ap, _∙_}
 use mathlib.Core.Bool.{Bool, true, false, cond}
 use mathlib.Core.List.{List, [], _∷_, _++_, map}
@@ -68,12 +68,15 @@ ownOf m os = keep (λ (s : Owned). eqb (s .owner) (m + 1)) os
 none-under : (m o last : ℕ) (os : List Owned) → m < o → Rising o last os → upTo m os ≡ []
 unfolding upTo Rising keep
 none-under m o last [] h r = refl
-none-under m o last (x ∷ xs) h r = keep-not (λ (s : Owned). leb (s .owner) m) x xs (lt-leb (x .owner) m (omega (arith, r .0))) ∙ none-under m (x .owner) last xs (omega (arith, r .0)) (r .1 .1)
+none-under m o last (x ∷ xs) h r =
+    let l : m < x .owner = omega (arith, r .0) in
+    keep-not (λ (s : Owned). leb (s .owner) m) x xs (lt-leb (x .owner) m l) ∙ none-under m (x .owner) last xs l (r .1 .1)
 
 all-under : (m o : ℕ) (os : List Owned) → Rising o m os → upTo m os ≡ os
 unfolding upTo Rising keep
 all-under m o [] r = refl
-all-under m o (x ∷ xs) r = keep-here (λ (s : Owned). leb (s .owner) m) x xs (le-leb (x .owner) m (r .1 .0)) ∙ ap (λ (l : List Owned). x ∷ l) (all-under m (x .owner) xs (r .1 .1))
+all-under m o (x ∷ xs) r = keep-here (λ (s : Owned). leb (s .owner) m) x xs (le-leb (x .owner) m (r .1 .0))
+    ∙ ap (λ (l : List Owned). x ∷ l) (all-under m (x .owner) xs (r .1 .1))
 
 one-more : (m o last : ℕ) (os : List Owned) → Rising o last os → upTo m os ++ ownOf m os ≡ upTo (suc m) os
 unfolding upTo ownOf Rising keep
@@ -81,7 +84,8 @@ one-more m o last [] r = refl
 one-more m o last (x ∷ xs) r =
     let rest : upTo m xs ++ ownOf m xs ≡ upTo (suc m) xs = one-more m (x .owner) last xs (r .1 .1) in
     ⊎-elim
-    (λ under. rw (le-leb (x .owner) m (omega arith), ne-eqb (x .owner) (m + 1) (λ e. omega arith), le-leb (x .owner) (suc m) (omega arith)) (ap (λ (l : List Owned). x ∷ l) (rest)))
+    (λ under. rw (le-leb (x .owner) m (omega arith), ne-eqb (x .owner) (m + 1) (λ e. omega arith), le-leb (x .owner) (suc m) (omega arith))
+    (ap (λ (l : List Owned). x ∷ l) (rest)))
     (λ over. ⊎-elim
     (λ (e : m + 1 ≡ x .owner).
     let gone : upTo m xs ≡ [] = none-under m (x .owner) last xs (omega arith) (r .1 .1) in
@@ -126,8 +130,11 @@ eval-width b t = length-upto _ (length (pointOf (b .points) 0))
 
 pub samples-width : (b : Bspline) (ms : List ℕ) (tol : Float) → Every (Wide (length (pointOf (b .points) 0))) (basisSamples b ms tol)
 unfolding basisSamples
-samples-width b ms tol = every-flatten (Wide (length (pointOf (b .points) 0))) _ (every-upto (Every (Wide (length (pointOf (b .points) 0)))) _ (spansOf b) (λ j h.
-    samples-wide (evalBasis b) ms tol (length (pointOf (b .points) 0)) (eval-width b) 20 (ofNat j) (evalBasis b (ofNat j)) (ofNat (j + 1)) (evalBasis b (ofNat (j + 1))) (eval-width b (ofNat (j + 1)))))
+samples-width b ms tol =
+    let ch = length (pointOf (b .points) 0) in
+    every-flatten (Wide ch) _ (every-upto (Every (Wide ch)) _ (spansOf b) (λ j h.
+    samples-wide (evalBasis b) ms tol ch (eval-width b) 20 (ofNat j) (evalBasis b (ofNat j)) (ofNat (j + 1)) (evalBasis b (ofNat (j + 1)))
+    (eval-width b (ofNat (j + 1)))))
 
 keep-every : {A : Type 0} (P : A → Type 0) (p : A → Bool) (xs : List A) → Every P xs → Every P (keep p xs)
 unfolding Every keep

@@ -1,4 +1,4 @@
--- Laws of lists that runs need: `flatten`, `map` and `keep` over lists joined end to end. Assumes nothing.
+-- LAWS. Lists that runs need: `flatten`, `map` and `keep` over lists joined end to end. Assumes nothing.
 use mathlib.Core.Path.{_≡_, refl, sym, ap, _∙_}
 use mathlib.Core.Bool.{Bool, true, false, cond}
 use mathlib.Core.List.{List, [], _∷_, _++_, map, append-assoc, append-nil}
@@ -25,7 +25,8 @@ unfolding keep
 keep-append p [] vs = refl
 keep-append p (u ∷ us) vs = go (p u) (keep-append p us vs)
   where
-    go : (b : Bool) → keep p (us ++ vs) ≡ keep p us ++ keep p vs → cond b (u ∷ keep p (us ++ vs)) (keep p (us ++ vs)) ≡ cond b (u ∷ keep p us) (keep p us) ++ keep p vs
+    go : (b : Bool) → keep p (us ++ vs) ≡ keep p us ++ keep p vs
+        → cond b (u ∷ keep p (us ++ vs)) (keep p (us ++ vs)) ≡ cond b (u ∷ keep p us) (keep p us) ++ keep p vs
     go true e = ap (λ (l : List _). u ∷ l) e
     go false e = e
 

@@ -1,4 +1,4 @@
--- A list as rows of w cells, of which a loop changes one after another. Assumes nothing.
+-- LAWS. A list as rows of w cells, of which a loop changes one after another. Assumes nothing.
 use mathlib.Core.Path.{_≡_, refl, sym, ap, _∙_}
 use mathlib.Core.List.{List, _++_, append-assoc}
 use mathlib.Core.Logic.{_⊎_, ⊎-elim}
@@ -71,7 +71,8 @@ at-row : (xs : List Float) (w i k : ℕ) → k < w → at (row xs w i) k ≡ at 
 at-row xs w i k h = rw (getD-take, getD-drop)
 
 -- two lists that agree on the cells of a row have the same row
-row-ext : (xs ys : List Float) (w m i : ℕ) → i < m → m * w ≤ length xs → length ys ≡ length xs → ((k : ℕ) → k < w → at ys (i * w + k) ≡ at xs (i * w + k)) → row ys w i ≡ row xs w i
+row-ext : (xs ys : List Float) (w m i : ℕ) → i < m → m * w ≤ length xs → length ys ≡ length xs → ((k : ℕ) → k < w → at ys (i * w + k) ≡ at xs (i * w + k))
+    → row ys w i ≡ row xs w i
 row-ext xs ys w m i h l n e =
     let a : length (row ys w i) ≡ w = length-row ys w m i h (rw n l) in
     let b : length (row xs w i) ≡ w = length-row xs w m i h l in
@@ -83,7 +84,8 @@ row-order i c w k h g =
     let f : suc i * w ≡ i * w + w = suc-mul i w in
     omega arith
 
-pub rowing-more : {l xs : List Float} {w m c a : ℕ} {f : ℕ → List Float} (ys : List Float) → Rowing l xs w m c f → c < m → m * w ≤ length l → a ≡ c * w → length ys ≡ w → ys ≡ f c
+pub rowing-more : {l xs : List Float} {w m c a : ℕ} {f : ℕ → List Float} (ys : List Float) → Rowing l xs w m c f → c < m → m * w ≤ length l → a ≡ c * w
+    → length ys ≡ w → ys ≡ f c
     → Rowing l (put xs a (a + w) ys) w m (c + 1) f
 rowing-more {l} {xs} {w} {m} {c} {a} {f} ys r h fit ea n e =
     let len : m * w ≤ length xs = omega (arith, r .same) in
@@ -129,7 +131,8 @@ rowing-put {l} {xs} {w} {m} {c} {a} {f} {ys} r h fit ea n e =
     let p : postOf a (a + w - a) xs ≡ drop (a + w) xs = post-is a (a + w) xs (omega arith) in
     rw p (rowing-more ys r h fit ea (n ∙ part-length r h fit ea) e)
 
-pub rowing-map : {l xs : List Float} {w m c a : ℕ} (g : List Float → ℕ → List Float) {ys : List Float} → Rowing l xs w m c (λ i. g (row l w i) w) → c < m → m * w ≤ length l → a ≡ c * w
+pub rowing-map : {l xs : List Float} {w m c a : ℕ} (g : List Float → ℕ → List Float) {ys : List Float} → Rowing l xs w m c (λ i. g (row l w i) w) → c < m
+    → m * w ≤ length l → a ≡ c * w
     → length ys ≡ length (part xs a w) → ys ≡ g (part xs a w) (length (part xs a w)) → Rowing l (putMid a (a + w - a) xs ys) w m (c + 1) (λ i. g (row l w i) w)
 rowing-map {l} {xs} {w} {m} {c} {a} g {ys} r h fit ea n e =
     let q : part xs a w ≡ row l w c = part-row xs c w a ea ∙ r .todo c (omega arith) h in

@@ -1,4 +1,4 @@
--- The tables of a B-spline give its points and its owners. Assumes nothing.
+-- LAWS. The tables of a B-spline give its points and its owners. Assumes nothing.
 use mathlib.Core.Path.{_≡_, refl, sym, ap, _∙_}
 use mathlib.Core.Bool.{cond}
 use mathlib.Core.List.{List}
@@ -32,7 +32,8 @@ module _ (us vs : List Float) (m : ℕ) (same : (i : ℕ) → i < m → at us i 
   levels-same t p k d zero h g n = refl
   levels-same t p k d (suc r) h g n =
       upto-below (raisedAt (share us t p k (suc r)) (suc r) (levels us t p k d r)) (raisedAt (share vs t p k (suc r)) (suc r) (levels us t p k d r)) (length d)
-      (λ j hj. raised-same (share us t p k (suc r)) (share vs t p k (suc r)) (suc r) (levels us t p k d r) j (share-same t p k (suc r) j h g (omega arith) (omega arith)))
+      (λ j hj. raised-same (share us t p k (suc r)) (share vs t p k (suc r)) (suc r) (levels us t p k d r) j
+      (share-same t p k (suc r) j h g (omega arith) (omega arith)))
       ∙ ap (λ (e : List Float). upto (raisedAt (share vs t p k (suc r)) (suc r) e) (length d)) (levels-same t p k d r h g n)
 
   sum-same : (i k : ℕ) → i + k < m → knotSum us i k ≡ knotSum vs i k
@@ -58,17 +59,24 @@ module _ {degree n ch : ℕ} {pts ws : List Float} {p : ℕ} {ks cw : List Float
       let e : length (row cw n c) ≡ n = length-row cw n c (row-fits c (ch + 1) n (length cw) hc (b .tables .controls)) in
       length-take-le (p + 1) (drop (k - p) (row cw n c)) (rw length-drop (omega arith))
 
-  window-is : (k c : ℕ) (f : ℕ → Float) → p ≤ k → k < n → c < ch + 1 → ((i : ℕ) → i < n → at (row cw n c) i ≡ f i) → window cw n p k c ≡ upto (λ (j : ℕ). f (j + k - p)) (p + 1)
-  window-is k c f h g hc e = ext-getD nan (window cw n p k c) (upto (λ (j : ℕ). f (j + k - p)) (p + 1)) (window-length k c h g hc ∙ sym (length-upto _ (p + 1))) (λ j hj.
+  window-is : (k c : ℕ) (f : ℕ → Float) → p ≤ k → k < n → c < ch + 1 → ((i : ℕ) → i < n → at (row cw n c) i ≡ f i)
+      → window cw n p k c ≡ upto (λ (j : ℕ). f (j + k - p)) (p + 1)
+  window-is k c f h g hc e =
+      let at-row : ℕ → Float = λ (j : ℕ). f (j + k - p) in
+      ext-getD nan (window cw n p k c) (upto at-row (p + 1)) (window-length k c h g hc ∙ sym (length-upto _ (p + 1))) (λ j hj.
       let l : j < p + 1 = omega (arith, window-length k c h g hc) in
       let i : k - p + j ≡ j + k - p = omega arith in
-      getD-take (p + 1) (drop (k - p) (row cw n c)) j nan l ∙ getD-drop (k - p) (row cw n c) j nan ∙ e (k - p + j) (omega arith) ∙ ap f i ∙ sym (at-upto (λ (j : ℕ). f (j + k - p)) (p + 1) j nan l))
+      getD-take (p + 1) (drop (k - p) (row cw n c)) j nan l ∙ getD-drop (k - p) (row cw n c) j nan ∙ e (k - p + j) (omega arith)
+      ∙ ap f i ∙ sym (at-upto at-row (p + 1) j nan l))
 
-  top-is : (u : Float) (k c : ℕ) (f : ℕ → Float) → p ≤ k → k < n → c < ch + 1 → ((i : ℕ) → i < n → at (row cw n c) i ≡ f i) → weighted ks cw n p u k c ≡ topOf (plainOf n ch p pts ws) u k f
+  top-is : (u : Float) (k c : ℕ) (f : ℕ → Float) → p ≤ k → k < n → c < ch + 1 → ((i : ℕ) → i < n → at (row cw n c) i ≡ f i)
+      → weighted ks cw n p u k c ≡ topOf (plainOf n ch p pts ws) u k f
   unfolding weighted topOf
   top-is u k c f h g hc e =
+      let at-row : ℕ → Float = λ (j : ℕ). f (j + k - p) in
+      let long = length-upto at-row (p + 1) in
       ap (λ (d : List Float). at (levels ks u p k d p) p) (window-is k c f h g hc e)
-      ∙ ap (λ (d : List Float). at d p) (levels-same ks (knots n p) (n + p + 1) same-knots u p k (upto (λ (j : ℕ). f (j + k - p)) (p + 1)) p h (omega arith) (length-upto (λ (j : ℕ). f (j + k - p)) (p + 1)))
+      ∙ ap (λ (d : List Float). at d p) (levels-same ks (knots n p) (n + p + 1) same-knots u p k (upto at-row (p + 1)) p h (omega arith) long)
 
   channel-is : (c i : ℕ) → c < ch → i < n → at (row cw n c) i ≡ at (pointOf (rowsOf pts ch n) i) c ⊗ at (take n ws) i
   unfolding controlAt
@@ -88,7 +96,8 @@ module _ {degree n ch : ℕ} {pts ws : List Float} {p : ℕ} {ks cw : List Float
       ap length (point-rows pts ch n 0 some) ∙ length-row pts ch 0 (row-fits 0 n ch (length pts) some (b .points))
 
   eval-plain : (t : Float) → evalBasis (plainOf n ch p pts ws) t
-      ≡ upto (λ (c : ℕ). topOf (plainOf n ch p pts ws) (heldAt n p t) (spanIn n p (heldAt n p t)) (λ (i : ℕ). at (pointOf (rowsOf pts ch n) i) c ⊗ at (take n ws) i)
+      ≡ upto (λ (c : ℕ). topOf (plainOf n ch p pts ws) (heldAt n p t) (spanIn n p (heldAt n p t))
+      (λ (i : ℕ). at (pointOf (rowsOf pts ch n) i) c ⊗ at (take n ws) i)
       ⊘ topOf (plainOf n ch p pts ws) (heldAt n p t) (spanIn n p (heldAt n p t)) (at (take n ws))) ch
   unfolding evalBasis spanOf spanIn
   eval-plain t = rw (first-width, length-rows pts ch n)
@@ -100,8 +109,10 @@ module _ {degree n ch : ℕ} {pts ws : List Float} {p : ℕ} {ks cw : List Float
       let k = span-in n p (heldAt n p t) (b .tables .under) (b .tables .few) in
       upto-below _ _ ch (λ c hc.
       ap (λ (x : Float). x ⊘ weighted ks cw n p (heldAt n p t) (spanIn n p (heldAt n p t)) ch)
-      (top-is (heldAt n p t) (spanIn n p (heldAt n p t)) c (λ (i : ℕ). at (pointOf (rowsOf pts ch n) i) c ⊗ at (take n ws) i) (k .0) (k .1) (omega arith) (λ i h. channel-is c i hc h))
-      ∙ ap (λ (x : Float). topOf (plainOf n ch p pts ws) (heldAt n p t) (spanIn n p (heldAt n p t)) (λ (i : ℕ). at (pointOf (rowsOf pts ch n) i) c ⊗ at (take n ws) i) ⊘ x)
+      (top-is (heldAt n p t) (spanIn n p (heldAt n p t)) c (λ (i : ℕ). at (pointOf (rowsOf pts ch n) i) c ⊗ at (take n ws) i) (k .0) (k .1) (omega arith)
+      (λ i h. channel-is c i hc h))
+      ∙ ap (λ (x : Float). topOf (plainOf n ch p pts ws) (heldAt n p t) (spanIn n p (heldAt n p t))
+      (λ (i : ℕ). at (pointOf (rowsOf pts ch n) i) c ⊗ at (take n ws) i) ⊘ x)
       (top-is (heldAt n p t) (spanIn n p (heldAt n p t)) ch (at (take n ws)) (k .0) (k .1) (omega arith) weight-is))
       ∙ sym (eval-plain t)
       ∙ ap (λ (z : Bspline). evalBasis z t) (sym basis-is)

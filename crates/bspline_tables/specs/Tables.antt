@@ -1,4 +1,4 @@
--- The tables that a B-spline is evaluated from, and its point as they give it. Assumes nothing.
+-- CONTRACTS. The tables that a B-spline is evaluated from, and its point as they give it. Assumes nothing.
 use mathlib.Core.List.{List}
 use mathlib.Core.Path.{_≡_}
 use mathlib.Core.Bool.{cond}
@@ -8,6 +8,7 @@ use lib.ListN.{length, take, drop}
 use lib.Ieee.{Float, lt, le}
 use Rattle.floats.specs.Numbers.{_⊗_, _⊘_, ofNat, f0, heldIn, at}
 use Rattle.floats.specs.Lists.{upto, row, Agrees}
+use Rattle.layout.specs.Layout.{axisCodes, mostPoints}
 use Rattle.whole.specs.Whole.{truncCount}
 use Rattle.bspline_tables.specs.Basis.{degreeOf, knots, levels, knotSum}
 
@@ -49,8 +50,8 @@ curve ks cw n p ch t = upto (curveAt ks cw n p ch t) ch
 pub record Curve (ks cw : List Float) (n p ch : ℕ) : Type 0 where
   pub some : 1 ≤ p
   pub under : p < n
-  pub few : n ≤ 257
-  pub narrow : ch ≤ 10
+  pub few : n ≤ mostPoints
+  pub narrow : ch ≤ axisCodes
   pub knots : n + p < length ks
   pub controls : (ch + 1) * n ≤ length cw
   pub top : at ks n ≡ ofNat (n - p)

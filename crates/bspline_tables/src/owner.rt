@@ -2,6 +2,7 @@
 ghost use mathlib.Core.Path.{_≡_};
 ghost use Prim.Native.Nat.{_≤_, _<_, _+_, _-_};
 ghost use lib.ListN.{length};
+ghost use Rattle.layout.specs.Layout.{mostPoints};
 ghost use Rattle.bspline_tables.specs.Basis.{knotSum};
 ghost use Rattle.bspline_tables.specs.Tables.{grevilleAt, advanced};
 
@@ -20,7 +21,7 @@ fn sum_knots(ks: &[f64], i: usize, p: usize) -> f64
 }
 
 fn greville(ks: &[f64], p: usize, i: usize) -> f64
-    requires { ⌜ (i + p < length (now ks)) × (p ≤ 257) ⌝ }
+    requires { ⌜ (i + p < length (now ks)) × (p ≤ mostPoints) ⌝ }
     ensures { λ r. ⌜ r ≡ grevilleAt (now (ks .entry)) p i ⌝ }
 {
     sum_knots(ks, i, p) / p as f64
@@ -28,7 +29,7 @@ fn greville(ks: &[f64], p: usize, i: usize) -> f64
 
 // The owner of a sample at t, where the one before it belongs to `from`.
 pub fn advance(ks: &[f64], p: usize, last: usize, from: usize, t: f64) -> usize
-    requires { ⌜ (from ≤ last) × ((last + p ≤ length (now ks)) × (p ≤ 257)) ⌝ }
+    requires { ⌜ (from ≤ last) × ((last + p ≤ length (now ks)) × (p ≤ mostPoints)) ⌝ }
     ensures { λ r. ⌜ r ≡ advanced (now (ks .entry)) p t (last - from) from ⌝ }
 {
     let mut o = from;

@@ -4,6 +4,7 @@ ghost use Prim.Native.Nat.{_≤_, _<_, _+_, _*_, _-_, min};
 ghost use lib.ListN.{length};
 ghost use Rattle.floats.specs.Numbers.{ofNat};
 ghost use Rattle.floats.specs.Lists.{upto, filled};
+ghost use Rattle.layout.specs.Layout.{axisCodes, mostPoints};
 ghost use Rattle.bspline_tables.specs.Basis.{degreeOf};
 ghost use Rattle.bspline_tables.specs.Tables.{controlAt, Rows, BasisIs};
 
@@ -20,7 +21,7 @@ fn degree_of(degree: usize, n: usize) -> usize
 }
 
 fn knot(p: usize, spans: usize, i: usize) -> f64
-    requires { ⌜ spans ≤ 257 ⌝ }
+    requires { ⌜ spans ≤ mostPoints ⌝ }
     ensures { λ r. ⌜ r ≡ ofNat (min (i - p) spans) ⌝ }
 {
     if i < p {
@@ -33,7 +34,7 @@ fn knot(p: usize, spans: usize, i: usize) -> f64
 }
 
 fn fill_knots(p: usize, spans: usize, m: usize, ks: &mut [f64])
-    requires { ⌜ (spans ≤ 257) × (m ≤ length (now ks)) ⌝ }
+    requires { ⌜ (spans ≤ mostPoints) × (m ≤ length (now ks)) ⌝ }
     ensures { λ _. ⌜ now (ks .exit) ≡ filled (λ i. ofNat (min (i - p) spans)) m (now (ks .entry)) ⌝ }
 {
     let mut i = 0;
@@ -56,8 +57,8 @@ fn copy(src: &[f64], dst: &mut [f64])
 
 // Channel c of the control numbers.
 fn channel(pts: &[f64], ws: &[f64], ch: usize, c: usize, out: &mut [f64])
-    requires { ⌜ (c < ch) × (ch ≤ 10) ⌝ }
-    requires { ⌜ (length (now out) * ch ≤ length (now pts)) × ((length (now out) ≤ length (now ws)) × (length (now out) ≤ 257)) ⌝ }
+    requires { ⌜ (c < ch) × (ch ≤ axisCodes) ⌝ }
+    requires { ⌜ (length (now out) * ch ≤ length (now pts)) × ((length (now out) ≤ length (now ws)) × (length (now out) ≤ mostPoints)) ⌝ }
     ensures { λ _. ⌜ now (out .exit) ≡ upto (controlAt (now (pts .entry)) (now (ws .entry)) ch c) (length (now (out .entry))) ⌝ }
 {
     let mut x = c;
@@ -71,7 +72,7 @@ fn channel(pts: &[f64], ws: &[f64], ch: usize, c: usize, out: &mut [f64])
 
 // The weighted numbers, channel by channel, and then the weights.
 fn fill_controls(pts: &[f64], ws: &[f64], ch: usize, n: usize, cw: &mut [f64])
-    requires { ⌜ (ch ≤ 10) × (n ≤ 257) ⌝ }
+    requires { ⌜ (ch ≤ axisCodes) × (n ≤ mostPoints) ⌝ }
     requires { ⌜ (n * ch ≤ length (now pts)) × ((n ≤ length (now ws)) × ((ch + 1) * n ≤ length (now cw))) ⌝ }
     ensures { λ _. ⌜ Rows (now (cw .exit)) n (ch + 1) (λ c. upto (controlAt (now (pts .entry)) (now (ws .entry)) ch c) n) ⌝ }
 {
@@ -97,9 +98,9 @@ pub fn prepare_basis(
     ks: &mut [f64],
     cw: &mut [f64],
 ) -> usize
-    requires { ⌜ (2 ≤ n) × ((n ≤ 257) × (ch ≤ 10)) ⌝ }
+    requires { ⌜ (2 ≤ n) × ((n ≤ mostPoints) × (ch ≤ axisCodes)) ⌝ }
     requires { ⌜ (n * ch ≤ length (now pts)) × (n ≤ length (now ws)) ⌝ }
-    requires { ⌜ (2 * n ≤ length (now ks)) × (11 * n ≤ length (now cw)) ⌝ }
+    requires { ⌜ (2 * n ≤ length (now ks)) × ((axisCodes + 1) * n ≤ length (now cw)) ⌝ }
     ensures { λ r. ⌜ BasisIs degree n ch (now (pts .entry)) (now (ws .entry)) r (now (ks .exit)) (now (cw .exit)) ⌝ }
 {
     let p = degree_of(degree, n);

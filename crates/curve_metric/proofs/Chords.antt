@@ -1,4 +1,4 @@
--- One more chord, for `chord_parameters`. Assumes nothing.
+-- LAWS. One more chord, for `chord_parameters`. Assumes nothing.
 use mathlib.Core.Path.{_≡_, sym, _∙_}
 use mathlib.Core.List.{List}
 use Prim.Native.Nat.{ℕ, _+_, _*_, _-_, _≤_, _<_}

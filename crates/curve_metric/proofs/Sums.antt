@@ -1,4 +1,4 @@
--- One more turn of each running sum of `specs/Metric.antt`, and the sums of two and three turns. Assumes nothing.
+-- LAWS. One more turn of each running sum of `specs/Metric.antt`, and the sums of two and three turns. Assumes nothing.
 use mathlib.Core.Path.{_≡_}
 use mathlib.Core.List.{List}
 use Prim.Native.Nat.{ℕ, _+_}
@@ -7,7 +7,7 @@ use lib.ListN.{getD, length}
 use lib.Ieee.{Float, binary64, le}
 use Rattle.root.specs.Root.{sqrt}
 use Rattle.floats.specs.Numbers.{_⊕_, _⊖_, _⊗_, at}
-use Rattle.curve_metric.specs.Metric.{lenTo, dotTo, distTo, along, deviationOf}
+use Rattle.curve_metric.specs.Metric.{lenTo, dotTo, distTo, along, deviation2Of, deviationOf}
 use Rattle.curve_metric.specs.Gaps.{gapOf, towardOf, missedOf, footOf, distTwo, distThree}
 use Rattle.curve_metric.specs.declared.Gap.{Gap}
 use Rattle.curve_metric.specs.Walk.{near}
@@ -30,23 +30,25 @@ module _ (p a b : List Float) (ms : List ℕ) (k : ℕ) {g : Gap} (eg : g ≡ ga
   unfolding distTo
   dist-more t e er = rw (add-one, er, eg, e)
 
-pub along-is : (p a b : List Float) (ms : List ℕ) {k : ℕ} {d l : Float} → k ≡ length ms → d ≡ dotTo p a b ms k → l ≡ lenTo a b ms k → footOf d l ≡ along p a b ms
+pub along-is : (p a b : List Float) (ms : List ℕ) {k : ℕ} {d l : Float}
+    → k ≡ length ms → d ≡ dotTo p a b ms k → l ≡ lenTo a b ms k → footOf d l ≡ along p a b ms
 unfolding along
 along-is p a b ms e hd hl = rw (hd, hl, e)
 
-pub deviation-is : (p a b : List Float) (ms : List ℕ) {k : ℕ} {s t : Float} → k ≡ length ms → t ≡ along p a b ms → s ≡ distTo p a b ms t k → s ≡ distTo p a b ms (along p a b ms) (length ms)
+pub deviation-is : (p a b : List Float) (ms : List ℕ) {k : ℕ} {s t : Float}
+    → k ≡ length ms → t ≡ along p a b ms → s ≡ distTo p a b ms t k → s ≡ deviation2Of p a b ms
 deviation-is p a b ms e ht hs = rw (hs, ht, e)
 
 -- written out, for two and three channels
 module _ (p a b : List Float) (ms : List ℕ) {x y : Gap} (ex : x ≡ gapOf p a b (getD ms 0 0)) (ey : y ≡ gapOf p a b (getD ms 1 0)) where
-  pub two-is : length ms ≡ 2 → distTwo x y ≡ distTo p a b ms (along p a b ms) (length ms)
+  pub two-is : length ms ≡ 2 → distTwo x y ≡ deviation2Of p a b ms
   unfolding distTo along lenTo dotTo
   two-is e = rw (e, ex, ey)
 
-  pub three-is : {z : Gap} → z ≡ gapOf p a b (getD ms 2 0) → length ms ≡ 3 → distThree x y z ≡ distTo p a b ms (along p a b ms) (length ms)
+  pub three-is : {z : Gap} → z ≡ gapOf p a b (getD ms 2 0) → length ms ≡ 3 → distThree x y z ≡ deviation2Of p a b ms
   unfolding distTo along lenTo dotTo
   three-is ez e = rw (e, ex, ey, ez)
 
-pub near-is : (ms : List ℕ) (tol : Float) (a b p : List Float) {s : Float} → s ≡ distTo p a b ms (along p a b ms) (length ms) → le (sqrt binary64 s) tol ≡ near ms tol a b p
+pub near-is : (ms : List ℕ) (tol : Float) (a b p : List Float) {s : Float} → s ≡ deviation2Of p a b ms → le (sqrt binary64 s) tol ≡ near ms tol a b p
 unfolding near deviationOf
 near-is ms tol a b p e = rw e

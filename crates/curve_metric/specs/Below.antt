@@ -1,4 +1,4 @@
--- The metric's channels lie within a point. Assumes nothing.
+-- DEFINITIONS. The metric's channels lie within a point. Assumes nothing.
 use Prim.Native.Nat.{ℕ, _<_}
 use mathlib.Core.List.{List}
 use lib.ListN.{length, getD}

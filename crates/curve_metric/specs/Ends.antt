@@ -1,4 +1,4 @@
--- Laws of lists that runs of points need: what stands last, and what every element meets. Assumes nothing.
+-- LAWS. Lists of points: what stands last, and what every element meets. Assumes nothing.
 use mathlib.Core.Path.{_≡_, refl, sym, ap, _∙_}
 use mathlib.Core.List.{List, [], _∷_, _++_, map, append-assoc}
 use Prim.Native.Nat.{ℕ, zero, suc, _+_, _-_, _<_, _≤_}

@@ -1,4 +1,4 @@
--- The squared distance from a chord written out, channel by channel, for two and three channels. Assumes nothing.
+-- DEFINITIONS. The squared distance from a chord written out, channel by channel, for two and three channels. Assumes nothing.
 use mathlib.Core.Bool.{cond}
 use mathlib.Core.List.{List}
 use Prim.Native.Nat.{ℕ}

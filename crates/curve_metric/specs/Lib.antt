@@ -5,3 +5,5 @@ pub mod Metric
 pub mod Points
 pub mod Walk
 pub mod WalkLaws
+pub mod Widest
+pub mod Written

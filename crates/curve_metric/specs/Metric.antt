@@ -1,4 +1,4 @@
--- Document 01, "Spline": "Deviation and chords sum X, Y, Z channels, or all if none". A point is a list with a number for each channel; ms are the metric's channels. Assumes nothing.
+-- DEFINITIONS. Distances and chord sums of points, lists with a number for each channel, over the metric's channels ms. Assumes nothing.
 use Prim.Native.Nat.{ℕ, zero, suc, _+_}
 use mathlib.Core.Bool.{cond}
 use mathlib.Core.List.{List, []}
@@ -8,11 +8,11 @@ use Rattle.floats.specs.Numbers.{_⊕_, _⊖_, _⊗_, _⊘_, f0, f1, heldIn, at
 use Rattle.floats.specs.Lists.{upto}
 use Rattle.root.specs.Root.{root}
 
--- number i of the points, and what stands last
+-- number i of the points
 abbrev pub pointOf : List (List Float) → ℕ → List Float
 pointOf pts i = getD pts i []
 
--- ---- "Deviation and chords sum X, Y, Z channels, or all if none": `..To k` is a running sum after k channels of ms
+-- ---- the metric sums X, Y and Z, or all channels where there are none of them: `..To k` is a running sum after k channels of ms
 unfoldable pub dotTo : List Float → List Float → List Float → List ℕ → ℕ → Float
 dotTo p a b ms zero = f0
 dotTo p a b ms (suc k) = let i = getD ms k 0 in dotTo p a b ms k ⊕ (at p i ⊖ at a i) ⊗ (at b i ⊖ at a i)
@@ -35,8 +35,12 @@ unfoldable pub distTo : List Float → List Float → List Float → List ℕ �
 distTo p a b ms t zero = f0
 distTo p a b ms t (suc k) = let d = miss p a b t (getD ms k 0) in distTo p a b ms t k ⊕ d ⊗ d
 
+-- the squared distance of p from the chord, and the distance
+abbrev pub deviation2Of : List Float → List Float → List Float → List ℕ → Float
+deviation2Of p a b ms = distTo p a b ms (along p a b ms) (length ms)
+
 unfoldable pub deviationOf : List Float → List Float → List Float → List ℕ → Float
-deviationOf p a b ms = root (distTo p a b ms (along p a b ms) (length ms))
+deviationOf p a b ms = root (deviation2Of p a b ms)
 
 -- the chords summed up to point k
 unfoldable pub chordTo : List (List Float) → List ℕ → ℕ → Float

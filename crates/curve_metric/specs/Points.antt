@@ -1,4 +1,4 @@
--- Points that stand flat in a list, ch numbers each: laws of `rowsOf`. Assumes nothing.
+-- LAWS. `rowsOf`: points that stand flat in a list, ch numbers each. Assumes nothing.
 use mathlib.Core.Path.{_≡_}
 use mathlib.Core.List.{List, []}
 use Prim.Native.Nat.{ℕ, _+_, _*_, _<_, _≤_}

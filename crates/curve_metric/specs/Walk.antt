@@ -1,4 +1,4 @@
--- Document 01, "Spline": the samples of a stretch of a curve. Assumes nothing.
+-- DEFINITIONS. The samples of a stretch of a curve. Assumes nothing.
 use Prim.Native.Nat.{ℕ, zero, suc}
 use mathlib.Core.Bool.{Bool, cond, _&&_}
 use mathlib.Core.List.{List, [], _∷_, _++_}
@@ -6,7 +6,7 @@ use lib.Ieee.{Float, le}
 use Rattle.floats.specs.Numbers.{_⊕_, _⊖_, _⊗_, f¼, f½, f¾}
 use Rattle.curve_metric.specs.Metric.{deviationOf}
 
--- ---- "Test at middle, quarter and three quarters; stop at depth 20"
+-- ---- a chord is tested at the middle, the quarter and the three quarters of its stretch, and halved to a depth at most
 pub record Sample : Type 0 where
   pub time : Float
   pub point : List Float

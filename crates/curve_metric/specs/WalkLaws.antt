@@ -1,4 +1,4 @@
--- Laws of `samples`: one step of it, its end, how many there are at most, and that each point has its channels. Assumes nothing.
+-- LAWS. `samples`: one step of it, its end, how many there are at most, and that each point has its channels. Assumes nothing.
 use mathlib.Core.Path.{_≡_, refl}
 use mathlib.Core.Bool.{Bool, true, false}
 use mathlib.Core.List.{List, [], _∷_, _++_}
@@ -37,7 +37,8 @@ module _ (eval : Float → List Float) (ms : List ℕ) (tol : Float) where
   -- whatever holds of one sample and of two halves holds of the samples
   module _ (P : ℕ → Float → List Float → List Float → List Sample → Type 0)
       (one : (left : ℕ) (t1 : Float) (p0 p1 : List Float) → P left t1 p0 p1 (record { time = t1; point = p1 } ∷ []))
-      (two : (left : ℕ) (tm t1 : Float) (p0 p1 : List Float) (us vs : List Sample) → P left tm p0 (eval tm) us → P left t1 (eval tm) p1 vs → P (suc left) t1 p0 p1 (us ++ vs)) where
+      (two : (left : ℕ) (tm t1 : Float) (p0 p1 : List Float) (us vs : List Sample)
+      → P left tm p0 (eval tm) us → P left t1 (eval tm) p1 vs → P (suc left) t1 p0 p1 (us ++ vs)) where
     pub samples-all : (left : ℕ) (t0 : Float) (p0 : List Float) (t1 : Float) (p1 : List Float) → P left t1 p0 p1 (samples eval ms tol left t0 p0 t1 p1)
     samples-all zero t0 p0 t1 p1 = rw (samples-zero zero t0 p0 t1 p1 refl) (one zero t1 p0 p1)
     samples-all (suc k) t0 p0 t1 p1 = by-flat
@@ -70,7 +71,8 @@ module _ (eval : Float → List Float) (ms : List ℕ) (tol : Float) where
       (λ left tm t1 p0 p1 us vs a b. rw (length-append, pow-suc) (omega arith))
 
   -- 2 ^ 20
-  pub samples-few : (left : ℕ) (t0 : Float) (p0 : List Float) (t1 : Float) (p1 : List Float) → left ≤ 20 → length (samples eval ms tol left t0 p0 t1 p1) ≤ 0x100000
+  pub samples-few : (left : ℕ) (t0 : Float) (p0 : List Float) (t1 : Float) (p1 : List Float)
+      → left ≤ 20 → length (samples eval ms tol left t0 p0 t1 p1) ≤ 0x100000
   samples-few left t0 p0 t1 p1 h = le-trans (samples-le left t0 p0 t1 p1) (pow-mono {i = left} {j = 20} h)
 
   pub samples-wide : (ch : ℕ) → ((t : Float) → length (eval t) ≡ ch) → (left : ℕ) (t0 : Float) (p0 : List Float) (t1 : Float) (p1 : List Float)

@@ -1,14 +1,17 @@
 // Distances and chord lengths over the metric's channels `ms`.
+use layout::AXIS_CODES;
 use root::at_most::root_at_most;
 ghost use mathlib.Core.Path.{_≡_};
 ghost use Prim.Native.Nat.{_≤_, _<_, _*_};
 ghost use lib.ListN.{length};
-ghost use Rattle.floats.specs.Numbers.{f0, f1, heldIn};
 ghost use Rattle.floats.specs.Lists.{filled, rowsOf};
 ghost use Rattle.curve_metric.specs.Below.{Below};
-ghost use Rattle.curve_metric.specs.Metric.{lenTo, along, distTo, chordTo};
+ghost use Rattle.curve_metric.specs.Metric.{lenTo, along, deviation2Of, chordTo};
 ghost use Rattle.curve_metric.specs.Gaps.{gapOf, towardOf, missedOf, footOf, distTwo, distThree};
 ghost use Rattle.curve_metric.specs.Walk.{near};
+
+// A point stands in an array of this many numbers: whole sixteens.
+pub const WIDEST: usize = (AXIS_CODES + 15) / 16 * 16;
 
 // The squared distance of a and b.
 pub fn gap2(a: &[f64], b: &[f64], ms: &[usize]) -> f64
@@ -25,19 +28,6 @@ pub fn gap2(a: &[f64], b: &[f64], ms: &[usize]) -> f64
         k += 1;
     }
     sum
-}
-
-// x held between 0 and 1.
-pub fn clamp(x: f64) -> f64
-    ensures { λ r. ⌜ r ≡ heldIn f0 f1 x ⌝ }
-{
-    if x < 0.0 {
-        0.0
-    } else if x > 1.0 {
-        1.0
-    } else {
-        x
-    }
 }
 
 // One channel of a point and a chord: the point's number, where the chord starts, and how far it goes.
@@ -78,7 +68,11 @@ fn missed(g: Gap, t: f64) -> f64
 fn foot_of(dot: f64, len2: f64) -> f64
     ensures { λ r. ⌜ r ≡ footOf dot len2 ⌝ }
 {
-    if len2 > 0.0 { clamp(dot / len2) } else { 0.0 }
+    if len2 > 0.0 {
+        floats::held_in(0.0, 1.0, dot / len2)
+    } else {
+        0.0
+    }
 }
 
 // Where on the chord from a to b the point nearest to p lies.
@@ -103,7 +97,7 @@ pub fn foot(p: &[f64], a: &[f64], b: &[f64], ms: &[usize]) -> f64
 fn deviation_any(p: &[f64], a: &[f64], b: &[f64], ms: &[usize]) -> f64
     requires { ⌜ Below (now ms) (length (now a)) ⌝ }
     requires { ⌜ (length (now a) ≤ length (now b)) × (length (now a) ≤ length (now p)) ⌝ }
-    ensures { λ r. ⌜ r ≡ distTo (now (p .entry)) (now (a .entry)) (now (b .entry)) (now (ms .entry)) (along (now (p .entry)) (now (a .entry)) (now (b .entry)) (now (ms .entry))) (length (now (ms .entry))) ⌝ }
+    ensures { λ r. ⌜ r ≡ deviation2Of (now (p .entry)) (now (a .entry)) (now (b .entry)) (now (ms .entry)) ⌝ }
 {
     let t = foot(p, a, b, ms);
     let mut sum = 0.0;
@@ -139,7 +133,7 @@ fn deviation_three(x: Gap, y: Gap, z: Gap) -> f64
 fn deviation2(p: &[f64], a: &[f64], b: &[f64], ms: &[usize]) -> f64
     requires { ⌜ Below (now ms) (length (now a)) ⌝ }
     requires { ⌜ (length (now a) ≤ length (now b)) × (length (now a) ≤ length (now p)) ⌝ }
-    ensures { λ r. ⌜ r ≡ distTo (now (p .entry)) (now (a .entry)) (now (b .entry)) (now (ms .entry)) (along (now (p .entry)) (now (a .entry)) (now (b .entry)) (now (ms .entry))) (length (now (ms .entry))) ⌝ }
+    ensures { λ r. ⌜ r ≡ deviation2Of (now (p .entry)) (now (a .entry)) (now (b .entry)) (now (ms .entry)) ⌝ }
 {
     if ms.len() == 3 {
         return deviation_three(

@@ -1,4 +1,4 @@
--- What the parts of preparing a fit come to. Assumes nothing.
+-- LAWS. What the parts of preparing a fit come to. Assumes nothing.
 use mathlib.Core.Path.{_≡_, refl, sym, _∙_, ap}
 use mathlib.Core.Bool.{Bool}
 use mathlib.Core.List.{List, _++_}
@@ -15,12 +15,15 @@ use Rattle.floats.specs.Fill.{at-filled, length-filled, filled-all}
 use Rattle.curve_metric.specs.Below.{Below}
 use Rattle.fit_knots.specs.Blocks.{Block, Blocks}
 use Rattle.fit_knots.specs.Fit.{keptTo, fitOf}
-use Rattle.fit_knots.specs.Kept.{Kept, kept-in, kept-rising}
+use Rattle.fit_knots.specs.Kept.{Kept}
+use Rattle.fit_knots.specs.KeptLaws.{kept-in, kept-rising}
 use Rattle.fit_knots.specs.Memory.{Rising, FitHeld}
-use Rattle.fit_knots.specs.Prepare.{slopeOf, timeAt, numberAt, columnOf, channelAt, fit-is, TimesRise, FitRoom, FitReady}
+use Rattle.fit_knots.specs.Prepare.{slopeOf, timeAt, numberAt, columnOf, channelAt, TimesRise, FitRoom, FitReady}
+use Rattle.fit_knots.specs.PrepareLaws.{fit-is}
 
 -- a part of a list, written over
-block-put : {f : ℕ → Float} {a m : ℕ} {l : List Float} (ys : List Float) → a + m ≤ length l → length ys ≡ length (take (a + m - a) (drop a l)) → ((j : ℕ) → j < m → at ys j ≡ f j)
+block-put : {f : ℕ → Float} {a m : ℕ} {l : List Float} (ys : List Float) → a + m ≤ length l → length ys ≡ length (take (a + m - a) (drop a l))
+    → ((j : ℕ) → j < m → at ys j ≡ f j)
     → Block f a m l (putMid a (a + m - a) l ys)
 block-put {f} {a} {m} {l} ys h n e =
     let long : length (take a l) ≡ a = length-take-le a l (omega arith) in

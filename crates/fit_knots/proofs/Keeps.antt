@@ -1,4 +1,4 @@
--- One more point kept, or not. Assumes nothing.
+-- LAWS. One more point kept, or not. Assumes nothing.
 use mathlib.Core.Path.{_≡_, refl, sym, ap, _∙_}
 use mathlib.Core.List.{List, [], _∷_, _++_}
 use mathlib.Core.Bool.{Bool, true, false, cond}
@@ -9,7 +9,8 @@ use lib.ListN.{length, getD, drop, set, length-append, length-set}
 use lib.Seq.{drop-cons, set-at, append-snoc, drop-set-lt}
 use lib.Ieee.{Float}
 use Rattle.fit_knots.specs.Fit.{keptTo}
-use Rattle.fit_knots.specs.Kept.{grown, lastOf, Kept, Judged, kept-in, last-kept}
+use Rattle.fit_knots.specs.Kept.{grown, lastOf, Kept, Judged}
+use Rattle.fit_knots.specs.KeptLaws.{kept-in, last-kept}
 
 pub keep-first : (ts : List Float) (l : List ℕ) → 0 < length l → Kept ts 0 (set l 0 0) (set l 0 0) 1
 unfolding keptTo

@@ -1,4 +1,4 @@
--- A slice written a block of n numbers at a time. Assumes nothing.
+-- LAWS. A slice written a block of n numbers at a time. Assumes nothing.
 use mathlib.Core.Path.{_≡_, refl, _∙_}
 use mathlib.Core.List.{List}
 use mathlib.Core.Logic.{⊎-elim}
@@ -24,7 +24,8 @@ pub record Blocks (f : ℕ → ℕ → Float) (n b : ℕ) (xs : List Float) : Ty
 pub block-none : {f : ℕ → Float} {a : ℕ} {l : List Float} → Block f a 0 l l
 block-none {f} {a} {l} = record { same = refl; is = λ j h. absurd (omega arith); before = λ k h. refl }
 
-pub block-more : {f : ℕ → Float} {a n : ℕ} {l xs : List Float} {v : Float} → Block f a n l xs → a + n < length l → v ≡ f n → Block f a (n + 1) l (set xs (a + n) v)
+pub block-more : {f : ℕ → Float} {a n : ℕ} {l xs : List Float} {v : Float} → Block f a n l xs → a + n < length l → v ≡ f n
+    → Block f a (n + 1) l (set xs (a + n) v)
 block-more {f} {a} {n} {l} {xs} {v} b h e = record {
   same = length-set xs (a + n) v ∙ b .same;
   is = λ j g. ⊎-elim

@@ -1,4 +1,4 @@
--- Document 01, "Spline": ASPLINE and CSPLINE, curves of numbers through the points. Assumes nothing.
+-- DEFINITIONS. ASPLINE and CSPLINE, curves of numbers through the points. Assumes nothing.
 use Prim.Native.Nat.{ℕ, zero, suc, _+_, _-_}
 use mathlib.Core.Bool.{Bool, cond}
 use mathlib.Core.List.{List, [], _∷_, _++_, map}
@@ -69,13 +69,13 @@ evalFit fit t =
     let z = pointOf (fit .points) (w + 1) in
     upto (λ (c : ℕ). let m = getD (fit .slopes) c [] in hermiteOf s h (at y c) (at m w) (at z c) (at m (w + 1))) (length y)
 
--- "where the chord sum grows by 1e-12 or less, one row": the run of points that ends at point i + 1
+-- the run of points that ends at point i + 1: that point alone where the chord sum hardly grows
 unfoldable pub fitRun : Fit → List ℕ → Float → List (List Float) → List Float → ℕ → List (List Float)
 fitRun fit ms tol pts ts i =
     let walk = map (λ (s : Sample). s .point) (samples (evalFit fit) ms tol 20 (at ts i) (pointOf pts i) (at ts (i + 1)) (pointOf pts (i + 1))) in
     cond (le (at ts (i + 1) ⊖ at ts i) 1e-12) (pointOf pts (i + 1) ∷ []) walk
 
--- "If the whole sum is no more": no point but the start is kept, and no run has a sample. The sums never fall
+-- where the whole sum hardly grows no point but the start is kept, and no run has a sample: the sums never fall
 unfoldable pub fitRuns : Bool → List ℕ → Float → List (List Float) → List (List (List Float))
 fitRuns cubic ms tol pts =
     let ts = chords pts ms in

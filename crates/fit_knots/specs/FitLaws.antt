@@ -1,4 +1,4 @@
--- Laws of the runs of ASPLINE and CSPLINE: how many there are, what each ends with, and that each point has its channels. Assumes nothing.
+-- LAWS. The runs of ASPLINE and CSPLINE: how many there are, what each ends with, and that each point has its channels. Assumes nothing.
 use mathlib.Core.Path.{_≡_, refl, sym, _∙_, ap}
 use mathlib.Core.Bool.{Bool, true, false, cond}
 use mathlib.Core.List.{List, [], _∷_, _++_, map, append-assoc, append-nil}
@@ -18,9 +18,14 @@ use Rattle.curve_metric.specs.Points.{length-rows}
 use Rattle.curve_metric.specs.Walk.{Sample, samples}
 use Rattle.curve_metric.specs.WalkLaws.{samples-end, samples-few, samples-wide}
 use Rattle.fit_knots.specs.Fit.{Fit, pieceOf, keptTo, fitOf, evalFit, fitRun, fitRuns}
-use Rattle.fit_knots.specs.Kept.{kept-in}
-use Rattle.fit_knots.specs.Memory.{FitHeld, fitAt, piece-below, eval-same}
-use Rattle.fit_knots.specs.Prepare.{at-map, take-filled}
+use Rattle.fit_knots.specs.KeptLaws.{kept-in}
+use Rattle.fit_knots.specs.Memory.{FitHeld, fitAt}
+use Rattle.fit_knots.specs.MemoryLaws.{piece-below, eval-same}
+use Rattle.fit_knots.specs.PrepareLaws.{at-map, take-filled}
+
+-- a point of ch numbers
+abbrev pub OfWidth : ℕ → List Float → Type 0
+OfWidth ch p = length p ≡ ch
 
 -- ---- lists of runs, one more at a time
 
@@ -57,13 +62,14 @@ module _ (fit : Fit) (ms : List ℕ) (tol : Float) (pts : List (List Float)) (ts
       → fitRun fit ms tol pts ts i ≡ map (λ (s : Sample). s .point) (stretch (λ (t : Float). upto (fitAt fts fps slopes m ch t) ch))
   run-held held e = run-walk e ∙ ap (λ (f : Float → List Float). map (λ (s : Sample). s .point) (stretch f)) (eval-same held)
 
-  -- "A group's last row is the programmed point": and no run is empty
+  -- a run ends at its programmed point, so that none is empty
   pub run-end : EndsWith (fitRun fit ms tol pts ts i) (pointOf pts (i + 1))
   run-end = go (le (at ts (i + 1) ⊖ at ts i) 1e-12) refl
     where
       go : (b : Bool) → le (at ts (i + 1) ⊖ at ts i) 1e-12 ≡ b → EndsWith (fitRun fit ms tol pts ts i) (pointOf pts (i + 1))
       go true e = rw (run-one e) (ends-one (pointOf pts (i + 1)))
-      go false e = rw (run-walk e) (ends-map (λ (s : Sample). s .point) (samples-end (evalFit fit) ms tol 20 (at ts i) (pointOf pts i) (at ts (i + 1)) (pointOf pts (i + 1))))
+      go false e = rw (run-walk e) (ends-map (λ (s : Sample). s .point)
+          (samples-end (evalFit fit) ms tol 20 (at ts i) (pointOf pts i) (at ts (i + 1)) (pointOf pts (i + 1))))
 
   pub run-some : 1 ≤ length (fitRun fit ms tol pts ts i)
   run-some = ends-some run-end
@@ -74,14 +80,15 @@ module _ (fit : Fit) (ms : List ℕ) (tol : Float) (pts : List (List Float)) (ts
     where
       go : (b : Bool) → le (at ts (i + 1) ⊖ at ts i) 1e-12 ≡ b → length (fitRun fit ms tol pts ts i) ≤ 0x100000
       go true e = rw (run-one e) (omega arith)
-      go false e = rw (run-walk e, length-map) (samples-few (evalFit fit) ms tol 20 (at ts i) (pointOf pts i) (at ts (i + 1)) (pointOf pts (i + 1)) (omega arith))
+      go false e = rw (run-walk e, length-map) (samples-few (evalFit fit) ms tol 20 (at ts i) (pointOf pts i) (at ts (i + 1)) (pointOf pts (i + 1))
+          (omega arith))
 
-  pub run-wide : (ch : ℕ) → ((t : Float) → length (evalFit fit t) ≡ ch) → length (pointOf pts (i + 1)) ≡ ch → Every (λ (p : List Float). length p ≡ ch) (fitRun fit ms tol pts ts i)
+  pub run-wide : (ch : ℕ) → ((t : Float) → length (evalFit fit t) ≡ ch) → length (pointOf pts (i + 1)) ≡ ch → Every (OfWidth ch) (fitRun fit ms tol pts ts i)
   run-wide ch w h = go (le (at ts (i + 1) ⊖ at ts i) 1e-12) refl
     where
-      go : (b : Bool) → le (at ts (i + 1) ⊖ at ts i) 1e-12 ≡ b → Every (λ (p : List Float). length p ≡ ch) (fitRun fit ms tol pts ts i)
-      go true e = rw (run-one e) (every-one (λ (p : List Float). length p ≡ ch) (pointOf pts (i + 1)) h)
-      go false e = rw (run-walk e) (every-map (λ (p : List Float). length p ≡ ch) (λ (s : Sample). s .point) (stretch (evalFit fit))
+      go : (b : Bool) → le (at ts (i + 1) ⊖ at ts i) 1e-12 ≡ b → Every (OfWidth ch) (fitRun fit ms tol pts ts i)
+      go true e = rw (run-one e) (every-one (OfWidth ch) (pointOf pts (i + 1)) h)
+      go false e = rw (run-walk e) (every-map (OfWidth ch) (λ (s : Sample). s .point) (stretch (evalFit fit))
           (samples-wide (evalFit fit) ms tol ch w 20 (at ts i) (pointOf pts i) (at ts (i + 1)) (pointOf pts (i + 1)) h))
 
 -- a point of the curve has as many numbers as the points
@@ -98,7 +105,8 @@ eval-wide cubic pts ts ks ch two wide t =
 -- ---- all runs
 
 -- the chord sums as code has them
-pub chords-taken : (pts : List Float) (ch n : ℕ) (ms : List ℕ) (l : List Float) → take n (filled (chordTo (rowsOf pts ch n) ms) n l) ≡ chords (rowsOf pts ch n) ms
+pub chords-taken : (pts : List Float) (ch n : ℕ) (ms : List ℕ) (l : List Float)
+    → take n (filled (chordTo (rowsOf pts ch n) ms) n l) ≡ chords (rowsOf pts ch n) ms
 unfolding chords
 chords-taken pts ch n ms l = take-filled (chordTo (rowsOf pts ch n) ms) n l ∙ ap (upto (chordTo (rowsOf pts ch n) ms)) (sym (length-rows pts ch n))
 
@@ -129,13 +137,14 @@ module _ (cubic : Bool) (ms : List ℕ) (tol : Float) (pts : List (List Float)) 
   run-at h i g = rw (runs-are h) (at-upto runAt (length pts - 1) i [] g)
 
   -- every point of every run has ch numbers
-  pub runs-wide : (ch : ℕ) → ((k : ℕ) → k < length pts → length (pointOf pts k) ≡ ch) → Every (Every (λ (p : List Float). length p ≡ ch)) (fitRuns cubic ms tol pts)
+  pub runs-wide : (ch : ℕ) → ((k : ℕ) → k < length pts → OfWidth ch (pointOf pts k)) → Every (Every (OfWidth ch)) (fitRuns cubic ms tol pts)
   unfolding fitRuns
   runs-wide ch wide = go (ltb (length keptOf) 2) refl
     where
-      go : (b : Bool) → ltb (length keptOf) 2 ≡ b → Every (Every (λ (p : List Float). length p ≡ ch)) (cond b (upto (λ (i : ℕ). []) (length pts - 1)) (upto runAt (length pts - 1)))
-      go true e = every-upto (Every (λ (p : List Float). length p ≡ ch)) (λ (i : ℕ). []) (length pts - 1) (λ k h. every-none (λ (p : List Float). length p ≡ ch))
-      go false e = every-upto (Every (λ (p : List Float). length p ≡ ch)) runAt (length pts - 1) (λ i h.
+      go : (b : Bool) → ltb (length keptOf) 2 ≡ b → Every (Every (OfWidth ch)) (cond b (upto (λ (i : ℕ). []) (length pts - 1)) (upto runAt (length pts - 1)))
+      go true e = every-upto (Every (OfWidth ch)) (λ (i : ℕ). []) (length pts - 1) (λ k h. every-none (OfWidth ch))
+      go false e = every-upto (Every (OfWidth ch)) runAt (length pts - 1) (λ i h.
           run-wide (fitOf cubic pts (chords pts ms) keptOf) ms tol pts (chords pts ms) i ch
-          (eval-wide cubic pts (chords pts ms) keptOf ch (ltb-false (length keptOf) 2 e) (λ k g. wide (getD keptOf k 0) (omega (arith, kept-in (chords pts ms) (length pts - 1) .below k g))))
+          (eval-wide cubic pts (chords pts ms) keptOf ch (ltb-false (length keptOf) 2 e)
+          (λ k g. wide (getD keptOf k 0) (omega (arith, kept-in (chords pts ms) (length pts - 1) .below k g))))
           (wide (i + 1) (omega arith)))

@@ -1,17 +1,15 @@
--- How a fit stands in memory: the times of m knots, their points, ch numbers each, and for each channel the m slopes. Assumes nothing.
-use mathlib.Core.Path.{_≡_, refl, _∙_, fun-ext}
-use mathlib.Core.Bool.{Bool, true, false, cond}
+-- CONTRACTS. How a fit stands in memory: the times of m knots, their points, ch numbers each, the m slopes of each channel. Assumes nothing.
+use mathlib.Core.Path.{_≡_}
+use mathlib.Core.Bool.{true}
 use mathlib.Core.List.{List, []}
-use Prim.Native.Nat.{ℕ, zero, suc, _+_, _*_, _-_, _<_, _≤_}
-use native.Mathlib.Omega.{arith}
+use Prim.Native.Nat.{ℕ, _+_, _*_, _<_, _≤_}
 use lib.ListN.{length, getD}
 use lib.Ieee.{Float, le}
 use Rattle.floats.specs.Numbers.{_⊖_, _⊘_, f0, f1, heldIn, at}
-use Rattle.floats.specs.Lists.{upto, row}
-use Rattle.floats.specs.Fill.{upto-below}
+use Rattle.floats.specs.Lists.{row}
+use Rattle.curve_metric.specs.Widest.{widest}
 use Rattle.curve_metric.specs.Metric.{pointOf}
-use Rattle.curve_metric.specs.Points.{row-fits, length-row, at-row}
-use Rattle.fit_knots.specs.Fit.{Fit, pieceFrom, pieceOf, hermiteOf, evalFit}
+use Rattle.fit_knots.specs.Fit.{Fit, pieceOf, hermiteOf}
 
 -- the first n numbers of ts never fall
 unfoldable pub Rising : List Float → ℕ → Type 0
@@ -20,7 +18,7 @@ Rising ts n = (k : ℕ) → k + 1 < n → le (at ts k) (at ts (k + 1)) ≡ true
 -- what an evaluation asks of its slices
 pub record Prepared (fts fps slopes : List Float) (m ch : ℕ) : Type 0 where
   pub two : 2 ≤ m
-  pub narrow : ch ≤ 16
+  pub narrow : ch ≤ widest
   pub times : m ≤ length fts
   pub rising : Rising fts m
   pub points : m * ch ≤ length fps
@@ -47,62 +45,3 @@ unfoldable pub fitAt : List Float → List Float → List Float → ℕ → ℕ 
 fitAt fts fps slopes m ch t c =
     let w = pieceOf fts m t in
     pieceAt t (at fts w) (at fts (w + 1)) (at fps (w * ch + c)) (at slopes (c * m + w)) (at fps ((w + 1) * ch + c)) (at slopes (c * m + (w + 1)))
-
--- number j of row i of m, of n each
-pub cell-fits : (i m n j len : ℕ) → i < m → j < n → m * n ≤ len → i * n + j < len
-cell-fits i m n j len h l r = omega (arith, row-fits i m n len h r)
-
--- the piece found is one of the n - 1
-piece-in : (ts : List Float) (t : Float) (f w : ℕ) → pieceFrom ts t f w ≤ w + f
-unfolding pieceFrom
-piece-in ts t zero w = omega arith
-piece-in ts t (suc f) w = go (le t (at ts (w + 1))) (piece-in ts t f (w + 1))
-  where
-    go : (b : Bool) → pieceFrom ts t f (w + 1) ≤ w + 1 + f → cond b w (pieceFrom ts t f (w + 1)) ≤ w + suc f
-    go true h = omega arith
-    go false h = omega arith
-
-pub piece-below : (ts : List Float) (n : ℕ) (t : Float) → 2 ≤ n → pieceOf ts n t + 1 < n
-unfolding pieceOf
-piece-below ts n t h = omega (arith, piece-in ts t (n - 2) 0)
-
--- the search reads only the times up to the last piece's end
-piece-same : (ts us : List Float) (t : Float) (f w n : ℕ) → w + f + 1 < n → ((k : ℕ) → k < n → at ts k ≡ at us k) → pieceFrom ts t f w ≡ pieceFrom us t f w
-unfolding pieceFrom
-piece-same ts us t zero w n h e = refl
-piece-same ts us t (suc f) w n h e = rw (e (w + 1) (omega arith), piece-same ts us t f (w + 1) n (omega arith) e)
-
-pieces-same : (ts us : List Float) (t : Float) (n : ℕ) → 2 ≤ n → ((k : ℕ) → k < n → at ts k ≡ at us k) → pieceOf ts n t ≡ pieceOf us n t
-unfolding pieceOf
-pieces-same ts us t n h e = piece-same ts us t (n - 2) 0 n (omega arith) e
-
--- evalFit, with the piece named
-evalPiece : Fit → ℕ → Float → ℕ → Float
-evalPiece fit w t c =
-    let m = getD (fit .slopes) c [] in
-    pieceAt t (at (fit .times) w) (at (fit .times) (w + 1)) (at (pointOf (fit .points) w) c) (at m w) (at (pointOf (fit .points) (w + 1)) c) (at m (w + 1))
-
-eval-piece : (fit : Fit) (t : Float) → evalFit fit t ≡ upto (evalPiece fit (pieceOf (fit .times) (length (fit .times)) t) t) (length (pointOf (fit .points) (pieceOf (fit .times) (length (fit .times)) t)))
-unfolding evalFit evalPiece pieceAt
-eval-piece fit t = refl
-
-module _ {fit : Fit} {fts fps slopes : List Float} {m ch : ℕ} (held : FitHeld fit fts fps slopes m ch) where
-  at-piece : (t : Float) (w : ℕ) → w + 1 < m → (c : ℕ) → c < ch
-      → evalPiece fit w t c ≡ pieceAt t (at fts w) (at fts (w + 1)) (at fps (w * ch + c)) (at slopes (c * m + w)) (at fps ((w + 1) * ch + c)) (at slopes (c * m + (w + 1)))
-  unfolding evalPiece
-  at-piece t w h c l =
-      rw (held .is .times w (omega arith), held .is .times (w + 1) h, held .is .points w (omega arith), held .is .points (w + 1) h, at-row fps ch w c l, at-row fps ch (w + 1) c l, held .is .bends c w l (omega arith), held .is .bends c (w + 1) l h)
-
-  wide : (w : ℕ) → w < m → length (pointOf (fit .points) w) ≡ ch
-  wide w h = rw (held .is .points w h) (length-row fps ch w (row-fits w m ch (length fps) h (held .room .points)))
-
-  pub eval-is : (t : Float) → evalFit fit t ≡ upto (fitAt fts fps slopes m ch t) ch
-  unfolding fitAt
-  eval-is t =
-      let found : pieceOf (fit .times) (length (fit .times)) t ≡ pieceOf fts m t = rw (held .is .count) (pieces-same (fit .times) fts t m (held .room .two) (held .is .times)) in
-      let h = piece-below fts m t (held .room .two) in
-      eval-piece fit t
-      ∙ rw (found, wide (pieceOf fts m t) (omega arith)) (upto-below (evalPiece fit (pieceOf fts m t) t) _ ch (λ c l. at-piece t (pieceOf fts m t) h c l))
-
-  pub eval-same : evalFit fit ≡ (λ (t : Float). upto (fitAt fts fps slopes m ch t) ch)
-  eval-same = fun-ext eval-is

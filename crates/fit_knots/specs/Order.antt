@@ -1,4 +1,4 @@
--- The order of floats: `le` is transitive, and a difference above zero tells it. Assumes nothing.
+-- LAWS. The order of floats: `le` is transitive, and a difference above zero tells it. Assumes nothing.
 use mathlib.Core.Path.{_≡_, refl, sym}
 use mathlib.Core.Logic.{_⊎_, inl, inr, ⊎-elim}
 use mathlib.Core.Bool.{Bool, true, false, not, _&&_, _||_, cond}
@@ -8,7 +8,8 @@ use native.Mathlib.Omega.{arith}
 use borrow.Author.Tests.{lt-ltb, le-ltb, eq-eqb, ltb-true, ltb-false}
 use lib.Dec.{T, ltb, eqb, ltb→lt, eqb→eq}
 use lib.IntN.{ℤ, negsuc}
-use lib.Ieee.{Float, nan, inf, fin, Format, binary64, prec, emax, low, up, down, below, level, odd, units, round, sum, add, sub, neg, lt, eq, le, ofBits, ofFields}
+use lib.Ieee.{Float, nan, inf, fin, Format, binary64, prec, emax, low, up, down, below, level, odd, units, round, sum, add, sub, neg, lt}
+use lib.Ieee.{eq, le, ofBits, ofFields}
 use lib.Ieee.Fits.{down-pos, and-l, and-r}
 use lib.Ieee.Positive.{through}
 use Rattle.floats.specs.Numbers.{_⊖_, 1e-12}

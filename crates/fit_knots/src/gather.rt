@@ -7,12 +7,12 @@ ghost use mathlib.Core.Path.{_≡_};
 ghost use Prim.Native.Nat.{ℕ, _≤_, _<_, _+_, _*_};
 ghost use lib.ListN.{length};
 ghost use Rattle.floats.specs.Numbers.{at};
-ghost use Rattle.floats.specs.Lists.{filled, rowsOf};
+ghost use Rattle.floats.specs.Lists.{filled};
 ghost use Rattle.curve_metric.specs.Below.{Below};
+ghost use Rattle.layout.specs.Layout.{mostPoints};
+ghost use Rattle.fit_slopes.specs.Sizes.{smallPoints};
 ghost use Rattle.fit_knots.specs.Blocks.{Block, Blocks};
-ghost use Rattle.fit_knots.specs.Fit.{fitOf};
-ghost use Rattle.fit_knots.specs.Memory.{FitHeld};
-ghost use Rattle.fit_knots.specs.Prepare.{slopeOf, timeAt, numberAt, channelAt, TimesRise, FitRoom};
+ghost use Rattle.fit_knots.specs.Prepare.{slopeOf, timeAt, numberAt, channelAt, TimesRise, FitRoom, Gathered};
 
 // Row i of `from` becomes row w of `out`, of n numbers each.
 fn copy_row(from: &[f64], i: usize, n: usize, out: &mut [f64], w: usize)
@@ -70,7 +70,7 @@ fn column(fps: &[f64], ch: usize, m: usize, c: usize, out: &mut [f64])
 
 // The slopes at n knots, of either kind of spline.
 fn slopes_of(cubic: bool, ts: &[f64], ys: &[f64], n: usize, out: &mut [f64])
-    requires { ⌜ (2 ≤ n) × (n ≤ 257) ⌝ }
+    requires { ⌜ (2 ≤ n) × (n ≤ mostPoints) ⌝ }
     requires { ⌜ (n ≤ length (now ts)) × ((n ≤ length (now ys)) × (n ≤ length (now out))) ⌝ }
     ensures { λ _. ⌜ now (out .exit) ≡ filled (slopeOf cubic (now (ts .entry)) (now (ys .entry)) n) n (now (out .entry)) ⌝ }
 {
@@ -92,7 +92,7 @@ fn channel_slopes(
     ys: &mut [f64],
     slopes: &mut [f64],
 )
-    requires { ⌜ (2 ≤ m) × ((m ≤ 257) × ((m ≤ length (now fts)) × (length (now ys) ≡ m))) ⌝ }
+    requires { ⌜ (2 ≤ m) × ((m ≤ mostPoints) × ((m ≤ length (now fts)) × (length (now ys) ≡ m))) ⌝ }
     requires { ⌜ (c < ch) × ((m * ch ≤ length (now fps)) × (ch * m ≤ length (now slopes))) ⌝ }
     ensures { λ _. ⌜ Block (channelAt cubic (now (fts .entry)) (now (fps .entry)) ch m c) (c * m) m (now (slopes .entry)) (now (slopes .exit)) ⌝ }
 {
@@ -112,7 +112,7 @@ fn slopes_in(
     ys: &mut [f64],
     slopes: &mut [f64],
 )
-    requires { ⌜ (2 ≤ m) × ((m ≤ 257) × ((m ≤ length (now fts)) × (length (now ys) ≡ m))) ⌝ }
+    requires { ⌜ (2 ≤ m) × ((m ≤ mostPoints) × ((m ≤ length (now fts)) × (length (now ys) ≡ m))) ⌝ }
     requires { ⌜ (m * ch ≤ length (now fps)) × (ch * m ≤ length (now slopes)) ⌝ }
     ensures { λ _. ⌜ Blocks (channelAt cubic (now (fts .entry)) (now (fps .entry)) ch m) m ch (now (slopes .exit)) ⌝ }
 {
@@ -125,7 +125,7 @@ fn slopes_in(
 
 // Few points: less room to clear.
 fn slopes_small(cubic: bool, fts: &[f64], fps: &[f64], m: usize, ch: usize, slopes: &mut [f64])
-    requires { ⌜ (2 ≤ m) × ((m ≤ 16) × (m ≤ length (now fts))) ⌝ }
+    requires { ⌜ (2 ≤ m) × ((m ≤ smallPoints) × (m ≤ length (now fts))) ⌝ }
     requires { ⌜ (m * ch ≤ length (now fps)) × (ch * m ≤ length (now slopes)) ⌝ }
     ensures { λ _. ⌜ Blocks (channelAt cubic (now (fts .entry)) (now (fps .entry)) ch m) m ch (now (slopes .exit)) ⌝ }
 {
@@ -134,7 +134,7 @@ fn slopes_small(cubic: bool, fts: &[f64], fps: &[f64], m: usize, ch: usize, slop
 }
 
 fn slopes_large(cubic: bool, fts: &[f64], fps: &[f64], m: usize, ch: usize, slopes: &mut [f64])
-    requires { ⌜ (2 ≤ m) × ((m ≤ 257) × (m ≤ length (now fts))) ⌝ }
+    requires { ⌜ (2 ≤ m) × ((m ≤ mostPoints) × (m ≤ length (now fts))) ⌝ }
     requires { ⌜ (m * ch ≤ length (now fps)) × (ch * m ≤ length (now slopes)) ⌝ }
     ensures { λ _. ⌜ Blocks (channelAt cubic (now (fts .entry)) (now (fps .entry)) ch m) m ch (now (slopes .exit)) ⌝ }
 {
@@ -144,7 +144,7 @@ fn slopes_large(cubic: bool, fts: &[f64], fps: &[f64], m: usize, ch: usize, slop
 
 // The slopes of all channels, with as much room as m points need.
 fn gather_slopes(cubic: bool, fts: &[f64], fps: &[f64], m: usize, ch: usize, slopes: &mut [f64])
-    requires { ⌜ (2 ≤ m) × ((m ≤ 257) × (m ≤ length (now fts))) ⌝ }
+    requires { ⌜ (2 ≤ m) × ((m ≤ mostPoints) × (m ≤ length (now fts))) ⌝ }
     requires { ⌜ (m * ch ≤ length (now fps)) × (ch * m ≤ length (now slopes)) ⌝ }
     ensures { λ _. ⌜ Blocks (channelAt cubic (now (fts .entry)) (now (fps .entry)) ch m) m ch (now (slopes .exit)) ⌝ }
 {
@@ -171,7 +171,7 @@ pub fn gather(
     requires { ⌜ Below (now ks) n ⌝ }
     requires { ⌜ (2 ≤ length (now ks)) × (length (now ks) ≤ n) ⌝ }
     requires { ⌜ TimesRise (now ts) (now ks) ⌝ }
-    ensures { λ _. ⌜ FitHeld (fitOf cubic (rowsOf (now (pts .entry)) ch n) (now (ts .entry)) (now (ks .entry))) (now (fts .exit)) (now (fps .exit)) (now (slopes .exit)) (length (now (ks .entry))) ch ⌝ }
+    ensures { λ _. ⌜ Gathered cubic (now (pts .entry)) ch n (now (ts .entry)) (now (ks .entry)) (now (fts .exit)) (now (fps .exit)) (now (slopes .exit)) ⌝ }
 {
     let m = ks.len();
     gather_times(ts, ks, fts);

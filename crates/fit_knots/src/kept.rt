@@ -1,5 +1,5 @@
 // The points kept for the fit.
-use fit_slopes::sizes::SMALL;
+use floats::TINY;
 ghost use Prim.Native.Nat.{_≤_, _<_, _+_, _-_};
 ghost use lib.ListN.{length, getD};
 ghost use Rattle.fit_knots.specs.Kept.{Kept, Judged};
@@ -11,7 +11,7 @@ fn judge(ts: &[f64], i: usize, m: usize, out: &mut [usize]) -> usize
     ensures { λ r. ⌜ Judged (now (ts .entry)) i m (now (out .entry)) (now (out .exit)) r ⌝ }
 {
     let last = out[m - 1];
-    if ts[i] - ts[last] > SMALL {
+    if ts[i] - ts[last] > TINY {
         out[m] = i;
         return m + 1;
     }

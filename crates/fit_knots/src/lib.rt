@@ -9,6 +9,7 @@ use layout::MOST_POINTS;
 ghost use Prim.Native.Nat.{_≤_};
 ghost use lib.ListN.{length};
 ghost use Rattle.floats.specs.Lists.{rowsOf};
+ghost use Rattle.fit_slopes.specs.Sizes.{smallPoints};
 ghost use Rattle.fit_knots.specs.Prepare.{FitRoom, FitReady};
 
 // What `prepare_fit` does. ks is room for the kept points.
@@ -47,7 +48,7 @@ fn fit_small(
     slopes: &mut [f64],
 ) -> usize
     requires { ⌜ FitRoom (now pts) (now ts) (now fts) (now fps) (now slopes) n ch ⌝ }
-    requires { ⌜ n ≤ 16 ⌝ }
+    requires { ⌜ n ≤ smallPoints ⌝ }
     ensures { λ r. ⌜ FitReady cubic (rowsOf (now (pts .entry)) ch n) (now (ts .entry)) n ch (now (fts .exit)) (now (fps .exit)) (now (slopes .exit)) r ⌝ }
 {
     let mut ks = [0usize; SMALL_POINTS];

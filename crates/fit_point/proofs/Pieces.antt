@@ -1,19 +1,19 @@
--- The search for a piece, and one channel of a point. Assumes nothing.
+-- LAWS. The search for a piece, and one channel of a point. Assumes nothing.
 use mathlib.Core.Path.{_≡_, refl, sym, _∙_}
 use mathlib.Core.Bool.{Bool, true, false, cond, false≢true}
 use mathlib.Core.Logic.{_⊎_, inl, inr, ⊎-elim}
-use mathlib.Core.List.{List, [], _∷_}
+use mathlib.Core.List.{List}
 use Prim.Native.Nat.{ℕ, zero, suc, _≤_, _-_, _<_, _+_, _*_}
 use borrow.Author.Tests.{lt-ltb, le-ltb}
 use native.Mathlib.Nat.{eq-or-lt-of-le}
 use native.Mathlib.Numerals.{add-one}
 use native.Mathlib.Omega.{arith}
-use lib.ListN.{length, replicate, getD-replicate}
-use lib.Seq.{ext-getD}
-use lib.Ieee.{Float, nan, le}
+use lib.ListN.{replicate}
+use lib.Ieee.{Float, le}
 use Rattle.floats.specs.Numbers.{_⊖_, _⊘_, f0, f1, heldIn, at}
 use Rattle.floats.specs.Lists.{upto, filled}
-use Rattle.floats.specs.Fill.{length-upto, at-upto, length-filled, at-filled, past-filled, lt-or-le}
+use Rattle.curve_metric.specs.Widest.{widest}
+use Rattle.curve_metric.specs.Written.{padded}
 use Rattle.fit_slopes.specs.Slopes.{step}
 use Rattle.fit_knots.specs.Fit.{pieceFrom, pieceOf}
 use Rattle.fit_knots.specs.Memory.{Rising, pieceAt, fitAt}
@@ -77,7 +77,8 @@ module _ (ts : List Float) (n : ℕ) (t : Float) where
 
   -- w is the piece that t lies in
   pub piece-named : Rising ts n → (w : ℕ) → w + 1 < n → (0 < w → le t (at ts w) ≡ false) → (w + 2 ≡ n) ⊎ (le t (at ts (w + 1)) ≡ true) → w ≡ pieceOf ts n t
-  piece-named rise w h before stops = narrowed-end {lo = w} {hi = w} (record { order = omega arith; inside = omega arith; passed = passed; stops = stops }) (omega arith)
+  piece-named rise w h before stops =
+      narrowed-end {lo = w} {hi = w} (record { order = omega arith; inside = omega arith; passed = passed; stops = stops }) (omega arith)
     where
       passed : (k : ℕ) → k < w → le t (at ts (k + 1)) ≡ false
       passed k l =
@@ -86,7 +87,8 @@ module _ (ts : List Float) (n : ℕ) (t : Float) where
 
 -- ---- one channel
 module _ (b : Blend) (fps slopes : List Float) (m ch w c : ℕ) where
-  pub channel-in : {y a z k r : Float} → c < ch → y ≡ at fps (w * ch + c) → a ≡ at slopes (c * m + w) → z ≡ at fps ((w + 1) * ch + c) → k ≡ at slopes (c * m + (w + 1))
+  pub channel-in : {y a z k r : Float} → c < ch
+      → y ≡ at fps (w * ch + c) → a ≡ at slopes (c * m + w) → z ≡ at fps ((w + 1) * ch + c) → k ≡ at slopes (c * m + (w + 1))
       → r ≡ blendOf b y a z k → r ≡ channelOf b fps slopes m ch w c
   unfolding channelOf
   channel-in h ey ea ez ek er = rw (er, ey, ea, ez, ek, lt-ltb c ch h)
@@ -96,24 +98,14 @@ module _ (b : Blend) (fps slopes : List Float) (m ch w c : ℕ) where
   channel-out h = rw (le-ltb c ch h)
 
 -- ---- all of them
-pub sixteen : (f : ℕ → Float) {v0 v1 v2 v3 v4 v5 v6 v7 v8 v9 v10 v11 v12 v13 v14 v15 : Float} → v0 ≡ f 0 → v1 ≡ f 1 → v2 ≡ f 2 → v3 ≡ f 3 → v4 ≡ f 4 → v5 ≡ f 5 → v6 ≡ f 6 → v7 ≡ f 7 → v8 ≡ f 8 → v9 ≡ f 9 → v10 ≡ f 10 → v11 ≡ f 11 → v12 ≡ f 12 → v13 ≡ f 13 → v14 ≡ f 14 → v15 ≡ f 15
-    → v0 ∷ v1 ∷ v2 ∷ v3 ∷ v4 ∷ v5 ∷ v6 ∷ v7 ∷ v8 ∷ v9 ∷ v10 ∷ v11 ∷ v12 ∷ v13 ∷ v14 ∷ v15 ∷ [] ≡ upto f 16
-unfolding upto
-sixteen f e0 e1 e2 e3 e4 e5 e6 e7 e8 e9 e10 e11 e12 e13 e14 e15 = rw (e0, e1, e2, e3, e4, e5, e6, e7, e8, e9, e10, e11, e12, e13, e14, e15)
-
-module _ (fts fps slopes : List Float) (m ch : ℕ) (t : Float) {w : ℕ} {h s : Float} {b : Blend} (ew : w ≡ pieceOf fts m t) (eh : h ≡ step fts w) (es : s ≡ heldIn f0 f1 ((t ⊖ at fts w) ⊘ h)) (eb : BlendIs s h b) where
+module _ (fts fps slopes : List Float) (m ch : ℕ) (t : Float) {w : ℕ} {h s : Float} {b : Blend}
+    (ew : w ≡ pieceOf fts m t) (eh : h ≡ step fts w) (es : s ≡ heldIn f0 f1 ((t ⊖ at fts w) ⊘ h)) (eb : BlendIs s h b) where
   blended-is : (c : ℕ) → c < ch → channelOf b fps slopes m ch w c ≡ fitAt fts fps slopes m ch t c
   unfolding channelOf fitAt pieceAt
   blended-is c l = rw (lt-ltb c ch l, eb .first, eb .rise, eb .last, eb .fall, es, eh, ew)
 
-  pub fit-is : {r : List Float} → ch ≤ 16 → r ≡ upto (channelOf b fps slopes m ch w) 16 → r ≡ filled (fitAt fts fps slopes m ch t) ch (replicate 16 f0)
+  pub fit-is : {r : List Float} → ch ≤ widest → r ≡ upto (channelOf b fps slopes m ch w) widest
+      → r ≡ filled (fitAt fts fps slopes m ch t) ch (replicate widest f0)
   fit-is few e =
-      let f = fitAt fts fps slopes m ch t in
-      let g = channelOf b fps slopes m ch w in
-      let long : length (filled f ch (replicate 16 f0)) ≡ 16 = length-filled f (replicate 16 f0) ch few in
-      e ∙ ext-getD nan (upto g 16) (filled f ch (replicate 16 f0)) (length-upto g 16 ∙ sym long) (λ c l.
-      let less : c < 16 = omega (arith, length-upto g 16) in
-      at-upto g 16 c nan less ∙ ⊎-elim
-      (λ h. blended-is c h ∙ sym (at-filled f (replicate 16 f0) ch c nan h))
-      (λ h. sym (channel-out b fps slopes m ch w c h) ∙ sym (past-filled f (replicate 16 f0) ch c nan h ∙ getD-replicate 16 c f0 nan less))
-      (lt-or-le c ch))
+      e ∙ padded (fitAt fts fps slopes m ch t) (channelOf b fps slopes m ch w) ch few blended-is
+      (λ c h. sym (channel-out b fps slopes m ch w c h))

@@ -1,4 +1,4 @@
--- A piece of a fit at one place of it, channel by channel. Assumes nothing.
+-- DEFINITIONS. A piece of a fit at one place of it, channel by channel. Assumes nothing.
 use mathlib.Core.List.{List}
 use mathlib.Core.Path.{_≡_}
 use mathlib.Core.Bool.{cond}

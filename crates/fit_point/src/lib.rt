@@ -1,5 +1,5 @@
 // A prepared fit is evaluated: the piece that t lies in, and each channel's cubic there.
-use fit_slopes::sizes::WIDEST;
+use curve_metric::WIDEST;
 use fit_slopes::steps::step_at;
 ghost use mathlib.Core.Path.{_≡_};
 ghost use mathlib.Core.Bool.{true};
@@ -7,6 +7,7 @@ ghost use Prim.Native.Nat.{_≤_, _<_, _+_, _*_};
 ghost use lib.ListN.{length, replicate};
 ghost use Rattle.floats.specs.Numbers.{f0, at};
 ghost use Rattle.floats.specs.Lists.{upto, filled};
+ghost use Rattle.curve_metric.specs.Widest.{widest};
 ghost use Rattle.fit_knots.specs.Fit.{pieceOf};
 ghost use Rattle.fit_knots.specs.Memory.{Rising, Prepared, fitAt};
 ghost use Rattle.fit_point.specs.Channels.{BlendIs, blendOf, channelOf};
@@ -67,7 +68,7 @@ fn channel_at(b: Blend, fps: &[f64], slopes: &[f64], m: usize, ch: usize, w: usi
 // All channels. Written out, each goes straight to its place, where an array filled by index is copied once more.
 fn channels(b: Blend, fps: &[f64], slopes: &[f64], m: usize, ch: usize, w: usize) -> [f64; WIDEST]
     requires { ⌜ (w + 1 < m) × ((m * ch ≤ length (now fps)) × (ch * m ≤ length (now slopes))) ⌝ }
-    ensures { λ r. ⌜ r ≡ upto (channelOf b (now (fps .entry)) (now (slopes .entry)) m ch w) 16 ⌝ }
+    ensures { λ r. ⌜ r ≡ upto (channelOf b (now (fps .entry)) (now (slopes .entry)) m ch w) widest ⌝ }
 {
     [
         channel_at(b, fps, slopes, m, ch, w, 0),
@@ -150,12 +151,12 @@ pub fn eval_fit(
     hint: usize,
 ) -> [f64; WIDEST]
     requires { ⌜ Prepared (now fts) (now fps) (now slopes) m ch ⌝ }
-    ensures { λ r. ⌜ r ≡ filled (fitAt (now (fts .entry)) (now (fps .entry)) (now (slopes .entry)) m ch t) ch (replicate 16 f0) ⌝ }
+    ensures { λ r. ⌜ r ≡ filled (fitAt (now (fts .entry)) (now (fps .entry)) (now (slopes .entry)) m ch t) ch (replicate widest f0) ⌝ }
 {
     let w = piece_near(fts, m, t, hint);
     let h = step_at(fts, w);
     channels(
-        blend_at(curve_metric::clamp((t - fts[w]) / h), h),
+        blend_at(floats::held_in(0.0, 1.0, (t - fts[w]) / h), h),
         fps,
         slopes,
         m,

@@ -1,4 +1,4 @@
--- One more row of each recurrence of `specs/Fit.antt`. j is i + 1. Assumes nothing.
+-- LAWS. One more row of each recurrence of `specs/Fit.antt`. j is i + 1. Assumes nothing.
 use mathlib.Core.Path.{_≡_, refl}
 use mathlib.Core.List.{List}
 use Prim.Native.Nat.{ℕ, zero, suc, _+_, _-_, _<_, _≤_}

@@ -1,4 +1,4 @@
--- Two knots, or more, for either kind of slope. Assumes nothing.
+-- LAWS. Two knots, or more, for either kind of slope. Assumes nothing.
 use mathlib.Core.Path.{_≡_, refl, sym, ap}
 use mathlib.Core.List.{List, _++_}
 use Prim.Native.Nat.{ℕ, _+_, _-_, _<_, _≤_}
@@ -12,7 +12,8 @@ use Rattle.fit_slopes.specs.Slopes.{secant, widened, akimaAt, akimaSlope
 
 pub both-filled : {v : Float} (l : List Float) {u : Float} → 2 ≤ length l → v ≡ u → set (set l 0 v) 1 v ≡ filled (λ (k : ℕ). u) 2 l
 both-filled {v} l {u} h e =
-    filling-more {f = λ (k : ℕ). u} {i = 1} (filling-more {f = λ (k : ℕ). u} {i = 0} (filling-none {f = λ (k : ℕ). u} {l = l}) (omega arith) e) (omega arith) e .is
+    let f : ℕ → Float = λ (k : ℕ). u in
+    filling-more {f = f} {i = 1} (filling-more {f = f} {i = 0} (filling-none {f = f} {l = l}) (omega arith) e) (omega arith) e .is
 
 filled-same-as : (f g : ℕ → Float) (m n : ℕ) (l : List Float) → m ≡ n → ((k : ℕ) → f k ≡ g k) → filled f m l ≡ filled g n l
 filled-same-as f g m n l e h = rw e (ap (λ (u : List Float). u ++ drop n l) (upto-same f g h n))

@@ -1,4 +1,4 @@
--- A list that was filled up to its last place. Assumes nothing.
+-- LAWS. A list that was filled up to its last place. Assumes nothing.
 use mathlib.Core.Path.{_≡_, _∙_, ap}
 use mathlib.Core.List.{List}
 use Prim.Native.Nat.{ℕ}

@@ -1,4 +1,4 @@
--- Document 01, "Spline": the slopes of ASPLINE and CSPLINE at their knots. Definitions only.
+-- DEFINITIONS. The slopes of ASPLINE and CSPLINE at their knots. Assumes nothing.
 use Prim.Native.Nat.{ℕ, zero, suc, _+_, _-_}
 use mathlib.Core.Bool.{cond}
 use mathlib.Core.List.{List, [], _∷_, _++_}
@@ -7,7 +7,7 @@ use lib.Ieee.{Float, lt}
 use Rattle.floats.specs.Numbers.{_⊕_, _⊖_, _⊗_, _⊘_, f0, f½, f1, f2, f6, 1e-12, absOf, at}
 use Rattle.floats.specs.Lists.{upto}
 
--- ---- "ASPLINE, CSPLINE: slopes as in 000": the step after i, and the slope over it
+-- ---- the step after i, and the slope over it
 abbrev pub step : List Float → ℕ → Float
 step ts i = at ts (i + 1) ⊖ at ts i
 

@@ -1,7 +1,7 @@
 // The slopes of the Akima spline: flatten.rs's `akima_slopes`.
-use crate::sizes::SMALL;
 use crate::steps::secant_at;
 use crate::steps::straight_slopes;
+use floats::TINY;
 ghost use mathlib.Core.Path.{_≡_};
 ghost use Prim.Native.Nat.{_≤_, _<_, _+_, _-_};
 ghost use lib.ListN.{length};
@@ -16,7 +16,7 @@ fn akima_of(m1: f64, m2: f64, m3: f64, m4: f64) -> f64
 {
     let w1 = floats::abs(m4 - m3);
     let w2 = floats::abs(m2 - m1);
-    if w1 + w2 > SMALL {
+    if w1 + w2 > TINY {
         (w1 * m2 + w2 * m3) / (w1 + w2)
     } else {
         0.5 * (m2 + m3)

@@ -8,6 +8,8 @@ ghost use mathlib.Core.Path.{_≡_};
 ghost use Prim.Native.Nat.{_≤_, _<_, _+_};
 ghost use lib.ListN.{length};
 ghost use Rattle.floats.specs.Lists.{filled, Agrees};
+ghost use Rattle.layout.specs.Layout.{mostPoints};
+ghost use Rattle.fit_slopes.specs.Sizes.{smallPoints};
 ghost use Rattle.fit_slopes.specs.Slopes.{diag, rhs, bend, bent, cubicSlope};
 
 // The m eliminated rows of m + 1 knots.
@@ -92,7 +94,7 @@ fn bent_in(
 
 // Few knots: less room to clear.
 fn bent_small(ts: &[f64], ys: &[f64], m: usize, out: &mut [f64])
-    requires { ⌜ (0 < m) × (m < 16) ⌝ }
+    requires { ⌜ (0 < m) × (m < smallPoints) ⌝ }
     requires { ⌜ (m < length (now ts)) × ((m < length (now ys)) × (m < length (now out))) ⌝ }
     ensures { λ _. ⌜ now (out .exit) ≡ filled (bent (now (ts .entry)) (now (ys .entry)) m) (m + 1) (now (out .entry)) ⌝ }
 {
@@ -103,7 +105,7 @@ fn bent_small(ts: &[f64], ys: &[f64], m: usize, out: &mut [f64])
 }
 
 fn bent_large(ts: &[f64], ys: &[f64], m: usize, out: &mut [f64])
-    requires { ⌜ (0 < m) × (m < 257) ⌝ }
+    requires { ⌜ (0 < m) × (m < mostPoints) ⌝ }
     requires { ⌜ (m < length (now ts)) × ((m < length (now ys)) × (m < length (now out))) ⌝ }
     ensures { λ _. ⌜ now (out .exit) ≡ filled (bent (now (ts .entry)) (now (ys .entry)) m) (m + 1) (now (out .entry)) ⌝ }
 {
@@ -113,9 +115,9 @@ fn bent_large(ts: &[f64], ys: &[f64], m: usize, out: &mut [f64])
     bent_in(ts, ys, m, &mut d, &mut r, &mut s, out);
 }
 
-// The slopes at n knots, from 2 to 257 of them.
+// The slopes at n knots, two or more.
 pub fn natural_cubic_slopes(ts: &[f64], ys: &[f64], n: usize, out: &mut [f64])
-    requires { ⌜ (2 ≤ n) × (n ≤ 257) ⌝ }
+    requires { ⌜ (2 ≤ n) × (n ≤ mostPoints) ⌝ }
     requires { ⌜ (n ≤ length (now ts)) × ((n ≤ length (now ys)) × (n ≤ length (now out))) ⌝ }
     ensures { λ _. ⌜ now (out .exit) ≡ filled (cubicSlope (now (ts .entry)) (now (ys .entry)) n) n (now (out .entry)) ⌝ }
 {

@@ -1,4 +1,4 @@
--- Lists as the definitions write them. Assumes nothing.
+-- DEFINITIONS. Lists as the definitions write them. Assumes nothing.
 use Prim.Native.Nat.{ℕ, zero, suc, _+_, _*_, _<_}
 use mathlib.Core.Path.{_≡_}
 use mathlib.Core.Bool.{Bool, true, false, cond, _&&_, _||_}

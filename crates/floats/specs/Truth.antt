@@ -1,4 +1,4 @@
--- Laws on truth values by which a proof walks a chain of tests. Assumes nothing.
+-- LAWS. Truth values, by which a proof walks a chain of tests. Assumes nothing.
 use Prim.Native.Nat.{ℕ, zero, suc, _+_, _<_}
 use mathlib.Core.Path.{_≡_, refl, sym, _∙_, ap₂, subst}
 use mathlib.Core.Bool.{Bool, true, false, _&&_, _||_, cond, false≢true, and-false}

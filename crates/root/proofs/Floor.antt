@@ -1,4 +1,4 @@
--- `floorRoot d n` is the whole part of n's root, for an n below 4 ^ d. Assumes nothing.
+-- LAWS. `floorRoot d n` is the whole part of n's root, for an n below 4 ^ d. Assumes nothing.
 use mathlib.Core.Path.{_≡_, ap, _∙_}
 use Prim.Native.Nat.{ℕ, zero, suc, _*_, _/_, _^_, _≤_, _<_, zero-le}
 use native.Mathlib.Nat.{mul-assoc, mul-comm, mul-left-comm, pow-suc}

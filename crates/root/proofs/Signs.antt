@@ -1,4 +1,4 @@
--- Which values have a root: those that are 0 or more. Assumes nothing.
+-- LAWS. Which values have a root: those that are 0 or more. Assumes nothing.
 use mathlib.Core.Path.{_≡_, refl, sym, ap, _∙_, subst}
 use Prim.Native.Nat.{ℕ, zero, suc, _+_, _-_, _*_, _/_, _^_, _<_}
 use native.Mathlib.Nat.{lt-irrefl, zero-mul, mul-one, mul-pos, zero-lt-suc}

@@ -1,4 +1,4 @@
--- Values of the step lists that antt computes. Assumes nothing.
+-- LAWS. Values of the step lists that antt computes. Assumes nothing.
 use mathlib.Core.Path.{_≡_, refl}
 use lib.Ieee.{binary64, add, sub, mul, div, neg, lt, le, eq, ofBits, toBits}
 use Rattle.trig.specs.Trig.{sinSteps, cosSteps, acosSteps}

@@ -1,8 +1,9 @@
--- What the code of `ceil_count` finds by tests on floats is `ceilOf`. Assumes nothing.
+-- LAWS. What the code of `ceil_count` finds by tests on floats is `ceilOf`. Assumes nothing.
 use mathlib.Core.Path.{_≡_, refl, sym, ap, _∙_}
 use mathlib.Core.Bool.{Bool, true, false, cond, true≢false, false≢true}
 use Prim.Native.Nat.{ℕ, _+_, _-_, _*_, _/_, _≤_, _<_}
-use native.Mathlib.Nat.{div-eq-of-lt-le, div-mul-le-self, lt-div-mul-add, div-lt-iff-lt-mul, add-mul, one-mul, mul-one, mul-right-comm, mul-lt-mul-of-pos-right, mul-le-mul-right}
+use native.Mathlib.Nat.{div-eq-of-lt-le, div-mul-le-self, lt-div-mul-add, div-lt-iff-lt-mul, add-mul, one-mul, mul-one, mul-right-comm}
+use native.Mathlib.Nat.{mul-lt-mul-of-pos-right, mul-le-mul-right}
 use native.Mathlib.Omega.{arith}
 use lib.IntN.{ℤ, pos}
 use lib.Dec.{T, ltb, lt→ltb}
@@ -83,7 +84,8 @@ picked n d p = go (ltb (n / d * d) n) refl
     go true h = sym (up-one n d (n / d) (ltb-true (n / d * d) n h) (lt-div-mul-add p))
     go false h = sym (stays n d (n / d) p (ltb-false (n / d * d) n h) (div-mul-le-self n d))
 
-pub ceil-is : (x : Float) → lt f0 x ≡ true → lt x twoTo53 ≡ true → cond (lt (ofInt binary64 (pos (toUnsigned 64 x))) x) (toUnsigned 64 x + 1) (toUnsigned 64 x) ≡ ceilOf x
+pub ceil-is : (x : Float) → lt f0 x ≡ true → lt x twoTo53 ≡ true
+    → cond (lt (ofInt binary64 (pos (toUnsigned 64 x))) x) (toUnsigned 64 x + 1) (toUnsigned 64 x) ≡ ceilOf x
 unfolding lt ofBits
 ceil-is nan p q = absurd (false≢true p)
 ceil-is (inf true) p q = absurd (false≢true p)

@@ -27,7 +27,20 @@ turned-requires c κs = search needs
 
 returns : tie.Need-returns
 unfolding arcOf
-returns c = rw ((c .before .before .before .before .radius .ensures), (c .before .before .before .radius2 .ensures), (c .turned .ensures), (c .before .sweep .ensures), (c .before .before .agree .ensures), (c .before .before .before .before .before .before .before .before .atan2 .ensures), (c .before .before .before .before .before .atan22 .ensures))
+returns c =
+    let radius2 = c .before .before .before .radius2 in
+    let radius = c .before .before .before .before .radius in
+    let atan22 = c .before .before .before .before .before .atan22 in
+    let atan2 = c .before .before .before .before .before .before .before .before .atan2 in
+    rw (
+      (radius .ensures),
+      (radius2 .ensures),
+      (c .turned .ensures),
+      (c .before .sweep .ensures),
+      (c .before .before .agree .ensures),
+      (atan2 .ensures),
+      (atan22 .ensures),
+    )
 
 pub arc-of-spec : {M : Type 1} → statement M
 arc-of-spec =

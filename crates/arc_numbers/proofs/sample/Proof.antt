@@ -7,7 +7,9 @@ sincos-requires : tie.Need-sincos-requires
 sincos-requires c κs = search needs
 
 returns : tie.Need-returns
-returns c = record { u = rw (c .before .before .before .before .before .before .sincos .ensures .1); v = rw (c .before .before .before .before .before .before .sincos .ensures .0) }
+returns c =
+    let sincos = c .before .before .before .before .before .before .sincos in
+    record { u = rw (sincos .ensures .1); v = rw (sincos .ensures .0) }
 
 pub sample-spec : {M : Type 1} → statement M
 sample-spec = tie.close (tie.spec sincos-requires returns)

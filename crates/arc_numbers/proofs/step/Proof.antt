@@ -7,15 +7,15 @@ use Rattle.arc_numbers.proofs.step.Tie as tie
 larger-requires : tie.Need-larger-requires
 larger-requires c κs = search needs
 
-held-requires : tie.Need-held-requires
-held-requires c κs = search needs
+held-in-requires : tie.Need-held-in-requires
+held-in-requires c κs = search needs
 
 acos-requires : tie.Need-acos-requires
 acos-requires c κs = search needs
 
 returns : tie.Need-returns
 unfolding stepOf
-returns c = rw ((c .acos .ensures), (c .before .held .ensures), (c .before .before .before .larger .ensures))
+returns c = rw ((c .acos .ensures), (c .before .held-in .ensures), (c .before .before .before .larger .ensures))
 
 pub step-spec : {M : Type 1} → statement M
-step-spec = tie.close (tie.spec larger-requires held-requires acos-requires returns)
+step-spec = tie.close (tie.spec larger-requires held-in-requires acos-requires returns)

@@ -18,15 +18,19 @@ enum-told c = search needs
 
 returns : tie.Need-returns
 unfolding turned
-returns c = rw ((c .before .before .before .before .turn .given .1), (c .if1 .taken), (c .before .nearest-u64-to-f64 .ensures), (c .before .before .half-up-count .ensures))
+returns c =
+    let turn = c .before .before .before .before .turn in
+    rw ((turn .given .1), (c .if1 .taken), (c .before .nearest-u64-to-f64 .ensures), (c .before .before .half-up-count .ensures))
 
 returns-2 : tie.Need-returns-2
 unfolding turned
-returns-2 c = rw ((c .before .before .before .before .turn .given .1), (c .if1 .left), (c .before .nearest-u64-to-f64 .ensures), (c .before .before .half-up-count .ensures))
+returns-2 c =
+    let turn = c .before .before .before .before .turn in
+    rw ((turn .given .1), (c .if1 .left), (c .before .nearest-u64-to-f64 .ensures), (c .before .before .half-up-count .ensures))
 
 returns-3 : tie.Need-returns-3
 unfolding turned
-returns-3 c = rw ((c .enum-told .given .1))
+returns-3 c = rw (c .enum-told .given .1)
 
 pub turned-spec : {M : Type 1} → statement M
 turned-spec =

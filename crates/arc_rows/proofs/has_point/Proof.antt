@@ -28,7 +28,9 @@ programs-requires : tie.Need-programs-requires Inv-loop μ-loop
 programs-requires c κs = search needs
 
 returns : tie.Need-returns Inv-loop μ-loop
-returns c = sym (point-there _ _ (c .before .before .before .loop .k) (c .before .before .loop-test .taken) (sym (c .before .programs .ensures) ∙ (c .if1 .taken)))
+returns c =
+    let at-loop = c .before .before .before .loop in
+    sym (point-there _ _ (at-loop .k) (c .before .before .loop-test .taken) (sym (c .before .programs .ensures) ∙ (c .if1 .taken)))
 
 add-k : tie.Need-add-k Inv-loop μ-loop
 add-k c = search needs

@@ -17,15 +17,35 @@ has-bit-requires c κs = search needs
 
 returns-2 : tie.Need-returns-2
 unfolding holds
-returns-2 c = rw (← (c .before .before .before .programs .ensures), not-false (c .before .before .before .programs .result) (c .before .before .if1 .left), ← (c .before .has-bit .ensures), (c .if2 .taken))
+returns-2 c =
+    let programs = c .before .before .before .programs in
+    rw (← (programs .ensures), not-false (programs .result) (c .before .before .if1 .left), ← (c .before .has-bit .ensures), (c .if2 .taken))
 
 returns-3 : tie.Need-returns-3
 unfolding holds
-returns-3 c = rw (← (c .before .before .before .before .programs .ensures), not-false (c .before .before .before .before .programs .result) (c .before .before .before .if1 .left), ← (c .before .before .has-bit .ensures), (c .before .if2 .left), eq-eqb _ _ (c .if3 .taken))
+returns-3 c =
+    let if1 = c .before .before .before .if1 in
+    let programs = c .before .before .before .before .programs in
+    rw (
+      ← (programs .ensures),
+      not-false (programs .result) (if1 .left),
+      ← (c .before .before .has-bit .ensures),
+      (c .before .if2 .left),
+      eq-eqb _ _ (c .if3 .taken),
+    )
 
 returns-4 : tie.Need-returns-4
 unfolding holds
-returns-4 c = rw (← (c .before .before .before .before .programs .ensures), not-false (c .before .before .before .before .programs .result) (c .before .before .before .if1 .left), ← (c .before .before .has-bit .ensures), (c .before .if2 .left), ne-eqb _ _ (c .if3 .left))
+returns-4 c =
+    let if1 = c .before .before .before .if1 in
+    let programs = c .before .before .before .before .programs in
+    rw (
+      ← (programs .ensures),
+      not-false (programs .result) (if1 .left),
+      ← (c .before .before .has-bit .ensures),
+      (c .before .if2 .left),
+      ne-eqb _ _ (c .if3 .left),
+    )
 
 pub holds-end-spec : {M : Type 1} → statement M
 holds-end-spec =

@@ -22,7 +22,10 @@ has-bit-requires c κs = search needs
 
 returns-2 : tie.Need-returns-2
 unfolding silentAt
-returns-2 c = rw (← (c .before .before .before .before .has-point .ensures), (c .before .before .before .if1 .left), ← (c .before .has-bit .ensures), (c .if2 .taken))
+returns-2 c =
+    let if1 = c .before .before .before .if1 in
+    let has-point = c .before .before .before .before .has-point in
+    rw (← (has-point .ensures), (if1 .left), ← (c .before .has-bit .ensures), (c .if2 .taken))
 
 shared-slice-read-has-bit-2 : tie.Need-shared-slice-read-has-bit-2
 shared-slice-read-has-bit-2 c = search needs
@@ -35,7 +38,12 @@ has-bit-requires-2 c κs = search needs
 
 returns-3 : tie.Need-returns-3
 unfolding silentAt
-returns-3 c = rw (← (c .before .before .before .before .before .before .before .has-point .ensures), (c .before .before .before .before .before .before .if1 .left), ← (c .before .before .before .before .has-bit .ensures), (c .before .before .before .if2 .left), ← (c .before .has-bit2 .ensures), (c .if3 .taken))
+returns-3 c =
+    let if2 = c .before .before .before .if2 in
+    let has-bit = c .before .before .before .before .has-bit in
+    let if1 = c .before .before .before .before .before .before .if1 in
+    let has-point = c .before .before .before .before .before .before .before .has-point in
+    rw (← (has-point .ensures), (if1 .left), ← (has-bit .ensures), (if2 .left), ← (c .before .has-bit2 .ensures), (c .if3 .taken))
 
 shared-slice-read-has-bit-3 : tie.Need-shared-slice-read-has-bit-3
 shared-slice-read-has-bit-3 c = search needs
@@ -45,7 +53,13 @@ has-bit-requires-3 c κs = search needs
 
 returns-4 : tie.Need-returns-4
 unfolding silentAt
-returns-4 c = rw (← (c .before .before .before .before .before .before .before .before .before .has-point .ensures), (c .before .before .before .before .before .before .before .before .if1 .left), ← (c .before .before .before .before .before .before .has-bit .ensures), (c .before .before .before .before .before .if2 .left), ← (c .before .before .before .has-bit2 .ensures), (c .before .before .if3 .left), ← (c .has-bit3 .ensures))
+returns-4 c =
+    let has-bit2 = c .before .before .before .has-bit2 in
+    let if2 = c .before .before .before .before .before .if2 in
+    let has-bit = c .before .before .before .before .before .before .has-bit in
+    let if1 = c .before .before .before .before .before .before .before .before .if1 in
+    let has-point = c .before .before .before .before .before .before .before .before .before .has-point in
+    rw (← (has-point .ensures), (if1 .left), ← (has-bit .ensures), (if2 .left), ← (has-bit2 .ensures), (c .before .before .if3 .left), ← (c .has-bit3 .ensures))
 
 pub is-silent-spec : {M : Type 1} → statement M
 is-silent-spec =

@@ -42,18 +42,54 @@ slice-aggregate-put-mid-rows-2 : tie.Need-slice-aggregate-put-mid-rows-2
 slice-aggregate-put-mid-rows-2 c = search needs
 
 put-mid-rows-requires : tie.Need-put-mid-rows-requires
-put-mid-rows-requires c κs = (record { room = (c .before .before .before .before .before .before .before .before .before .before .before .before .before .before .before .before .pre) .room; some = (c .before .before .before .before .before .before .before .before .before .before .before .before .before .before .before .before .pre) .some; long = (c .before .before .before .before .before .before .before .before .before .before .before .before .before .before .before .before .pre) .long; axes = (c .before .before .before .before .before .before .before .before .before .before .before .before .before .before .before .before .pre) .axes; shows = subst (λ (m : ℕ). m < 2 ^ axisCodes) (sym (c .before .before .before .before .before .before .before .before .before .before .drawn-axes .ensures)) (mask-lt _ axisCodes); onU = omega (arith, (c .before .before .before .before .before .before .before .before .before .before .before .before .plane-u .ensures) .1); onV = omega (arith, (c .before .before .before .before .before .before .before .before .before .before .before .plane-v .ensures) .1) }, (ap length (c .before .before .before .before .before .before .before .before .put-starts .ensures) ∙ length-upto _ axisCodes, ap length (c .before .before .before .before .put-spans .ensures) ∙ length-upto _ axisCodes))
+put-mid-rows-requires c κs =
+    let put-spans = c .before .before .before .before .put-spans in
+    let put-starts = c .before .before .before .before .before .before .before .before .put-starts in
+    let drawn-axes = c .before .before .before .before .before .before .before .before .before .before .drawn-axes in
+    let plane-v = c .before .before .before .before .before .before .before .before .before .before .before .plane-v in
+    let back = c .before .before .before .before .before .before .before .before .before .before .before .before in
+    let plane-u = back .plane-u in
+    let pre = back .before .before .before .before .pre in
+    let shows = subst (λ (m : ℕ). m < 2 ^ axisCodes) (sym (drawn-axes .ensures)) (mask-lt _ axisCodes) in
+    let from = ap length (put-starts .ensures) ∙ length-upto _ axisCodes in
+    let by = ap length (put-spans .ensures) ∙ length-upto _ axisCodes in (
+      (
+        record { long = pre .long; axes = pre .axes; shows = shows; onU = omega (arith, plane-u .ensures .1); onV = omega (arith, plane-v .ensures .1) },
+        record { from = from; by = by },
+      ),
+      (pre .some, pre .room),
+    )
 
 put-last-row-requires : tie.Need-put-last-row-requires
-put-last-row-requires c κs = record { room = omega (arith, (c .before .before .before .put-mid-rows .ensures) .same, (c .before .before .before .put-mid-rows .ensures) .ends, (c .before .before .before .before .before .before .before .before .before .before .before .before .before .before .before .before .before .before .before .before .pre) .room, (c .before .before .before .before .before .before .before .before .before .before .before .before .before .before .before .before .before .before .before .before .pre) .some); long = (c .before .before .before .before .before .before .before .before .before .before .before .before .before .before .before .before .before .before .before .before .pre) .long; axes = (c .before .before .before .before .before .before .before .before .before .before .before .before .before .before .before .before .before .before .before .before .pre) .axes; shows = subst (λ (m : ℕ). m < 2 ^ axisCodes) (sym (c .before .before .before .before .before .before .before .before .before .before .before .before .before .before .drawn-axes .ensures)) (mask-lt _ axisCodes); onU = omega (arith, (c .before .before .before .before .before .before .before .before .before .before .before .before .before .before .before .before .plane-u .ensures) .1); onV = omega (arith, (c .before .before .before .before .before .before .before .before .before .before .before .before .before .before .before .plane-v .ensures) .1) }
+put-last-row-requires c κs =
+    let put-mid-rows = c .before .before .before .put-mid-rows in
+    let back = c .before .before .before .before .before .before .before .before .before .before .before .before in
+    let drawn-axes = back .before .before .drawn-axes in
+    let plane-v = back .before .before .before .plane-v in
+    let plane-u = back .before .before .before .before .plane-u in
+    let pre = back .before .before .before .before .before .before .before .before .pre in
+    let shows = subst (λ (m : ℕ). m < 2 ^ axisCodes) (sym (drawn-axes .ensures)) (mask-lt _ axisCodes) in (
+      record { long = pre .long; axes = pre .axes; shows = shows; onU = omega (arith, plane-u .ensures .1); onV = omega (arith, plane-v .ensures .1) },
+      omega (arith, put-mid-rows .ensures .same, put-mid-rows .ensures .ends, pre .room, pre .some),
+    )
 
 same-length : tie.Need-same-length
 same-length c = search needs
 
 returns : tie.Need-returns
-returns c = let hu : (c .before .before .before .before .before .before .before .before .before .before .before .before .before .before .before .before .before .before .before .plane-u .result) < axisCodes = omega (arith, (c .before .before .before .before .before .before .before .before .before .before .before .before .before .before .before .before .before .before .before .plane-u .ensures) .1) in
-    let hv : (c .before .before .before .before .before .before .before .before .before .before .before .before .before .before .before .before .before .before .plane-v .result) < axisCodes = omega (arith, (c .before .before .before .before .before .before .before .before .before .before .before .before .before .before .before .before .before .before .plane-v .ensures) .1) in
-    drawn-rows _ ((c .before .before .before .before .before .before .before .before .before .before .before .before .before .before .before .before .before .before .before .before .before .before .before .pre) .axes) _ _ _ hu hv _ ((c .before .before .before .before .before .before .before .before .before .before .before .before .before .before .before .before .before .before .before .plane-u .ensures) .0) ((c .before .before .before .before .before .before .before .before .before .before .before .before .before .before .before .before .before .before .plane-v .ensures) .0) _ _ _ (c .before .before .before .before .before .before .before .before .before .before .before .before .before .before .before .put-starts .ensures) (c .before .before .before .before .before .before .before .before .before .before .before .put-spans .ensures) _ ((c .before .before .before .before .before .before .before .before .before .before .before .before .before .before .before .before .before .before .before .before .before .before .before .pre) .some) (c .before .before .before .before .before .before .before .before .before .before .before .before .before .before .before .before .before .drawn-axes .ensures) refl ((c .before .before .before .before .before .before .before .before .before .before .before .before .before .before .before .before .before .before .before .before .before .before .before .pre) .room) (c .before .before .before .before .before .before .put-mid-rows .ensures) (c .before .before .put-last-row .ensures)
+returns c =
+    let put-mid-rows = c .before .before .before .before .before .before .put-mid-rows in
+    let put-spans = c .before .before .before .before .before .before .before .before .before .before .before .put-spans in
+    let back = c .before .before .before .before .before .before .before .before .before .before .before .before in
+    let put-starts = back .before .before .before .put-starts in
+    let drawn-axes = back .before .before .before .before .before .drawn-axes in
+    let plane-v = back .before .before .before .before .before .before .plane-v in
+    let plane-u = back .before .before .before .before .before .before .before .plane-u in
+    let pre = back .before .before .before .before .before .before .before .before .before .before .before .pre in
+    let hu : plane-u .result < axisCodes = omega (arith, plane-u .ensures .1) in
+    let hv : plane-v .result < axisCodes = omega (arith, plane-v .ensures .1) in
+    drawn-rows _ (pre .axes) _ _ _ hu hv _ (plane-u .ensures .0) (plane-v .ensures .0) _ _ _ (put-starts .ensures) (put-spans .ensures) _ (pre .some)
+    (drawn-axes .ensures) refl (pre .room) (put-mid-rows .ensures) (c .before .before .put-last-row .ensures)
 
 pub draw-spec : {M : Type 1} → statement M
 draw-spec =

@@ -7,7 +7,7 @@ use Rattle.layout.specs.Layout.{axisCodes}
 use Rattle.row_cells.specs.Row.{presentOf}
 use Rattle.row_cells.specs.Bits.{maskSum}
 use Rattle.row_cells.specs.Masks.{mask-more, mask-lt}
-use Rattle.arc_sample.specs.Draw.{drawn}
+use Rattle.arc_sample.specs.Drawn.{drawn}
 use borrow.Author.Needs.{needs}
 use Rattle.arc_sample.proofs.drawn_axes.Statement.{statement}
 use Rattle.arc_sample.proofs.drawn_axes.Tie as tie
@@ -29,7 +29,9 @@ draws-requires : tie.Need-draws-requires Inv-loop μ-loop
 draws-requires c κs = search needs
 
 mask-with-requires : tie.Need-mask-with-requires Inv-loop μ-loop
-mask-with-requires c κs = (subst (λ (n : ℕ). n < 2 ^ (c .before .before .loop .k)) (sym ((c .before .before .loop .inv) .1)) (mask-lt _ (c .before .before .loop .k)), omega arith)
+mask-with-requires c κs =
+    let at-loop = c .before .before .loop in
+    (subst (λ (n : ℕ). n < 2 ^ (at-loop .k)) (sym (at-loop .inv .1)) (mask-lt _ (at-loop .k)), omega arith)
 
 add-k : tie.Need-add-k Inv-loop μ-loop
 add-k c = search needs
@@ -38,7 +40,12 @@ loop-less : tie.Need-loop-less Inv-loop μ-loop
 loop-less c = search needs
 
 loop-again : tie.Need-loop-again Inv-loop μ-loop
-loop-again c = (omega arith, (c .mask-with .ensures) ∙ ap₂ (λ (n : ℕ) (b : Bool). n + cond b (2 ^ (c .before .before .before .loop .k)) 0) ((c .before .before .before .loop .inv) .1) (c .before .draws .ensures) ∙ sym (mask-more _ (c .before .before .before .loop .k)))
+loop-again c =
+    let at-loop = c .before .before .before .loop in (
+      omega arith,
+      (c .mask-with .ensures) ∙ ap₂ (λ (n : ℕ) (b : Bool). n + cond b (2 ^ (at-loop .k)) 0) (at-loop .inv .1) (c .before .draws .ensures)
+          ∙ sym (mask-more _ (at-loop .k)),
+    )
 
 returns : tie.Need-returns Inv-loop μ-loop
 returns c = let e : (c .before .loop .k) ≡ axisCodes = omega arith in rw e at ((c .before .loop .inv) .1)

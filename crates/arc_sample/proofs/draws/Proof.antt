@@ -1,6 +1,6 @@
 -- `arc_sample::draws` meets its contract. Assumes nothing.
 use borrow.Author.Tests.{eq-eqb, ne-eqb}
-use Rattle.arc_sample.specs.Draw.{drawn}
+use Rattle.arc_sample.specs.Drawn.{drawn}
 use borrow.Author.Needs.{needs}
 use Rattle.arc_sample.proofs.draws.Statement.{statement}
 use Rattle.arc_sample.proofs.draws.Tie as tie

@@ -1,5 +1,5 @@
 -- `arc_sample::put_last` meets its contract. Assumes nothing.
-use Rattle.arc_sample.specs.Draw.{lastWord}
+use Rattle.arc_sample.specs.Drawn.{lastWord}
 use Rattle.arc_sample.proofs.Words.{two-upto}
 use borrow.Author.Needs.{needs}
 use Rattle.arc_sample.proofs.put_last.Statement.{statement}
@@ -31,7 +31,10 @@ same-length c = search needs
 
 returns : tie.Need-returns
 unfolding lastWord
-returns c = two-upto _ (c .before .before .before .before .put-ends .ensures) ((c .before .before .before .before .before .before .before .before .pre) .1 .1 .0) ((c .before .before .before .before .before .before .before .before .pre) .1 .1 .1) (c .bits2 .ensures) (c .before .bits .ensures)
+returns c =
+    let put-ends = c .before .before .before .before .put-ends in
+    let pre = c .before .before .before .before .before .before .before .before .pre in
+    two-upto _ (put-ends .ensures) (pre .1 .1 .0) (pre .1 .1 .1) (c .bits2 .ensures) (c .before .bits .ensures)
 
 pub put-last-spec : {M : Type 1} → statement M
 put-last-spec =

@@ -1,5 +1,5 @@
 -- `arc_sample::put_last_row` meets its contract. Assumes nothing.
-use Rattle.arc_sample.specs.Draw.{lastRow}
+use Rattle.arc_sample.specs.Drawn.{lastRow}
 use borrow.Author.Needs.{needs}
 use Rattle.arc_sample.proofs.put_last_row.Statement.{statement}
 use Rattle.arc_sample.proofs.put_last_row.Tie as tie

@@ -1,5 +1,5 @@
 -- `arc_sample::put_mid_row` meets its contract. Assumes nothing.
-use Rattle.arc_sample.specs.Draw.{midRow}
+use Rattle.arc_sample.specs.Drawn.{midRow}
 use borrow.Author.Needs.{needs}
 use Rattle.arc_sample.proofs.put_mid_row.Statement.{statement}
 use Rattle.arc_sample.proofs.put_mid_row.Tie as tie
@@ -24,7 +24,10 @@ same-length c = search needs
 
 returns : tie.Need-returns
 unfolding midRow
-returns c = rw (← (c .before .before .before .before .before .before .before .before .nearest-u64-to-f64 .ensures), ← (c .before .before .before .before .before .before .put-sample .ensures)) (c .before .before .put-made .ensures)
+returns c =
+    let put-sample = c .before .before .before .before .before .before .put-sample in
+    let nearest-u64-to-f64 = c .before .before .before .before .before .before .before .before .before .nearest-u64-to-f64 in
+    rw (← (nearest-u64-to-f64 .ensures), ← (put-sample .ensures)) (c .before .before .put-made .ensures)
 
 pub put-mid-row-spec : {M : Type 1} → statement M
 put-mid-row-spec =

@@ -3,7 +3,7 @@ use mathlib.Core.Path.{ap, _∙_}
 use native.Mathlib.Omega.{arith}
 use lib.ListN.{length-set}
 use Rattle.floats.specs.Numbers.{bits}
-use Rattle.arc_sample.specs.Draw.{sampleWord}
+use Rattle.arc_sample.specs.Drawn.{sampleWord}
 use Rattle.arc_sample.proofs.Words.{two-upto}
 use borrow.Author.Needs.{needs}
 use Rattle.arc_sample.proofs.put_sample.Statement.{statement}
@@ -38,7 +38,13 @@ same-length c = search needs
 
 returns : tie.Need-returns
 unfolding sampleWord
-returns c = two-upto _ (c .before .before .before .before .before .put-ramps .ensures) ((c .before .before .before .before .before .before .before .before .before .before .pre) .onU) ((c .before .before .before .before .before .before .before .before .before .before .pre) .onV) ((c .bits2 .ensures) ∙ ap bits ((c .before .before .sample .ensures) .u)) ((c .before .bits .ensures) ∙ ap bits ((c .before .before .sample .ensures) .v))
+returns c =
+    let sample = c .before .before .sample in
+    let put-ramps = c .before .before .before .before .before .put-ramps in
+    let pre = c .before .before .before .before .before .before .before .before .before .before .pre in
+    let onU = (c .bits2 .ensures) ∙ ap bits (sample .ensures .u) in
+    let onV = (c .before .bits .ensures) ∙ ap bits (sample .ensures .v) in
+    two-upto _ (put-ramps .ensures) (pre .onU) (pre .onV) onU onV
 
 pub put-sample-spec : {M : Type 1} → statement M
 put-sample-spec =

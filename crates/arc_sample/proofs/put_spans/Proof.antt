@@ -3,7 +3,7 @@ use native.Mathlib.Omega.{arith}
 use Prim.Native.Nat.{_-_, _≤_}
 use Rattle.floats.specs.Fill.{Filling, filling-none, filling-more}
 use Rattle.layout.specs.Layout.{axisCodes}
-use Rattle.arc_sample.specs.Draw.{spanOf}
+use Rattle.arc_sample.specs.Drawn.{spanOf}
 use Rattle.arc_sample.proofs.Words.{filling-whole}
 use borrow.Author.Needs.{needs}
 use Rattle.arc_sample.proofs.put_spans.Statement.{statement}

@@ -1,7 +1,7 @@
 -- `arc_sample::start_on` meets its contract. Assumes nothing.
 use native.Mathlib.Omega.{arith}
 use Rattle.row_cells.specs.Row.{shown}
-use Rattle.arc_sample.specs.Draw.{startOf}
+use Rattle.arc_sample.specs.Drawn.{startOf}
 use borrow.Author.Needs.{needs}
 use Rattle.arc_sample.proofs.start_on.Statement.{statement}
 use Rattle.arc_sample.proofs.start_on.Tie as tie

@@ -1,3 +1,4 @@
+-- `curve_metric::chord_parameters` meets its contract. Assumes nothing.
 use mathlib.Core.Path.{_≡_, refl, _∙_}
 use Prim.Native.Nat.{_≤_, _-_, _<_, _+_, _*_}
 use native.Mathlib.Omega.{arith}
@@ -18,15 +19,21 @@ abbrev μ-loop : tie.MeasureT-loop
 μ-loop pts ch ms n out₀ t₀ at₀ k₀ out t at k = n - k
 
 -- this row and the next lie within the points
-room : (c : tie.In-loop Inv-loop μ-loop) → c .before .loop .at + c .before .before .before .before .before .args .ch + c .before .before .before .before .before .args .ch ≤ length (c .before .before .before .before .before .args .pts .now)
-room c = two-rows _ (c .before .before .before .before .before .args .n) _ _ _ (c .loop-test .taken) (c .before .before .before .before .before .pre .1 .1 .0) (c .before .loop .inv .1 .0)
+room : (c : tie.In-loop Inv-loop μ-loop) →
+    let args = c .before .before .before .before .before .args in
+    c .before .loop .at + args .ch + args .ch ≤ length (args .pts .now)
+room c =
+    let start = c .before .before .before .before .before in
+    two-rows _ (start .args .n) _ _ _ (c .loop-test .taken) (start .pre .1 .1 .0) (c .before .loop .inv .1 .0)
 
 slice-write-out : tie.Need-slice-write-out Inv-loop μ-loop
 slice-write-out c = omega arith
 
 loop-holds : tie.Need-loop-holds Inv-loop μ-loop
 unfolding chordTo
-loop-holds c = ((omega arith, simp length-set (omega arith)), (rw zero-mul, (refl, filling-first (c .before .before .before .args .out .now) (omega arith) refl)))
+loop-holds c =
+    let args = c .before .before .before .args in
+    ((omega arith, simp length-set (omega arith)), (rw zero-mul, (refl, filling-first (args .out .now) (omega arith) refl)))
 
 add-loop : tie.Need-add-loop Inv-loop μ-loop
 add-loop c = omega arith

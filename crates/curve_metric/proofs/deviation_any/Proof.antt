@@ -30,7 +30,9 @@ shared-slice-read-gap-at c = omega arith
 
 gap-at-requires : tie.Need-gap-at-requires Inv-loop μ-loop
 unfolding Below
-gap-at-requires c κs = (c .before .before .before .before .before .before .before .before .pre .0 (c .before .before .loop .k) (c .before .loop-test .taken), c .before .before .before .before .before .before .before .before .pre .1)
+gap-at-requires c κs =
+    let pre = c .before .before .before .before .before .before .before .before .pre in
+    (pre .0 (c .before .before .loop .k) (c .before .loop-test .taken), pre .1)
 
 missed-requires : tie.Need-missed-requires Inv-loop μ-loop
 missed-requires c κs = tt

@@ -25,7 +25,13 @@ missed-requires-3 : tie.Need-missed-requires-3
 missed-requires-3 c κs = search needs
 
 returns : tie.Need-returns
-returns c = rw (c .missed3 .ensures, c .before .missed2 .ensures, c .before .before .missed .ensures, c .before .before .before .foot-of .ensures, c .before .before .before .before .before .before .before .toward3 .ensures, c .before .before .before .before .before .before .before .before .toward2 .ensures, c .before .before .before .before .before .before .before .before .before .toward .ensures)
+returns c =
+    let foot-of = c .before .before .before .foot-of in
+    let toward3 = c .before .before .before .before .before .before .before .toward3 in
+    let toward2 = c .before .before .before .before .before .before .before .before .toward2 in
+    let toward = c .before .before .before .before .before .before .before .before .before .toward in
+    let missed = c .before .before .missed in
+    rw (c .missed3 .ensures, c .before .missed2 .ensures, missed .ensures, foot-of .ensures, toward3 .ensures, toward2 .ensures, toward .ensures)
 
 pub deviation-three-spec : {M : Type 1} → statement M
 deviation-three-spec =

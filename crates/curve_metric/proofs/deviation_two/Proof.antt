@@ -19,7 +19,10 @@ missed-requires-2 : tie.Need-missed-requires-2
 missed-requires-2 c κs = search needs
 
 returns : tie.Need-returns
-returns c = rw (c .missed2 .ensures, c .before .missed .ensures, c .before .before .foot-of .ensures, c .before .before .before .before .before .toward2 .ensures, c .before .before .before .before .before .before .toward .ensures)
+returns c =
+    let toward2 = c .before .before .before .before .before .toward2 in
+    let toward = c .before .before .before .before .before .before .toward in
+    rw (c .missed2 .ensures, c .before .missed .ensures, c .before .before .foot-of .ensures, toward2 .ensures, toward .ensures)
 
 pub deviation-two-spec : {M : Type 1} → statement M
 deviation-two-spec =

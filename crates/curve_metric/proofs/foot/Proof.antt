@@ -27,7 +27,9 @@ shared-slice-read-gap-at c = omega arith
 
 gap-at-requires : tie.Need-gap-at-requires Inv-loop μ-loop
 unfolding Below
-gap-at-requires c κs = (c .before .before .before .before .before .before .before .pre .0 (c .before .before .loop .k) (c .before .loop-test .taken), c .before .before .before .before .before .before .before .pre .1)
+gap-at-requires c κs =
+    let pre = c .before .before .before .before .before .before .before .pre in
+    (pre .0 (c .before .before .loop .k) (c .before .loop-test .taken), pre .1)
 
 toward-requires : tie.Need-toward-requires Inv-loop μ-loop
 toward-requires c κs = tt
@@ -40,9 +42,11 @@ loop-less c = omega arith
 
 loop-again : tie.Need-loop-again Inv-loop μ-loop
 loop-again c =
-    let inv = c .before .before .before .before .before .loop .inv in
+    let at-loop = c .before .before .before .before .before .loop in
+    let args = c .before .before .before .before .before .before .before .before .before .before .args in
+    let inv = at-loop .inv in
     let is-gap = c .before .before .gap-at .ensures in
-    (omega arith, (dot-more _ _ _ _ _ is-gap (inv .1 .0) (c .before .toward .ensures), len-gap (c .before .before .before .before .before .before .before .before .before .before .args .p .now) _ _ _ _ is-gap (inv .1 .1)))
+    (omega arith, (dot-more _ _ _ _ _ is-gap (inv .1 .0) (c .before .toward .ensures), len-gap (args .p .now) _ _ _ _ is-gap (inv .1 .1)))
 
 foot-of-requires : tie.Need-foot-of-requires Inv-loop μ-loop
 foot-of-requires c κs = tt

@@ -3,14 +3,14 @@ use borrow.Author.Needs.{needs}
 use Rattle.curve_metric.proofs.foot_of.Statement.{statement}
 use Rattle.curve_metric.proofs.foot_of.Tie as tie
 
-clamp-requires : tie.Need-clamp-requires
-clamp-requires c κs = search needs
+held-in-requires : tie.Need-held-in-requires
+held-in-requires c κs = search needs
 
 returns : tie.Need-returns
-returns c = rw (c .before .if1 .taken) (c .clamp .ensures)
+returns c = rw (c .before .if1 .taken) (c .held-in .ensures)
 
 returns-2 : tie.Need-returns-2
 returns-2 c = rw (c .if1 .left)
 
 pub foot-of-spec : {M : Type 1} → statement M
-foot-of-spec = tie.close (tie.spec clamp-requires returns returns-2)
+foot-of-spec = tie.close (tie.spec held-in-requires returns returns-2)

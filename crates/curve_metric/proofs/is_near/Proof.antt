@@ -1,3 +1,4 @@
+-- `curve_metric::is_near` meets its contract. Assumes nothing.
 use mathlib.Core.Path.{_∙_}
 use borrow.Author.Needs.{needs}
 use Rattle.curve_metric.proofs.Sums.{near-is}

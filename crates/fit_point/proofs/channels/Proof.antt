@@ -1,5 +1,5 @@
 -- `fit_point::channels` meets its contract. Assumes nothing.
-use Rattle.fit_point.proofs.Pieces.{sixteen}
+use Rattle.curve_metric.specs.Written.{written}
 use Rattle.fit_point.proofs.channels.Statement.{statement}
 use Rattle.fit_point.proofs.channels.Tie as tie
 
@@ -46,13 +46,37 @@ channel-at-requires-14 : tie.Need-channel-at-requires-14
 channel-at-requires-14 c κs = c .before .before .before .before .before .before .before .before .before .before .before .before .before .before .before .pre
 
 channel-at-requires-15 : tie.Need-channel-at-requires-15
-channel-at-requires-15 c κs = c .before .before .before .before .before .before .before .before .before .before .before .before .before .before .before .before .pre
+channel-at-requires-15 c κs =
+    let back = c .before .before .before .before .before .before .before .before .before .before .before .before in
+    let pre = back .before .before .before .before .pre in
+    pre
 
 channel-at-requires-16 : tie.Need-channel-at-requires-16
-channel-at-requires-16 c κs = c .before .before .before .before .before .before .before .before .before .before .before .before .before .before .before .before .before .pre
+channel-at-requires-16 c κs =
+    let back = c .before .before .before .before .before .before .before .before .before .before .before .before in
+    let pre = back .before .before .before .before .before .pre in
+    pre
 
 returns : tie.Need-returns
-returns c = sixteen _ (c .before .before .before .before .before .before .before .before .before .before .before .before .before .before .before .channel-at .ensures) (c .before .before .before .before .before .before .before .before .before .before .before .before .before .before .channel-at2 .ensures) (c .before .before .before .before .before .before .before .before .before .before .before .before .before .channel-at3 .ensures) (c .before .before .before .before .before .before .before .before .before .before .before .before .channel-at4 .ensures) (c .before .before .before .before .before .before .before .before .before .before .before .channel-at5 .ensures) (c .before .before .before .before .before .before .before .before .before .before .channel-at6 .ensures) (c .before .before .before .before .before .before .before .before .before .channel-at7 .ensures) (c .before .before .before .before .before .before .before .before .channel-at8 .ensures) (c .before .before .before .before .before .before .before .channel-at9 .ensures) (c .before .before .before .before .before .before .channel-at10 .ensures) (c .before .before .before .before .before .channel-at11 .ensures) (c .before .before .before .before .channel-at12 .ensures) (c .before .before .before .channel-at13 .ensures) (c .before .before .channel-at14 .ensures) (c .before .channel-at15 .ensures) (c .channel-at16 .ensures)
+returns c =
+    let e15 = c .channel-at16 .ensures in
+    let e14 = c .before .channel-at15 .ensures in
+    let e13 = c .before .before .channel-at14 .ensures in
+    let e12 = c .before .before .before .channel-at13 .ensures in
+    let e11 = c .before .before .before .before .channel-at12 .ensures in
+    let e10 = c .before .before .before .before .before .channel-at11 .ensures in
+    let e9 = c .before .before .before .before .before .before .channel-at10 .ensures in
+    let e8 = c .before .before .before .before .before .before .before .channel-at9 .ensures in
+    let half = c .before .before .before .before .before .before .before .before in
+    let e7 = half .channel-at8 .ensures in
+    let e6 = half .before .channel-at7 .ensures in
+    let e5 = half .before .before .channel-at6 .ensures in
+    let e4 = half .before .before .before .channel-at5 .ensures in
+    let e3 = half .before .before .before .before .channel-at4 .ensures in
+    let e2 = half .before .before .before .before .before .channel-at3 .ensures in
+    let e1 = half .before .before .before .before .before .before .channel-at2 .ensures in
+    let e0 = half .before .before .before .before .before .before .before .channel-at .ensures in
+    written _ e0 e1 e2 e3 e4 e5 e6 e7 e8 e9 e10 e11 e12 e13 e14 e15
 
 pub channels-spec : {M : Type 1} → statement M
 channels-spec =

@@ -10,14 +10,14 @@ piece-near-requires c κs = search needs
 step-at-requires : tie.Need-step-at-requires
 step-at-requires c κs = search needs
 
-mul-clamp : tie.Need-mul-clamp
-mul-clamp c = search needs
+mul-held-in : tie.Need-mul-held-in
+mul-held-in c = search needs
 
-shared-slice-read-clamp : tie.Need-shared-slice-read-clamp
-shared-slice-read-clamp c = search needs
+shared-slice-read-held-in : tie.Need-shared-slice-read-held-in
+shared-slice-read-held-in c = search needs
 
-clamp-requires : tie.Need-clamp-requires
-clamp-requires c κs = search needs
+held-in-requires : tie.Need-held-in-requires
+held-in-requires c κs = search needs
 
 blend-at-requires : tie.Need-blend-at-requires
 blend-at-requires c κs = search needs
@@ -26,7 +26,13 @@ channels-requires : tie.Need-channels-requires
 channels-requires c κs = search needs
 
 returns : tie.Need-returns
-returns c = fit-is _ _ _ _ _ _ (c .before .before .before .before .before .piece-near .ensures .0) (c .before .before .before .before .step-at .ensures) (c .before .before .clamp .ensures) (c .before .blend-at .ensures) (c .before .before .before .before .before .before .before .before .before .pre .narrow) (c .channels .ensures)
+returns c =
+    let step-at = c .before .before .before .before .step-at in
+    let piece-near = c .before .before .before .before .before .piece-near in
+    let pre = c .before .before .before .before .before .before .before .before .before .pre in
+    let held-in = c .before .before .held-in in
+    let blend-at = c .before .blend-at in
+    fit-is _ _ _ _ _ _ (piece-near .ensures .0) (step-at .ensures) (held-in .ensures) (blend-at .ensures) (pre .narrow) (c .channels .ensures)
 
 pub eval-fit-spec : {M : Type 1} → statement M
 eval-fit-spec =
@@ -34,9 +40,9 @@ eval-fit-spec =
     (tie.spec
     piece-near-requires
     step-at-requires
-    mul-clamp
-    shared-slice-read-clamp
-    clamp-requires
+    mul-held-in
+    shared-slice-read-held-in
+    held-in-requires
     blend-at-requires
     channels-requires
     returns)

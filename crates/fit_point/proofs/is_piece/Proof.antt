@@ -27,13 +27,19 @@ shared-slice-read-if3 : tie.Need-shared-slice-read-if3
 shared-slice-read-if3 c = search needs
 
 returns-2 : tie.Need-returns-2
-returns-2 c = λ e. piece-named _ _ _ (c .before .before .before .pre .1) _ (omega arith) (λ h. ⊎-elim (λ x. x .2 .left) (λ x. absurd (omega (arith, x .left))) (c .before .before .if1 .came)) (inr (c .if3 .taken))
+returns-2 c =
+    let pre = c .before .before .before .pre in
+    let came = c .before .before .if1 .came in
+    λ e. piece-named _ _ _ (pre .1) _ (omega arith) (λ h. ⊎-elim (λ x. x .2 .left) (λ x. absurd (omega (arith, x .left))) came) (inr (c .if3 .taken))
 
 add-result : tie.Need-add-result
 add-result c = search needs
 
 returns-3 : tie.Need-returns-3
-returns-3 c = λ e. piece-named _ _ _ (c .before .before .before .pre .1) _ (omega arith) (λ h. ⊎-elim (λ x. x .2 .left) (λ x. absurd (omega (arith, x .left))) (c .before .before .if1 .came)) (inl (eqb-true _ _ e))
+returns-3 c =
+    let pre = c .before .before .before .pre in
+    let came = c .before .before .if1 .came in
+    λ e. piece-named _ _ _ (pre .1) _ (omega arith) (λ h. ⊎-elim (λ x. x .2 .left) (λ x. absurd (omega (arith, x .left))) came) (inl (eqb-true _ _ e))
 
 pub is-piece-spec : {M : Type 1} → statement M
 is-piece-spec =

@@ -46,7 +46,7 @@ loop-less-2 : tie.Need-loop-less-2 Inv-loop μ-loop
 loop-less-2 c = search needs
 
 loop-again-2 : tie.Need-loop-again-2 Inv-loop μ-loop
-loop-again-2 c = narrowed-high _ _ _ ((c .before .before .before .before .pre .1)) _ (c .before .before .before .loop .inv) (omega arith) (c .if1 .left)
+loop-again-2 c = narrowed-high _ _ _ (c .before .before .before .before .pre .1) _ (c .before .before .before .loop .inv) (omega arith) (c .if1 .left)
 
 returns : tie.Need-returns Inv-loop μ-loop
 returns c = (narrowed-end _ _ _ (c .before .loop .inv) (omega arith), omega (arith, (c .before .loop .inv .order), (c .before .loop .inv .inside)))

@@ -1,3 +1,4 @@
+-- `floats::bits` meets its contract. Assumes nothing.
 use mathlib.Core.Path.{sym, ap, _∙_}
 use lib.Ieee.{binary64, toBits}
 use lib.Ieee.Compare.{differs-from-itself}

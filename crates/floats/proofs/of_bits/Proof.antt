@@ -1,3 +1,4 @@
+-- `floats::of_bits` meets its contract. Assumes nothing.
 use mathlib.Core.Path.{sym, _∙_}
 use Rattle.floats.proofs.Nans.{low-not, high-nan, zero-over-zero}
 use borrow.Author.Needs.{needs}

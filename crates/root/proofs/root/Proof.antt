@@ -31,7 +31,8 @@ root-bits-requires c κs = search needs
 
 float-from-bits-result : tie.Need-float-from-bits-result
 float-from-bits-result c =
-    subst (λ (b : Bool). T (not b)) (sym (nanBits-is binary64 (c .root-bits .result) ∙ ap isNan (same c) ∙ rooted (c .before .before .args .x) (c .before .if1 .taken))) tt
+    let args = c .before .before .args in
+    subst (λ (b : Bool). T (not b)) (sym (nanBits-is binary64 (c .root-bits .result) ∙ ap isNan (same c) ∙ rooted (args .x) (c .before .if1 .taken))) tt
 
 returns : tie.Need-returns
 returns c = same c

@@ -1,3 +1,4 @@
+-- `root::square` meets its contract. Assumes nothing.
 use native.Mathlib.Omega.{arith}
 use Rattle.root_guess.specs.Products.{mul-lt-pow}
 use borrow.Author.Needs.{needs}

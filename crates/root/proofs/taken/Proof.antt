@@ -1,3 +1,4 @@
+-- `root::taken` meets its contract. Assumes nothing.
 use borrow.Author.Needs.{needs}
 use borrow.Author.Tests.{eq-eqb, ne-eqb}
 use Rattle.root.proofs.taken.Statement.{statement}

@@ -29,11 +29,13 @@ add-result c = omega (arith, scaled (c .before .args .y) (c .inverse-scale .resu
 
 mul-result-2 : tie.Need-mul-result-2
 mul-result-2 c =
-    omega (arith, product (c .before .args .u) (c .before .args .y) (c .inverse-scale .result) (c .before .pre .0) (c .before .pre .1) (c .inverse-scale .ensures))
+    let start = c .before in
+    omega (arith, product (start .args .u) (start .args .y) (c .inverse-scale .result) (start .pre .0) (start .pre .1) (c .inverse-scale .ensures))
 
 returns : tie.Need-returns
 returns c =
-    omega (arith, product (c .before .args .u) (c .before .args .y) (c .inverse-scale .result) (c .before .pre .0) (c .before .pre .1) (c .inverse-scale .ensures))
+    let start = c .before in
+    omega (arith, product (start .args .u) (start .args .y) (c .inverse-scale .result) (start .pre .0) (start .pre .1) (c .inverse-scale .ensures))
 
 pub lower-spec : {M : Type 1} → statement M
 lower-spec = tie.close (tie.spec inverse-scale-requires mul-result add-result mul-result-2 returns)

@@ -8,7 +8,10 @@ use Rattle.whole.proofs.half_up_count.Statement.{statement}
 use Rattle.whole.proofs.half_up_count.Tie as tie
 
 truncating-f64-to-u64-requires : tie.Need-truncating-f64-to-u64-requires
-truncating-f64-to-u64-requires c κs = in-range (c .before .before .args .x) (c .before .if1 .taken) (narrower (c .before .before .args .x) (c .before .if1 .taken) (c .if2 .taken))
+truncating-f64-to-u64-requires c κs =
+    let if1 = c .before .if1 in
+    let args = c .before .before .args in
+    in-range (args .x) (if1 .taken) (narrower (args .x) (if1 .taken) (c .if2 .taken))
 
 nearest-u64-to-f64-requires : tie.Need-nearest-u64-to-f64-requires
 nearest-u64-to-f64-requires c κs = search needs

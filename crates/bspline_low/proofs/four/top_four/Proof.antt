@@ -1,3 +1,4 @@
+-- `bspline_low::four::top_four` meets its contract. Assumes nothing.
 use Rattle.bspline_low.proofs.Straight.{four-of}
 use borrow.Author.Needs.{needs}
 use Rattle.bspline_low.proofs.four.top_four.Statement.{statement}
@@ -16,7 +17,9 @@ mix-requires : tie.Need-mix-requires
 mix-requires c κs = search needs
 
 returns : tie.Need-returns
-returns c = four-of (c .before .before .before .before .args .s) (c .before .before .before .before .args .x .now) (c .before .before .before .before .args .i) (c .before .before .top-three .ensures) (c .before .top-three2 .ensures) (c .mix .ensures)
+returns c =
+    let args = c .before .before .before .before .args in
+    four-of (args .s) (args .x .now) (args .i) (c .before .before .top-three .ensures) (c .before .top-three2 .ensures) (c .mix .ensures)
 
 pub top-four-spec : {M : Type 1} → statement M
 top-four-spec =

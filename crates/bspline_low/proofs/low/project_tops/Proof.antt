@@ -1,3 +1,4 @@
+-- `bspline_low::low::project_tops` meets its contract. Assumes nothing.
 use mathlib.Core.Path.{_≡_, refl}
 use Prim.Native.Nat.{_≤_, _-_, _+_, _*_}
 use native.Mathlib.Omega.{arith}
@@ -31,7 +32,19 @@ loop-holds : tie.Need-loop-holds Inv-loop μ-loop
 loop-holds c = ((omega arith, (omega (arith, zero-mul (c .before .before .args .n)), refl)), filling-none)
 
 top-requires-2 : tie.Need-top-requires-2 Inv-loop μ-loop
-top-requires-2 c κs = (omega arith, (omega arith, omega (arith, source (c .before .loop .c) (c .before .before .before .before .args .ch + 1) (c .before .before .before .before .args .n) (c .before .before .before .before .args .from) (c .before .before .before .before .args .p + 1) (c .before .loop .a) _ (omega arith) ((c .before .before .before .before .pre) .1 .1) (omega arith) ((c .before .loop .inv) .0 .1 .0))))
+top-requires-2 c κs =
+    let at-loop = c .before .loop in
+    let start = c .before .before .before .before in (
+      omega arith,
+      (
+        omega arith,
+        omega (
+          arith,
+          source (at-loop .c) (start .args .ch + 1) (start .args .n) (start .args .from) (start .args .p + 1)
+              (at-loop .a) _ (omega arith) (start .pre .1 .1) (omega arith) (at-loop .inv .0 .1 .0),
+        ),
+      ),
+    )
 
 mul-r : tie.Need-mul-r Inv-loop μ-loop
 mul-r c = search needs
@@ -40,7 +53,14 @@ array-write-r : tie.Need-array-write-r Inv-loop μ-loop
 array-write-r c = search needs
 
 add-a : tie.Need-add-a Inv-loop μ-loop
-add-a c = omega (arith, source (c .before .before .loop .c + 1) (c .before .before .before .before .before .args .ch + 1) (c .before .before .before .before .before .args .n) (c .before .before .before .before .before .args .from) (c .before .before .before .before .before .args .p + 1) (c .before .before .loop .a + c .before .before .before .before .before .args .n) _ (omega arith) ((c .before .before .before .before .before .pre) .1 .1) (omega arith) (next-source _ _ _ _ ((c .before .before .loop .inv) .0 .1 .0)))
+add-a c =
+    let at-loop = c .before .before .loop in
+    let start = c .before .before .before .before .before in
+    omega (
+      arith,
+      source (at-loop .c + 1) (start .args .ch + 1) (start .args .n) (start .args .from) (start .args .p + 1) (at-loop .a + start .args .n) _
+          (omega arith) (start .pre .1 .1) (omega arith) (next-source _ _ _ _ (at-loop .inv .0 .1 .0)),
+    )
 
 add-c : tie.Need-add-c Inv-loop μ-loop
 add-c c = search needs
@@ -49,8 +69,10 @@ loop-less : tie.Need-loop-less Inv-loop μ-loop
 loop-less c = search needs
 
 loop-again : tie.Need-loop-again Inv-loop μ-loop
-loop-again c = let inv = (c .before .before .loop .inv) in
-    let f = filling-more (inv .1) (omega arith) (ratio-is (topOf (c .before .before .before .before .before .args .s) (c .before .before .before .before .before .args .p) (c .before .before .before .before .before .args .cw .now)) _ (c .top2 .ensures) (inv .0 .1 .0)) in
+loop-again c =
+    let args = c .before .before .before .before .before .args in
+    let inv = (c .before .before .loop .inv) in
+    let f = filling-more (inv .1) (omega arith) (ratio-is (topOf (args .s) (args .p) (args .cw .now)) _ (c .top2 .ensures) (inv .0 .1 .0)) in
     ((omega arith, (next-source _ _ _ _ (inv .0 .1 .0), f .same)), f)
 
 returns : tie.Need-returns Inv-loop μ-loop

@@ -1,3 +1,4 @@
+-- `bspline_low::low::share_at` meets its contract. Assumes nothing.
 use Rattle.bspline_tables.specs.Basis.{share}
 use borrow.Author.Needs.{needs}
 use Rattle.bspline_low.proofs.low.share_at.Statement.{statement}

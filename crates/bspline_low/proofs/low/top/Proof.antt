@@ -1,3 +1,4 @@
+-- `bspline_low::low::top` meets its contract. Assumes nothing.
 use mathlib.Core.Path.{sym, _∙_}
 use native.Mathlib.Omega.{arith}
 use Rattle.bspline_low.specs.LowLaws.{by-one, by-two}

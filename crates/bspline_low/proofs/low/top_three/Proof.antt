@@ -1,3 +1,4 @@
+-- `bspline_low::low::top_three` meets its contract. Assumes nothing.
 use Rattle.bspline_low.proofs.Straight.{three-of}
 use borrow.Author.Needs.{needs}
 use Rattle.bspline_low.proofs.low.top_three.Statement.{statement}
@@ -55,7 +56,13 @@ mix-requires-6 : tie.Need-mix-requires-6
 mix-requires-6 c κs = search needs
 
 returns : tie.Need-returns
-returns c = three-of (c .before .before .before .before .before .before .before .before .before .before .before .args .s) (c .before .before .before .before .before .before .before .before .before .before .before .args .x .now) (c .before .before .before .before .before .before .before .before .before .before .before .args .i) (c .before .before .before .before .before .before .before .mix .ensures) (c .before .before .before .before .before .mix2 .ensures) (c .before .before .before .before .mix3 .ensures) (c .before .before .mix4 .ensures) (c .before .mix5 .ensures) (c .mix6 .ensures)
+returns c =
+    let mix3 = c .before .before .before .before .mix3 in
+    let mix2 = c .before .before .before .before .before .mix2 in
+    let mix = c .before .before .before .before .before .before .before .mix in
+    let args = c .before .before .before .before .before .before .before .before .before .before .before .args in
+    three-of (args .s) (args .x .now) (args .i) (mix .ensures) (mix2 .ensures) (mix3 .ensures) (c .before .before .mix4 .ensures) (c .before .mix5 .ensures)
+    (c .mix6 .ensures)
 
 pub top-three-spec : {M : Type 1} → statement M
 top-three-spec =

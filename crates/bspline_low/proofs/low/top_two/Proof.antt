@@ -1,3 +1,4 @@
+-- `bspline_low::low::top_two` meets its contract. Assumes nothing.
 use borrow.Author.Needs.{needs}
 use Rattle.bspline_low.proofs.low.top_two.Statement.{statement}
 use Rattle.bspline_low.proofs.low.top_two.Tie as tie

@@ -1,3 +1,4 @@
+-- `bspline_point::boor::climb_up` meets its contract. Assumes nothing.
 use mathlib.Core.Path.{_≡_, refl}
 use Prim.Native.Nat.{_≤_, _-_}
 use native.Mathlib.Omega.{arith}
@@ -24,13 +25,18 @@ add-r : tie.Need-add-r Inv-loop μ-loop
 add-r c = search needs
 
 raise-rows-requires : tie.Need-raise-rows-requires Inv-loop μ-loop
-raise-rows-requires c κs = ((omega arith, (omega arith, (omega arith, omega arith))), ((c .before .before .before .before .before .pre) .1 .0, (omega arith, omega (arith, (c .before .before .loop .inv) .1 .same))))
+raise-rows-requires c κs =
+    let pre = c .before .before .before .before .before .pre in
+    ((omega arith, (omega arith, (omega arith, omega arith))), (pre .1 .0, (omega arith, omega (arith, (c .before .before .loop .inv) .1 .same))))
 
 loop-less : tie.Need-loop-less Inv-loop μ-loop
 loop-less c = search needs
 
 loop-again : tie.Need-loop-again Inv-loop μ-loop
-loop-again c = (omega arith, climbed-more _ _ _ _ _ _ (add-one _) refl (c .before .before .before .before .loop-test .taken) ((c .before .before .before .before .before .loop .inv) .1) (c .before .before .raise-rows .ensures))
+loop-again c =
+    let loop-test = c .before .before .before .before .loop-test in
+    let at-loop = c .before .before .before .before .before .loop in
+    (omega arith, climbed-more _ _ _ _ _ _ (add-one _) refl (loop-test .taken) (at-loop .inv .1) (c .before .before .raise-rows .ensures))
 
 same-length : tie.Need-same-length Inv-loop μ-loop
 same-length c = (c .before .loop .inv) .1 .same

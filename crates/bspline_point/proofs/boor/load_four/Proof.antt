@@ -1,3 +1,4 @@
+-- `bspline_point::boor::load_four` meets its contract. Assumes nothing.
 use mathlib.Core.Path.{_≡_, ap, _∙_}
 use Prim.Native.Nat.{ℕ, _+_, _*_, min}
 use native.Mathlib.Omega.{arith}
@@ -67,9 +68,13 @@ same-length : tie.Need-same-length
 same-length c = search needs
 
 returns : tie.Need-returns
-returns c = let at-channel : ℕ → Float = λ (z : ℕ). at (c .before .before .before .before .before .before .args .cw .now) (min z (c .before .before .before .before .before .before .args .ch) * c .before .before .before .before .before .before .args .n + c .before .before .before .before .before .before .args .s) in
-    let z : c .before .before .before .before .before .before .args .c ≡ c .before .before .before .before .before .before .args .c + 0 = omega arith in
-    four-put (λ (j : ℕ). at-channel (c .before .before .before .before .before .before .args .c + j)) (c .before .before .before .before .before .before .args .d .now) (c .before .before .before .before .before .before .args .i) (omega arith) (c .before .before .before .number-of .ensures ∙ ap at-channel z) (c .before .before .number-of2 .ensures) (c .before .number-of3 .ensures) (c .number-of4 .ensures)
+returns c =
+    let number-of = c .before .before .before .number-of in
+    let args = c .before .before .before .before .before .before .args in
+    let at-channel : ℕ → Float = λ (z : ℕ). at (args .cw .now) (min z (args .ch) * args .n + args .s) in
+    let z : args .c ≡ args .c + 0 = omega arith in
+    four-put (λ (j : ℕ). at-channel (args .c + j)) (args .d .now) (args .i) (omega arith) (number-of .ensures ∙ ap at-channel z)
+    (c .before .before .number-of2 .ensures) (c .before .number-of3 .ensures) (c .number-of4 .ensures)
 
 pub load-four-spec : {M : Type 1} → statement M
 load-four-spec =

@@ -1,3 +1,4 @@
+-- `bspline_point::boor::load_rows` meets its contract. Assumes nothing.
 use mathlib.Core.Path.{_≡_, refl, _∙_}
 use Prim.Native.Nat.{_≤_, _-_, _+_, _*_}
 use native.Mathlib.Omega.{arith}
@@ -26,10 +27,21 @@ sub-load-row : tie.Need-sub-load-row Inv-loop μ-loop
 sub-load-row c = search needs
 
 load-row-requires : tie.Need-load-row-requires Inv-loop μ-loop
-load-row-requires c κs = (((c .before .before .before .before .before .pre) .0 .0, omega arith), ((c .before .before .before .before .before .pre) .1 .0 .0, (omega (arith, within (c .before .before .loop .h) (c .before .before .before .before .before .args .p + 1) (c .before .before .before .before .before .args .wide) (c .before .before .loop .i) _ (omega arith) ((c .before .before .before .before .before .pre) .1 .1) ((c .before .before .loop .inv) .0 .1 .0)))))
+load-row-requires c κs =
+    let at-loop = c .before .before .loop in
+    let start = c .before .before .before .before .before in (
+      (start .pre .0 .0, omega arith),
+      (
+        start .pre .1 .0 .0,
+        (omega (arith, within (at-loop .h) (start .args .p + 1) (start .args .wide) (at-loop .i) _ (omega arith) (start .pre .1 .1) (at-loop .inv .0 .1 .0))),
+      ),
+    )
 
 add-i : tie.Need-add-i Inv-loop μ-loop
-add-i c = omega (arith, within (c .before .before .before .before .before .loop .h) (c .before .before .before .before .before .before .before .before .args .p + 1) (c .before .before .before .before .before .before .before .before .args .wide) (c .before .before .before .before .before .loop .i) _ (omega arith) ((c .before .before .before .before .before .before .before .before .pre) .1 .1) ((c .before .before .before .before .before .loop .inv) .0 .1 .0))
+add-i c =
+    let at-loop = c .before .before .before .before .before .loop in
+    let start = c .before .before .before .before .before .before .before .before in
+    omega (arith, within (at-loop .h) (start .args .p + 1) (start .args .wide) (at-loop .i) _ (omega arith) (start .pre .1 .1) (at-loop .inv .0 .1 .0))
 
 add-h : tie.Need-add-h Inv-loop μ-loop
 add-h c = search needs
@@ -38,9 +50,12 @@ loop-less : tie.Need-loop-less Inv-loop μ-loop
 loop-less c = search needs
 
 loop-again : tie.Need-loop-again Inv-loop μ-loop
-loop-again c = let inv = (c .before .before .before .before .before .loop .inv) in
+loop-again c =
+    let at-loop = c .before .before .before .before .before .loop in
+    let pre = c .before .before .before .before .before .before .before .before .pre in
+    let inv = (at-loop .inv) in
     let put = (c .before .before .load-row .ensures) in
-    ((omega arith, (next-row _ _ _ (inv .0 .1 .0), put .same ∙ inv .0 .1 .1)), loaded-more (inv .1) (inv .0 .1 .0) ((c .before .before .before .before .before .before .before .before .pre) .1 .0 .1) put)
+    ((omega arith, (next-row _ _ _ (inv .0 .1 .0), put .same ∙ inv .0 .1 .1)), loaded-more (inv .1) (inv .0 .1 .0) (pre .1 .0 .1) put)
 
 same-length : tie.Need-same-length Inv-loop μ-loop
 same-length c = (c .before .loop .inv) .0 .1 .1

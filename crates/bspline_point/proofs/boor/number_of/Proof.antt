@@ -1,3 +1,4 @@
+-- `bspline_point::boor::number_of` meets its contract. Assumes nothing.
 use mathlib.Core.Path.{refl, ap}
 use Prim.Native.Nat.{ℕ, _+_, _*_}
 use native.Mathlib.Omega.{arith}
@@ -11,19 +12,46 @@ held-requires : tie.Need-held-requires
 held-requires c κs = search needs
 
 mul-result : tie.Need-mul-result
-mul-result c = omega (arith, source (c .held .result) (c .before .before .args .ch + 1) (c .before .before .args .n) (c .before .before .args .s) 1 _ _ (omega (arith, c .held .ensures)) ((c .before .before .pre) .0) (omega arith) refl)
+mul-result c =
+    let start = c .before .before in
+    omega (
+      arith,
+      source (c .held .result) (start .args .ch + 1) (start .args .n) (start .args .s) 1 _ _ (omega (arith, c .held .ensures)) (start .pre .0)
+          (omega arith) refl,
+    )
 
 add-result : tie.Need-add-result
-add-result c = omega (arith, source (c .held .result) (c .before .before .args .ch + 1) (c .before .before .args .n) (c .before .before .args .s) 1 _ _ (omega (arith, c .held .ensures)) ((c .before .before .pre) .0) (omega arith) refl)
+add-result c =
+    let start = c .before .before in
+    omega (
+      arith,
+      source (c .held .result) (start .args .ch + 1) (start .args .n) (start .args .s) 1 _ _ (omega (arith, c .held .ensures)) (start .pre .0)
+          (omega arith) refl,
+    )
 
 mul-result-2 : tie.Need-mul-result-2
-mul-result-2 c = omega (arith, source (c .held .result) (c .before .before .args .ch + 1) (c .before .before .args .n) (c .before .before .args .s) 1 _ _ (omega (arith, c .held .ensures)) ((c .before .before .pre) .0) (omega arith) refl)
+mul-result-2 c =
+    let start = c .before .before in
+    omega (
+      arith,
+      source (c .held .result) (start .args .ch + 1) (start .args .n) (start .args .s) 1 _ _ (omega (arith, c .held .ensures)) (start .pre .0)
+          (omega arith) refl,
+    )
 
 shared-slice-read-result : tie.Need-shared-slice-read-result
-shared-slice-read-result c = omega (arith, source (c .before .held .result) (c .before .before .before .args .ch + 1) (c .before .before .before .args .n) (c .before .before .before .args .s) 1 _ _ (omega (arith, c .before .held .ensures)) ((c .before .before .before .pre) .0) (omega arith) refl)
+shared-slice-read-result c =
+    let held = c .before .held in
+    let start = c .before .before .before in
+    omega (
+      arith,
+      source (held .result) (start .args .ch + 1) (start .args .n) (start .args .s) 1 _ _ (omega (arith, held .ensures)) (start .pre .0)
+          (omega arith) refl,
+    )
 
 returns : tie.Need-returns
-returns c = ap (λ (z : ℕ). at (c .before .before .before .args .cw .now) (z * c .before .before .before .args .n + c .before .before .before .args .s)) (c .before .held .ensures)
+returns c =
+    let args = c .before .before .before .args in
+    ap (λ (z : ℕ). at (args .cw .now) (z * args .n + args .s)) (c .before .held .ensures)
 
 pub number-of-spec : {M : Type 1} → statement M
 number-of-spec =

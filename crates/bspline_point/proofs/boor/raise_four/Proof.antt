@@ -1,3 +1,4 @@
+-- `bspline_point::boor::raise_four` meets its contract. Assumes nothing.
 use mathlib.Core.Path.{refl}
 use native.Mathlib.Omega.{arith}
 use lib.ListN.{length-set}
@@ -112,7 +113,9 @@ same-length : tie.Need-same-length
 same-length c = search needs
 
 returns : tie.Need-returns
-returns c = four-raised (c .before .before .before .before .before .before .before .before .args .d .now) (c .before .before .before .before .before .before .before .before .args .i) (c .before .before .before .before .before .before .before .before .args .wide) (c .before .before .before .before .before .before .before .before .args .share) (c .before .before .before .before .before .before .before .before .pre) refl refl refl refl
+returns c =
+    let start = c .before .before .before .before .before .before .before .before in
+    four-raised (start .args .d .now) (start .args .i) (start .args .wide) (start .args .share) (start .pre) refl refl refl refl
 
 pub raise-four-spec : {M : Type 1} → statement M
 raise-four-spec =

@@ -1,3 +1,4 @@
+-- `bspline_point::boor::raise_row` meets its contract. Assumes nothing.
 use mathlib.Core.Path.{refl}
 use native.Mathlib.Omega.{arith}
 use Rattle.bspline_point.proofs.Climbing.{raised-join, raised-end}
@@ -12,7 +13,10 @@ same-length : tie.Need-same-length
 same-length c = search needs
 
 returns : tie.Need-returns
-returns c = raised-end (omega (arith, (c .before .before .before .before .before .before .pre) .0 .some, (c .before .before .before .before .before .before .pre) .0 .one (c .if1 .taken))) (c .before .before .before .raise-four .ensures)
+returns c =
+    let raise-four = c .before .before .before .raise-four in
+    let pre = c .before .before .before .before .before .before .pre in
+    raised-end (omega (arith, pre .0 .some, pre .0 .one (c .if1 .taken))) (raise-four .ensures)
 
 add-raise-four : tie.Need-add-raise-four
 add-raise-four c = search needs
@@ -24,7 +28,12 @@ same-length-2 : tie.Need-same-length-2
 same-length-2 c = search needs
 
 returns-2 : tie.Need-returns-2
-returns-2 c = raised-end (omega (arith, c .before .before .before .before .before .if1 .left, (c .before .before .before .before .before .before .before .before .before .before .before .pre) .0 .two (c .if2 .taken))) (raised-join (c .before .before .before .before .before .before .before .before .raise-four .ensures) refl (c .before .before .before .raise-four2 .ensures))
+returns-2 c =
+    let raise-four2 = c .before .before .before .raise-four2 in
+    let if1 = c .before .before .before .before .before .if1 in
+    let raise-four = c .before .before .before .before .before .before .before .before .raise-four in
+    let pre = c .before .before .before .before .before .before .before .before .before .before .before .pre in
+    raised-end (omega (arith, if1 .left, pre .0 .two (c .if2 .taken))) (raised-join (raise-four .ensures) refl (raise-four2 .ensures))
 
 add-raise-four-2 : tie.Need-add-raise-four-2
 add-raise-four-2 c = search needs
@@ -36,7 +45,13 @@ same-length-3 : tie.Need-same-length-3
 same-length-3 c = search needs
 
 returns-3 : tie.Need-returns-3
-returns-3 c = raised-end (omega (arith, c .before .before .before .before .if2 .left, (c .before .before .before .before .before .before .before .before .before .before .before .before .before .before .before .pre) .0 .few)) (raised-join (raised-join (c .before .before .before .before .before .before .before .before .before .before .before .before .raise-four .ensures) refl (c .before .before .before .before .before .before .before .raise-four2 .ensures)) refl (c .before .before .raise-four3 .ensures))
+returns-3 c =
+    let if2 = c .before .before .before .before .if2 in
+    let raise-four2 = c .before .before .before .before .before .before .before .raise-four2 in
+    let raise-four = c .before .before .before .before .before .before .before .before .before .before .before .before .raise-four in
+    let pre = c .before .before .before .before .before .before .before .before .before .before .before .before .before .before .before .pre in
+    raised-end (omega (arith, if2 .left, pre .0 .few))
+    (raised-join (raised-join (raise-four .ensures) refl (raise-four2 .ensures)) refl (c .before .before .raise-four3 .ensures))
 
 pub raise-row-spec : {M : Type 1} → statement M
 raise-row-spec =

@@ -1,3 +1,4 @@
+-- `bspline_point::boor::raise_rows` meets its contract. Assumes nothing.
 use mathlib.Core.Path.{_≡_}
 use Prim.Native.Nat.{_≤_, _-_, _+_, _*_}
 use native.Mathlib.Omega.{arith}
@@ -26,10 +27,27 @@ share-at-requires : tie.Need-share-at-requires Inv-loop μ-loop
 share-at-requires c κs = search needs
 
 raise-row-requires : tie.Need-raise-row-requires Inv-loop μ-loop
-raise-row-requires c κs = ((c .before .before .before .before .before .before .pre) .1 .0, omega (arith, (c .before .before .before .loop .inv) .1 .same, within (c .before .before .before .loop .h + 1) (c .before .before .before .before .before .before .args .p + 1) (c .before .before .before .before .before .before .args .wide) (c .before .before .before .loop .i + c .before .before .before .before .before .before .args .wide) _ (omega arith) ((c .before .before .before .before .before .before .pre) .1 .1 .1) (next-row _ _ _ ((c .before .before .before .loop .inv) .0 .1))))
+raise-row-requires c κs =
+    let at-loop = c .before .before .before .loop in
+    let start = c .before .before .before .before .before .before in (
+      start .pre .1 .0,
+      omega (
+        arith,
+        at-loop .inv .1 .same,
+        within (at-loop .h + 1) (start .args .p + 1) (start .args .wide) (at-loop .i + start .args .wide) _ (omega arith) (start .pre .1 .1 .1)
+            (next-row _ _ _ (at-loop .inv .0 .1)),
+      ),
+    )
 
 add-i : tie.Need-add-i Inv-loop μ-loop
-add-i c = omega (arith, within (c .before .before .before .before .before .before .loop .h + 1) (c .before .before .before .before .before .before .before .before .before .args .p + 1) (c .before .before .before .before .before .before .before .before .before .args .wide) (c .before .before .before .before .before .before .loop .i + c .before .before .before .before .before .before .before .before .before .args .wide) _ (omega arith) ((c .before .before .before .before .before .before .before .before .before .pre) .1 .1 .1) (next-row _ _ _ ((c .before .before .before .before .before .before .loop .inv) .0 .1)))
+add-i c =
+    let at-loop = c .before .before .before .before .before .before .loop in
+    let start = c .before .before .before .before .before .before .before .before .before in
+    omega (
+      arith,
+      within (at-loop .h + 1) (start .args .p + 1) (start .args .wide) (at-loop .i + start .args .wide) _ (omega arith) (start .pre .1 .1 .1)
+          (next-row _ _ _ (at-loop .inv .0 .1)),
+    )
 
 add-h : tie.Need-add-h Inv-loop μ-loop
 add-h c = search needs
@@ -38,8 +56,11 @@ loop-less : tie.Need-loop-less Inv-loop μ-loop
 loop-less c = search needs
 
 loop-again : tie.Need-loop-again Inv-loop μ-loop
-loop-again c = let inv = (c .before .before .before .before .before .before .loop .inv) in
-    ((omega arith, next-row _ _ _ (inv .0 .1)), level-more (inv .1) (inv .0 .1) (c .before .before .before .share-at .ensures) (c .before .before .raise-row .ensures))
+loop-again c =
+    let share-at = c .before .before .before .share-at in
+    let at-loop = c .before .before .before .before .before .before .loop in
+    let inv = (at-loop .inv) in
+    ((omega arith, next-row _ _ _ (inv .0 .1)), level-more (inv .1) (inv .0 .1) (share-at .ensures) (c .before .before .raise-row .ensures))
 
 same-length : tie.Need-same-length Inv-loop μ-loop
 same-length c = (c .before .loop .inv) .1 .same

@@ -1,3 +1,4 @@
+-- `bspline_point::point::eval_high` meets its contract. Assumes nothing.
 use native.Mathlib.Omega.{arith}
 use Rattle.bspline_point.proofs.Climbing.{cells-in}
 use borrow.Author.Needs.{needs}
@@ -11,7 +12,9 @@ add-cells : tie.Need-add-cells
 add-cells c = search needs
 
 mul-cells : tie.Need-mul-cells
-mul-cells c = omega (arith, cells-in (c .before .before .before .args .p) (c .row-width .result) (omega (arith, (c .before .before .before .pre) .under, (c .before .before .before .pre) .few)) (c .row-width .ensures .0 .few))
+mul-cells c =
+    let start = c .before .before .before in
+    omega (arith, cells-in (start .args .p) (c .row-width .result) (omega (arith, start .pre .under, start .pre .few)) (c .row-width .ensures .0 .few))
 
 eval-few-requires : tie.Need-eval-few-requires
 eval-few-requires c κs = search needs

@@ -1,3 +1,4 @@
+-- `bspline_point::point::eval_low` meets its contract. Assumes nothing.
 use native.Mathlib.Omega.{arith}
 use Rattle.bspline_point.proofs.Straight.{low-is, low-three, low-four}
 use borrow.Author.Needs.{needs}
@@ -10,8 +11,8 @@ mul-hi c = search needs
 shared-slice-read-hi : tie.Need-shared-slice-read-hi
 shared-slice-read-hi c = search needs
 
-hold-requires : tie.Need-hold-requires
-hold-requires c κs = search needs
+held-in-requires : tie.Need-held-in-requires
+held-in-requires c κs = search needs
 
 span-of-requires : tie.Need-span-of-requires
 span-of-requires c κs = search needs
@@ -26,7 +27,12 @@ project-four-requires : tie.Need-project-four-requires
 project-four-requires c κs = search needs
 
 returns : tie.Need-returns
-returns c = low-four _ _ _ _ _ _ _ ((c .before .before .before .before .before .before .before .before .pre) .0) (omega arith) (c .before .before .before .before .hold .ensures) ((c .before .before .before .span-of .ensures) .0) ((c .before .before .before .span-of .ensures) .1 .0) ((c .before .before .before .span-of .ensures) .1 .1) (c .before .fourth-in .ensures) (c .project-four .ensures)
+returns c =
+    let span-of = c .before .before .before .span-of in
+    let held-in = c .before .before .before .before .held-in in
+    let pre = c .before .before .before .before .before .before .before .before .pre in
+    low-four _ _ _ _ _ _ _ (pre .0) (omega arith) (held-in .ensures) (span-of .ensures .0) (span-of .ensures .1 .0) (span-of .ensures .1 .1)
+    (c .before .fourth-in .ensures) (c .project-four .ensures)
 
 shares-in-requires : tie.Need-shares-in-requires
 shares-in-requires c κs = search needs
@@ -38,7 +44,12 @@ project-three-requires : tie.Need-project-three-requires
 project-three-requires c κs = search needs
 
 returns-2 : tie.Need-returns-2
-returns-2 c = low-three _ _ _ _ _ _ _ ((c .before .before .before .before .before .before .before .before .before .pre) .0) (omega arith) (c .before .before .before .before .before .hold .ensures) ((c .before .before .before .before .span-of .ensures) .0) ((c .before .before .before .before .span-of .ensures) .1 .0) ((c .before .before .before .before .span-of .ensures) .1 .1) (c .before .before .shares-in .ensures) (c .project-three .ensures)
+returns-2 c =
+    let span-of = c .before .before .before .before .span-of in
+    let held-in = c .before .before .before .before .before .held-in in
+    let pre = c .before .before .before .before .before .before .before .before .before .pre in
+    low-three _ _ _ _ _ _ _ (pre .0) (omega arith) (held-in .ensures) (span-of .ensures .0) (span-of .ensures .1 .0) (span-of .ensures .1 .1)
+    (c .before .before .shares-in .ensures) (c .project-three .ensures)
 
 sub-project-tops : tie.Need-sub-project-tops
 sub-project-tops c = search needs
@@ -47,7 +58,12 @@ project-tops-requires : tie.Need-project-tops-requires
 project-tops-requires c κs = search needs
 
 returns-3 : tie.Need-returns-3
-returns-3 c = low-is _ _ _ _ _ _ _ ((c .before .before .before .before .before .before .before .before .before .pre) .0) (omega arith) (c .before .before .before .before .before .hold .ensures) ((c .before .before .before .before .span-of .ensures) .0) ((c .before .before .before .before .span-of .ensures) .1 .0) ((c .before .before .before .before .span-of .ensures) .1 .1) (c .before .before .shares-in .ensures) (c .project-tops .ensures)
+returns-3 c =
+    let span-of = c .before .before .before .before .span-of in
+    let held-in = c .before .before .before .before .before .held-in in
+    let pre = c .before .before .before .before .before .before .before .before .before .pre in
+    low-is _ _ _ _ _ _ _ (pre .0) (omega arith) (held-in .ensures) (span-of .ensures .0) (span-of .ensures .1 .0) (span-of .ensures .1 .1)
+    (c .before .before .shares-in .ensures) (c .project-tops .ensures)
 
 pub eval-low-spec : {M : Type 1} → statement M
 eval-low-spec =
@@ -55,7 +71,7 @@ eval-low-spec =
     (tie.spec
     mul-hi
     shared-slice-read-hi
-    hold-requires
+    held-in-requires
     span-of-requires
     fourth-in-requires
     sub-project-four

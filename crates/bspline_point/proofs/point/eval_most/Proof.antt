@@ -1,3 +1,4 @@
+-- `bspline_point::point::eval_most` meets its contract. Assumes nothing.
 use native.Mathlib.Omega.{arith}
 use Rattle.bspline_point.proofs.Climbing.{cells-in}
 use borrow.Author.Needs.{needs}
@@ -8,7 +9,9 @@ slice-aggregate-eval-in : tie.Need-slice-aggregate-eval-in
 slice-aggregate-eval-in c = search needs
 
 eval-in-requires : tie.Need-eval-in-requires
-eval-in-requires c κs = ((c .before .before .before .pre) .0, ((c .before .before .before .pre) .1, cells-in _ _ (omega (arith, (c .before .before .before .pre) .0 .under, (c .before .before .before .pre) .0 .few)) ((c .before .before .before .pre) .1 .0 .few)))
+eval-in-requires c κs =
+    let pre = c .before .before .before .pre in
+    (pre .0, (pre .1, cells-in _ _ (omega (arith, pre .0 .under, pre .0 .few)) (pre .1 .0 .few)))
 
 returns : tie.Need-returns
 returns c = search needs

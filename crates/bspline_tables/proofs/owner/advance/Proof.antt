@@ -1,3 +1,4 @@
+-- `bspline_tables::owner::advance` meets its contract. Assumes nothing.
 use mathlib.Core.Path.{_≡_, refl, sym, _∙_}
 use Prim.Native.Nat.{_≤_, _-_}
 use native.Mathlib.Omega.{arith}
@@ -27,10 +28,14 @@ loop-less : tie.Need-loop-less Inv-loop μ-loop
 loop-less c = search needs
 
 loop-again : tie.Need-loop-again Inv-loop μ-loop
-loop-again c = (omega arith, (c .before .before .before .loop .inv) .1 ∙ advance-on _ _ _ _ _ (c .before .greville .ensures) (c .before .before .loop-test .taken) (c .if1 .taken))
+loop-again c =
+    let at-loop = c .before .before .before .loop in
+    (omega arith, at-loop .inv .1 ∙ advance-on _ _ _ _ _ (c .before .greville .ensures) (c .before .before .loop-test .taken) (c .if1 .taken))
 
 returns : tie.Need-returns Inv-loop μ-loop
-returns c = sym ((c .before .before .before .loop .inv) .1 ∙ advance-here _ _ _ _ _ (c .before .greville .ensures) (c .before .before .loop-test .taken) (c .if1 .left))
+returns c =
+    let at-loop = c .before .before .before .loop in
+    sym (at-loop .inv .1 ∙ advance-here _ _ _ _ _ (c .before .greville .ensures) (c .before .before .loop-test .taken) (c .if1 .left))
 
 returns-2 : tie.Need-returns-2 Inv-loop μ-loop
 returns-2 c = sym ((c .before .loop .inv) .1 ∙ advance-end _ _ _ _ _ (omega arith))

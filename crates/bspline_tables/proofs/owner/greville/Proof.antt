@@ -1,3 +1,4 @@
+-- `bspline_tables::owner::greville` meets its contract. Assumes nothing.
 use native.Mathlib.Omega.{arith}
 use Rattle.bspline_tables.specs.Tables.{grevilleAt}
 use Rattle.bspline_tables.proofs.Steps.{whole-in}

@@ -1,3 +1,4 @@
+-- `bspline_tables::owner::sum_knots` meets its contract. Assumes nothing.
 use mathlib.Core.Path.{_≡_, ap, _∙_}
 use Prim.Native.Nat.{_≤_, _-_}
 use native.Mathlib.Omega.{arith}
@@ -38,7 +39,10 @@ loop-again : tie.Need-loop-again Inv-loop μ-loop
 loop-again c = (omega arith, sum-more _ _ _ ((c .before .before .loop .inv) .1))
 
 returns : tie.Need-returns Inv-loop μ-loop
-returns c = let e : (c .before .loop .k) ≡ (c .before .before .args .p) = omega arith in (c .before .loop .inv) .1 ∙ ap (knotSum (c .before .before .args .ks .now) (c .before .before .args .i)) e
+returns c =
+    let at-loop = c .before .loop in
+    let args = c .before .before .args in
+    let e : (at-loop .k) ≡ (args .p) = omega arith in at-loop .inv .1 ∙ ap (knotSum (args .ks .now) (args .i)) e
 
 pub sum-knots-spec : {M : Type 1} → statement M
 sum-knots-spec =

@@ -1,3 +1,4 @@
+-- `bspline_tables::tables::channel` meets its contract. Assumes nothing.
 use mathlib.Core.Path.{_≡_, refl}
 use Prim.Native.Nat.{_≤_, _-_, _+_, _*_}
 use native.Mathlib.Omega.{arith}
@@ -20,10 +21,16 @@ loop-holds : tie.Need-loop-holds Inv-loop μ-loop
 loop-holds c = ((omega arith, (rw zero-mul (omega arith), refl)), filling-none)
 
 mul-out : tie.Need-mul-out Inv-loop μ-loop
-mul-out c = omega (arith, cell-in _ _ _ _ _ _ (c .loop-test .taken) ((c .before .loop .inv) .0 .1 .1) ((c .before .before .pre) .0 .0) ((c .before .before .pre) .1 .0) ((c .before .loop .inv) .0 .1 .0))
+mul-out c =
+    let at-loop = c .before .loop in
+    let pre = c .before .before .pre in
+    omega (arith, cell-in _ _ _ _ _ _ (c .loop-test .taken) (at-loop .inv .0 .1 .1) (pre .0 .0) (pre .1 .0) (at-loop .inv .0 .1 .0))
 
 shared-slice-read-out : tie.Need-shared-slice-read-out Inv-loop μ-loop
-shared-slice-read-out c = omega (arith, cell-in _ _ _ _ _ _ (c .before .loop-test .taken) ((c .before .before .loop .inv) .0 .1 .1) ((c .before .before .before .pre) .0 .0) ((c .before .before .before .pre) .1 .0) ((c .before .before .loop .inv) .0 .1 .0))
+shared-slice-read-out c =
+    let at-loop = c .before .before .loop in
+    let pre = c .before .before .before .pre in
+    omega (arith, cell-in _ _ _ _ _ _ (c .before .loop-test .taken) (at-loop .inv .0 .1 .1) (pre .0 .0) (pre .1 .0) (at-loop .inv .0 .1 .0))
 
 mul-out-2 : tie.Need-mul-out-2 Inv-loop μ-loop
 mul-out-2 c = search needs
@@ -38,7 +45,10 @@ slice-write-out : tie.Need-slice-write-out Inv-loop μ-loop
 slice-write-out c = search needs
 
 add-x : tie.Need-add-x Inv-loop μ-loop
-add-x c = omega (arith, cell-in _ _ _ _ _ _ (c .before .before .loop-test .taken) ((c .before .before .before .loop .inv) .0 .1 .1) ((c .before .before .before .before .pre) .0 .0) ((c .before .before .before .before .pre) .1 .0) ((c .before .before .before .loop .inv) .0 .1 .0))
+add-x c =
+    let at-loop = c .before .before .before .loop in
+    let pre = c .before .before .before .before .pre in
+    omega (arith, cell-in _ _ _ _ _ _ (c .before .before .loop-test .taken) (at-loop .inv .0 .1 .1) (pre .0 .0) (pre .1 .0) (at-loop .inv .0 .1 .0))
 
 add-i : tie.Need-add-i Inv-loop μ-loop
 add-i c = search needs

@@ -1,3 +1,4 @@
+-- `bspline_tables::tables::degree_of` meets its contract. Assumes nothing.
 use native.Mathlib.Omega.{arith}
 use Rattle.bspline_tables.specs.Basis.{degreeOf}
 use borrow.Author.Needs.{needs}

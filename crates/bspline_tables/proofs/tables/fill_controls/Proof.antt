@@ -1,3 +1,4 @@
+-- `bspline_tables::tables::fill_controls` meets its contract. Assumes nothing.
 use mathlib.Core.Path.{_≡_, sym, ap, _∙_}
 use Prim.Native.Nat.{_≤_, _-_, _+_, _*_}
 use native.Mathlib.Omega.{arith}
@@ -23,10 +24,14 @@ loop-holds : tie.Need-loop-holds Inv-loop μ-loop
 loop-holds c = ((omega arith, rw zero-mul), rowing-none)
 
 add-e : tie.Need-add-e Inv-loop μ-loop
-add-e c = omega (arith, within _ _ _ _ _ (lift1 (c .loop-test .taken)) ((c .before .before .before .before .before .pre) .1 .1 .1) ((c .before .loop .inv) .0 .1))
+add-e c =
+    let pre = c .before .before .before .before .before .pre in
+    omega (arith, within _ _ _ _ _ (lift1 (c .loop-test .taken)) (pre .1 .1 .1) ((c .before .loop .inv) .0 .1))
 
 mul-channel : tie.Need-mul-channel Inv-loop μ-loop
-mul-channel c = omega (arith, within _ _ _ _ _ (lift1 (c .loop-test .taken)) ((c .before .before .before .before .before .pre) .1 .1 .1) ((c .before .loop .inv) .0 .1))
+mul-channel c =
+    let pre = c .before .before .before .before .before .pre in
+    omega (arith, within _ _ _ _ _ (lift1 (c .loop-test .taken)) (pre .1 .1 .1) ((c .before .loop .inv) .0 .1))
 
 sub-channel : tie.Need-sub-channel Inv-loop μ-loop
 sub-channel c = search needs
@@ -35,10 +40,17 @@ part-channel-start : tie.Need-part-channel-start Inv-loop μ-loop
 part-channel-start c = search needs
 
 part-channel-end : tie.Need-part-channel-end Inv-loop μ-loop
-part-channel-end c = omega (arith, (c .before .loop .inv) .1 .same, within _ _ _ _ _ (lift1 (c .loop-test .taken)) ((c .before .before .before .before .before .pre) .1 .1 .1) ((c .before .loop .inv) .0 .1))
+part-channel-end c =
+    let at-loop = c .before .loop in
+    let pre = c .before .before .before .before .before .pre in
+    omega (arith, at-loop .inv .1 .same, within _ _ _ _ _ (lift1 (c .loop-test .taken)) (pre .1 .1 .1) (at-loop .inv .0 .1))
 
 channel-requires : tie.Need-channel-requires Inv-loop μ-loop
-channel-requires c κs = let s = part-length ((c .before .before .loop .inv) .1) (lift1 (c .before .loop-test .taken)) ((c .before .before .before .before .before .before .pre) .1 .1 .1) ((c .before .before .loop .inv) .0 .1) in (omega arith, (rw s ((c .before .before .before .before .before .before .pre) .1 .0), (rw s ((c .before .before .before .before .before .before .pre) .1 .1 .0), rw s ((c .before .before .before .before .before .before .pre) .0 .1))))
+channel-requires c κs =
+    let at-loop = c .before .before .loop in
+    let pre = c .before .before .before .before .before .before .pre in
+    let s = part-length (at-loop .inv .1) (lift1 (c .before .loop-test .taken)) (pre .1 .1 .1) (at-loop .inv .0 .1) in
+    (omega arith, (rw s (pre .1 .0), (rw s (pre .1 .1 .0), rw s (pre .0 .1))))
 
 add-c : tie.Need-add-c Inv-loop μ-loop
 add-c c = search needs
@@ -47,17 +59,31 @@ loop-less : tie.Need-loop-less Inv-loop μ-loop
 loop-less c = search needs
 
 loop-again : tie.Need-loop-again Inv-loop μ-loop
-loop-again c = let inv = (c .before .before .before .before .before .loop .inv) in let s = part-length ((c .before .before .before .before .before .loop .inv) .1) (lift1 (c .before .before .before .before .loop-test .taken)) ((c .before .before .before .before .before .before .before .before .before .pre) .1 .1 .1) ((c .before .before .before .before .before .loop .inv) .0 .1) in
-    ((omega arith, next-row _ _ _ (inv .0 .1)), rowing-put (inv .1) (lift1 (c .before .before .before .before .loop-test .taken)) ((c .before .before .before .before .before .before .before .before .before .pre) .1 .1 .1) (inv .0 .1) ((c .before .before .channel .kept .1 .1 .1 .1 .0)) ((c .before .before .channel .ensures) ∙ ap (upto _) s))
+loop-again c =
+    let channel = c .before .before .channel in
+    let loop-test = c .before .before .before .before .loop-test in
+    let at-loop = c .before .before .before .before .before .loop in
+    let pre = c .before .before .before .before .before .before .before .before .before .pre in
+    let inv = (at-loop .inv) in let s = part-length (at-loop .inv .1) (lift1 (loop-test .taken)) (pre .1 .1 .1) (at-loop .inv .0 .1) in (
+      (omega arith, next-row _ _ _ (inv .0 .1)),
+      rowing-put (inv .1) (lift1 (loop-test .taken)) (pre .1 .1 .1) (inv .0 .1) (channel .kept .1 .1 .1 .1 .0)
+          ((channel .ensures) ∙ ap (upto _) s),
+    )
 
 add-e-2 : tie.Need-add-e-2 Inv-loop μ-loop
-add-e-2 c = omega (arith, within (c .before .loop .c) ((c .before .before .before .before .before .args .ch) + 1) _ _ _ (omega arith) ((c .before .before .before .before .before .pre) .1 .1 .1) ((c .before .loop .inv) .0 .1))
+add-e-2 c =
+    let at-loop = c .before .loop in
+    let start = c .before .before .before .before .before in
+    omega (arith, within (at-loop .c) ((start .args .ch) + 1) _ _ _ (omega arith) (start .pre .1 .1 .1) (at-loop .inv .0 .1))
 
 slice-aggregate-copy : tie.Need-slice-aggregate-copy Inv-loop μ-loop
 slice-aggregate-copy c = sym (length-take-le _ _ ((c .before .before .before .before .before .before .pre) .1 .1 .0))
 
 mul-copy : tie.Need-mul-copy Inv-loop μ-loop
-mul-copy c = omega (arith, within (c .before .before .loop .c) ((c .before .before .before .before .before .before .args .ch) + 1) _ _ _ (omega arith) ((c .before .before .before .before .before .before .pre) .1 .1 .1) ((c .before .before .loop .inv) .0 .1))
+mul-copy c =
+    let at-loop = c .before .before .loop in
+    let start = c .before .before .before .before .before .before in
+    omega (arith, within (at-loop .c) ((start .args .ch) + 1) _ _ _ (omega arith) (start .pre .1 .1 .1) (at-loop .inv .0 .1))
 
 sub-copy : tie.Need-sub-copy Inv-loop μ-loop
 sub-copy c = search needs
@@ -66,16 +92,32 @@ part-copy-start : tie.Need-part-copy-start Inv-loop μ-loop
 part-copy-start c = search needs
 
 part-copy-end : tie.Need-part-copy-end Inv-loop μ-loop
-part-copy-end c = omega (arith, (c .before .before .loop .inv) .1 .same, within (c .before .before .loop .c) ((c .before .before .before .before .before .before .args .ch) + 1) _ _ _ (omega arith) ((c .before .before .before .before .before .before .pre) .1 .1 .1) ((c .before .before .loop .inv) .0 .1))
+part-copy-end c =
+    let at-loop = c .before .before .loop in
+    let start = c .before .before .before .before .before .before in
+    omega (arith, at-loop .inv .1 .same, within (at-loop .c) ((start .args .ch) + 1) _ _ _ (omega arith) (start .pre .1 .1 .1) (at-loop .inv .0 .1))
 
 copy-requires : tie.Need-copy-requires Inv-loop μ-loop
-copy-requires c κs = length-take-le _ _ ((c .before .before .before .before .before .before .before .pre) .1 .1 .0) ∙ sym (part-length ((c .before .before .before .loop .inv) .1) (omega arith) ((c .before .before .before .before .before .before .before .pre) .1 .1 .1) ((c .before .before .before .loop .inv) .0 .1))
+copy-requires c κs =
+    let at-loop = c .before .before .before .loop in
+    let pre = c .before .before .before .before .before .before .before .pre in
+    length-take-le _ _ (pre .1 .1 .0) ∙ sym (part-length (at-loop .inv .1) (omega arith) (pre .1 .1 .1) (at-loop .inv .0 .1))
 
 same-length : tie.Need-same-length Inv-loop μ-loop
-same-length c = (rowing-put ((c .before .before .before .before .before .before .loop .inv) .1) (omega arith) ((c .before .before .before .before .before .before .before .before .before .before .pre) .1 .1 .1) ((c .before .before .before .before .before .before .loop .inv) .0 .1) ((c .before .before .copy .kept .1 .0)) ((c .before .before .copy .ensures) ∙ weights-are _ _ _ _ _ (omega arith) ((c .before .before .before .before .before .before .before .before .before .before .pre) .1 .1 .0))) .same
+same-length c =
+    let copy = c .before .before .copy in
+    let at-loop = c .before .before .before .before .before .before .loop in
+    let pre = c .before .before .before .before .before .before .before .before .before .before .pre in
+    (rowing-put (at-loop .inv .1) (omega arith) (pre .1 .1 .1) (at-loop .inv .0 .1) (copy .kept .1 .0)
+    ((copy .ensures) ∙ weights-are _ _ _ _ _ (omega arith) (pre .1 .1 .0))) .same
 
 returns : tie.Need-returns Inv-loop μ-loop
-returns c = rowing-all (rowing-put ((c .before .before .before .before .before .before .loop .inv) .1) (omega arith) ((c .before .before .before .before .before .before .before .before .before .before .pre) .1 .1 .1) ((c .before .before .before .before .before .before .loop .inv) .0 .1) ((c .before .before .copy .kept .1 .0)) ((c .before .before .copy .ensures) ∙ weights-are _ _ _ _ _ (omega arith) ((c .before .before .before .before .before .before .before .before .before .before .pre) .1 .1 .0))) (omega arith)
+returns c =
+    let copy = c .before .before .copy in
+    let at-loop = c .before .before .before .before .before .before .loop in
+    let pre = c .before .before .before .before .before .before .before .before .before .before .pre in
+    rowing-all (rowing-put (at-loop .inv .1) (omega arith) (pre .1 .1 .1) (at-loop .inv .0 .1) (copy .kept .1 .0)
+    ((copy .ensures) ∙ weights-are _ _ _ _ _ (omega arith) (pre .1 .1 .0))) (omega arith)
 
 pub fill-controls-spec : {M : Type 1} → statement M
 fill-controls-spec =

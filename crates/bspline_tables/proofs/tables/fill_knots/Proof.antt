@@ -1,3 +1,4 @@
+-- `bspline_tables::tables::fill_knots` meets its contract. Assumes nothing.
 use mathlib.Core.Path.{_≡_}
 use Prim.Native.Nat.{_≤_, _-_, min}
 use Rattle.floats.specs.Numbers.{ofNat}

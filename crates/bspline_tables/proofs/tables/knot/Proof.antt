@@ -1,3 +1,4 @@
+-- `bspline_tables::tables::knot` meets its contract. Assumes nothing.
 use mathlib.Core.Path.{_≡_}
 use Prim.Native.Nat.{min, _-_}
 use native.Mathlib.Omega.{arith}
@@ -12,13 +13,17 @@ int-to-float-result : tie.Need-int-to-float-result
 int-to-float-result c = whole-in _ (omega arith)
 
 returns-2 : tie.Need-returns-2
-returns-2 c = let e : min ((c .before .before .before .args .i) - (c .before .before .before .args .p)) (c .before .before .before .args .spans) ≡ (c .before .before .before .args .i) - (c .before .before .before .args .p) = omega arith in rw e
+returns-2 c =
+    let args = c .before .before .before .args in
+    let e : min ((args .i) - (args .p)) (args .spans) ≡ (args .i) - (args .p) = omega arith in rw e
 
 int-to-float-result-2 : tie.Need-int-to-float-result-2
 int-to-float-result-2 c = whole-in _ (omega arith)
 
 returns-3 : tie.Need-returns-3
-returns-3 c = let e : min ((c .before .before .before .args .i) - (c .before .before .before .args .p)) (c .before .before .before .args .spans) ≡ (c .before .before .before .args .spans) = omega arith in rw e
+returns-3 c =
+    let args = c .before .before .before .args in
+    let e : min ((args .i) - (args .p)) (args .spans) ≡ (args .spans) = omega arith in rw e
 
 pub knot-spec : {M : Type 1} → statement M
 knot-spec =

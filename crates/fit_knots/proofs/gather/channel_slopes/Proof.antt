@@ -46,10 +46,11 @@ part-slopes-of-end c =
 
 slopes-of-requires : tie.Need-slopes-of-requires
 slopes-of-requires c κs =
+    let column = c .before .before .before .before .before .column in
     let start = c .before .before .before .before .before .before .before .before .before .before .before in
     let fits = row-fits (start .args .c) (start .args .ch) (start .args .m) (length (start .args .slopes .now)) (start .pre .1 .0) (start .pre .1 .1 .1) in
     let long = mid-len (start .args .c * start .args .m) (start .args .c * start .args .m + start .args .m) (start .args .slopes .now) fits in
-    ((search needs, search needs), (le-of-eq (sym (length-take-le _ _ (search needs))), (omega (arith, (c .before .before .before .before .before .column .kept .1 .1 .1 .1 .0)), omega arith)))
+    ((search needs, search needs), (le-of-eq (sym (length-take-le _ _ (search needs))), (omega (arith, (column .kept .1 .1 .1 .1 .0)), omega arith)))
 
 same-length : tie.Need-same-length
 same-length c = search needs
@@ -59,9 +60,12 @@ same-length-2 c = search needs
 
 returns : tie.Need-returns
 returns c =
+    let slopes-of = c .before .before .slopes-of in
+    let column = c .before .before .before .before .before .before .before .before .column in
     let start = c .before .before .before .before .before .before .before .before .before .before .before .before .before .before in
     let fits = row-fits (start .args .c) (start .args .ch) (start .args .m) (length (start .args .slopes .now)) (start .pre .1 .0) (start .pre .1 .1 .1) in
-    channel-block (start .args .cubic) (start .args .fts .now) (start .args .fps .now) (start .args .m) (start .args .ch) (start .args .c) (start .args .c * start .args .m) (start .args .ys .now) (omega arith) (c .before .before .before .before .before .before .before .before .column .ensures) fits (c .before .before .slopes-of .kept .1 .1 .1 .1 .0) (c .before .before .slopes-of .ensures)
+    channel-block (start .args .cubic) (start .args .fts .now) (start .args .fps .now) (start .args .m) (start .args .ch) (start .args .c)
+    (start .args .c * start .args .m) (start .args .ys .now) (omega arith) (column .ensures) fits (slopes-of .kept .1 .1 .1 .1 .0) (slopes-of .ensures)
 
 pub channel-slopes-spec : {M : Type 1} → statement M
 channel-slopes-spec =

@@ -5,7 +5,7 @@ use native.Mathlib.Omega.{arith}
 use lib.ListN.{length}
 use Rattle.floats.specs.Numbers.{at}
 use Rattle.floats.specs.Fill.{Filling, filling-none, filling-more}
-use Rattle.fit_knots.specs.Memory.{cell-fits}
+use Rattle.fit_knots.specs.MemoryLaws.{cell-fits}
 use Rattle.fit_slopes.specs.Filled.{filling-end}
 use borrow.Author.Needs.{needs}
 use Rattle.fit_knots.proofs.gather.column.Statement.{statement}
@@ -21,16 +21,40 @@ loop-holds : tie.Need-loop-holds Inv-loop μ-loop
 loop-holds c = ((omega arith, omega arith), filling-none)
 
 mul-out : tie.Need-mul-out Inv-loop μ-loop
-mul-out c = omega (arith, cell-fits (c .before .loop .w) (c .before .before .args .m) (c .before .before .args .ch) (c .before .before .args .c) (length (c .before .before .args .fps .now)) (c .loop-test .taken) ((c .before .before .pre .0)) ((c .before .before .pre .1 .0)))
+mul-out c =
+    let start = c .before .before in
+    omega (
+      arith,
+      cell-fits (c .before .loop .w) (start .args .m) (start .args .ch) (start .args .c) (length (start .args .fps .now)) (c .loop-test .taken)
+          (start .pre .0) (start .pre .1 .0),
+    )
 
 add-out : tie.Need-add-out Inv-loop μ-loop
-add-out c = omega (arith, cell-fits (c .before .loop .w) (c .before .before .args .m) (c .before .before .args .ch) (c .before .before .args .c) (length (c .before .before .args .fps .now)) (c .loop-test .taken) ((c .before .before .pre .0)) ((c .before .before .pre .1 .0)))
+add-out c =
+    let start = c .before .before in
+    omega (
+      arith,
+      cell-fits (c .before .loop .w) (start .args .m) (start .args .ch) (start .args .c) (length (start .args .fps .now)) (c .loop-test .taken)
+          (start .pre .0) (start .pre .1 .0),
+    )
 
 mul-out-2 : tie.Need-mul-out-2 Inv-loop μ-loop
-mul-out-2 c = omega (arith, cell-fits (c .before .loop .w) (c .before .before .args .m) (c .before .before .args .ch) (c .before .before .args .c) (length (c .before .before .args .fps .now)) (c .loop-test .taken) ((c .before .before .pre .0)) ((c .before .before .pre .1 .0)))
+mul-out-2 c =
+    let start = c .before .before in
+    omega (
+      arith,
+      cell-fits (c .before .loop .w) (start .args .m) (start .args .ch) (start .args .c) (length (start .args .fps .now)) (c .loop-test .taken)
+          (start .pre .0) (start .pre .1 .0),
+    )
 
 shared-slice-read-out : tie.Need-shared-slice-read-out Inv-loop μ-loop
-shared-slice-read-out c = omega (arith, cell-fits (c .before .before .loop .w) (c .before .before .before .args .m) (c .before .before .before .args .ch) (c .before .before .before .args .c) (length (c .before .before .before .args .fps .now)) (c .before .loop-test .taken) ((c .before .before .before .pre .0)) ((c .before .before .before .pre .1 .0)))
+shared-slice-read-out c =
+    let start = c .before .before .before in
+    omega (
+      arith,
+      cell-fits (c .before .before .loop .w) (start .args .m) (start .args .ch) (start .args .c) (length (start .args .fps .now))
+          (c .before .loop-test .taken) (start .pre .0) (start .pre .1 .0),
+    )
 
 mul-out-3 : tie.Need-mul-out-3 Inv-loop μ-loop
 mul-out-3 c = search needs

@@ -7,13 +7,23 @@ use Rattle.fit_knots.proofs.gather.gather.Statement.{statement}
 use Rattle.fit_knots.proofs.gather.gather.Tie as tie
 
 gather-times-requires : tie.Need-gather-times-requires
-gather-times-requires c κs = (below-more _ _ _ ((c .before .before .before .before .before .before .before .pre .1 .0)) ((c .before .before .before .before .before .before .before .pre .0 .sums)), omega arith)
+gather-times-requires c κs =
+    let pre = c .before .before .before .before .before .before .before .pre in
+    (below-more _ _ _ (pre .1 .0) (pre .0 .sums), omega arith)
 
 gather-points-requires : tie.Need-gather-points-requires
-gather-points-requires c κs = ((c .before .before .before .before .before .before .before .before .before .before .before .pre .1 .0), ((c .before .before .before .before .before .before .before .before .before .before .before .pre .0 .given), fewer-rows _ _ _ _ ((c .before .before .before .before .before .before .before .before .before .before .before .pre .1 .1 .0 .1)) ((c .before .before .before .before .before .before .before .before .before .before .before .pre .0 .points))))
+gather-points-requires c κs =
+    let pre = c .before .before .before .before .before .before .before .before .before .before .before .pre in
+    ((pre .1 .0), ((pre .0 .given), fewer-rows _ _ _ _ (pre .1 .1 .0 .1) (pre .0 .points)))
 
 gather-slopes-requires : tie.Need-gather-slopes-requires
-gather-slopes-requires c κs = (((c .before .before .before .before .before .before .before .before .before .before .before .before .before .before .before .before .before .pre .1 .1 .0 .0), (omega arith, omega arith)), (omega (arith, fewer-rows (length (c .before .before .before .before .before .before .before .before .before .before .before .before .before .before .before .before .before .args .ks .now)) (c .before .before .before .before .before .before .before .before .before .before .before .before .before .before .before .before .before .args .n) (c .before .before .before .before .before .before .before .before .before .before .before .before .before .before .before .before .before .args .ch) (length (c .before .before .before .before .before .before .before .before .before .before .before .before .before .before .before .before .before .args .fps .now)) ((c .before .before .before .before .before .before .before .before .before .before .before .before .before .before .before .before .before .pre .1 .1 .0 .1)) ((c .before .before .before .before .before .before .before .before .before .before .before .before .before .before .before .before .before .pre .0 .points))), fewer-blocks _ _ _ _ ((c .before .before .before .before .before .before .before .before .before .before .before .before .before .before .before .before .before .pre .1 .1 .0 .1)) ((c .before .before .before .before .before .before .before .before .before .before .before .before .before .before .before .before .before .pre .0 .bends))))
+gather-slopes-requires c κs =
+    let back = c .before .before .before .before .before .before .before .before .before .before .before .before in
+    let start = back .before .before .before .before .before in
+    let args = start .args in
+    let few = start .pre .1 .1 .0 .1 in
+    let rows = fewer-rows (length (args .ks .now)) (args .n) (args .ch) (length (args .fps .now)) few (start .pre .0 .points) in
+    ((start .pre .1 .1 .0 .0, (omega arith, omega arith)), (omega (arith, rows), fewer-blocks _ _ _ _ few (start .pre .0 .bends)))
 
 same-length : tie.Need-same-length
 same-length c = search needs
@@ -25,7 +35,17 @@ same-length-3 : tie.Need-same-length-3
 same-length-3 c = search needs
 
 returns : tie.Need-returns
-returns c = gathered (c .before .before .before .before .before .before .before .before .before .before .before .before .before .before .before .before .before .before .before .before .args .cubic) (c .before .before .before .before .before .before .before .before .before .before .before .before .before .before .before .before .before .before .before .before .args .pts .now) (c .before .before .before .before .before .before .before .before .before .before .before .before .before .before .before .before .before .before .before .before .args .ts .now) (c .before .before .before .before .before .before .before .before .before .before .before .before .before .before .before .before .before .before .before .before .args .ch) (c .before .before .before .before .before .before .before .before .before .before .before .before .before .before .before .before .before .before .before .before .args .n) (c .before .before .before .before .before .before .before .before .before .before .before .before .before .before .before .before .before .before .before .before .args .ks .now) (c .before .before .before .before .before .before .before .before .before .before .before .before .before .before .before .before .before .before .before .before .args .fts .now) (c .before .before .before .before .before .before .before .before .before .before .before .before .before .before .before .before .before .before .before .before .args .fps .now) (c .before .before .before .before .before .before .before .before .before .before .before .before .before .before .before .before .before .before .before .before .args .slopes .now) ((c .before .before .before .before .before .before .before .before .before .before .before .before .before .before .before .before .before .before .before .before .pre .0)) ((c .before .before .before .before .before .before .before .before .before .before .before .before .before .before .before .before .before .before .before .before .pre .1 .0)) ((c .before .before .before .before .before .before .before .before .before .before .before .before .before .before .before .before .before .before .before .before .pre .1 .1 .0 .0)) ((c .before .before .before .before .before .before .before .before .before .before .before .before .before .before .before .before .before .before .before .before .pre .1 .1 .0 .1)) ((c .before .before .before .before .before .before .before .before .before .before .before .before .before .before .before .before .before .before .before .before .pre .1 .1 .1)) (c .before .before .before .before .before .before .before .before .before .before .before .before .gather-times .ensures) ((c .before .before .before .before .before .before .before .before .gather-points .kept .1 .1 .1 .1 .0)) (c .before .before .before .before .before .before .before .before .gather-points .ensures) ((c .before .before .gather-slopes .kept .1 .1 .1 .1 .1 .0)) (c .before .before .gather-slopes .ensures)
+returns c =
+    let gather-slopes = c .before .before .gather-slopes in
+    let gather-points = c .before .before .before .before .before .before .before .before .gather-points in
+    let back = c .before .before .before .before .before .before .before .before .before .before .before .before in
+    let gather-times = back .gather-times in
+    let start = back .before .before .before .before .before .before .before .before in
+    let args = start .args in
+    let pre = start .pre in
+    gathered (args .cubic) (args .pts .now) (args .ts .now) (args .ch) (args .n) (args .ks .now) (args .fts .now) (args .fps .now) (args .slopes .now)
+    (pre .0) (pre .1 .0) (pre .1 .1 .0 .0) (pre .1 .1 .0 .1) (pre .1 .1 .1) (gather-times .ensures)
+    (gather-points .kept .1 .1 .1 .1 .0) (gather-points .ensures) (gather-slopes .kept .1 .1 .1 .1 .1 .0) (gather-slopes .ensures)
 
 pub gather-spec : {M : Type 1} → statement M
 gather-spec =

@@ -28,7 +28,14 @@ shared-slice-read-i c = search needs
 
 copy-row-requires : tie.Need-copy-row-requires Inv-loop μ-loop
 unfolding Below
-copy-row-requires c κs = (row-fits _ _ _ _ ((c .before .before .before .before .before .before .before .pre .0) (c .before .before .before .loop .w) (c .before .before .loop-test .taken)) ((c .before .before .before .before .before .before .before .pre .1 .0)), omega (arith, row-fits (c .before .before .before .loop .w) (length (c .before .before .before .before .before .before .before .args .ks .now)) (c .before .before .before .before .before .before .before .args .ch) (length (c .before .before .before .before .before .before .before .args .out .now)) (c .before .before .loop-test .taken) ((c .before .before .before .before .before .before .before .pre .1 .1)), (c .before .before .before .loop .inv .0 .1)))
+copy-row-requires c κs =
+    let loop-test = c .before .before .loop-test in
+    let at-loop = c .before .before .before .loop in
+    let start = c .before .before .before .before .before .before .before in
+    let args = start .args in
+    let from = row-fits _ _ _ _ ((start .pre .0) (at-loop .w) (loop-test .taken)) (start .pre .1 .0) in
+    let into = row-fits (at-loop .w) (length (args .ks .now)) (args .ch) (length (args .out .now)) (loop-test .taken) (start .pre .1 .1) in
+    (from, omega (arith, into, (at-loop .inv .0 .1)))
 
 add-w : tie.Need-add-w Inv-loop μ-loop
 add-w c = search needs
@@ -37,7 +44,10 @@ loop-less : tie.Need-loop-less Inv-loop μ-loop
 loop-less c = search needs
 
 loop-again : tie.Need-loop-again Inv-loop μ-loop
-loop-again c = ((omega arith, (c .before .before .copy-row .ensures .same) ∙ (c .before .before .before .before .before .before .loop .inv .0 .1)), blocks-more (c .before .before .before .before .before .before .loop .inv .1) (c .before .before .copy-row .ensures))
+loop-again c =
+    let copy-row = c .before .before .copy-row in
+    let at-loop = c .before .before .before .before .before .before .loop in
+    ((omega arith, (copy-row .ensures .same) ∙ (at-loop .inv .0 .1)), blocks-more (at-loop .inv .1) (copy-row .ensures))
 
 same-length : tie.Need-same-length Inv-loop μ-loop
 same-length c = (c .before .loop .inv .0 .1)

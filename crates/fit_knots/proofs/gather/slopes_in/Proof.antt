@@ -1,3 +1,4 @@
+-- `fit_knots::gather::slopes_in` meets its contract. Assumes nothing.
 use mathlib.Core.Path.{_≡_, refl, _∙_}
 use Prim.Native.Nat.{_≤_, _-_}
 use native.Mathlib.Omega.{arith}
@@ -9,7 +10,8 @@ use Rattle.fit_knots.proofs.gather.slopes_in.Statement.{statement}
 use Rattle.fit_knots.proofs.gather.slopes_in.Tie as tie
 
 abbrev Inv-loop : tie.InvT-loop
-Inv-loop cubic fts fps m ch ys₀ slopes₀ c₀ ys slopes c = ((c ≤ ch) × ((length ys ≡ length ys₀) × (length slopes ≡ length slopes₀))) × Blocks (channelAt cubic fts fps ch m) m c slopes
+Inv-loop cubic fts fps m ch ys₀ slopes₀ c₀ ys slopes c =
+    ((c ≤ ch) × ((length ys ≡ length ys₀) × (length slopes ≡ length slopes₀))) × Blocks (channelAt cubic fts fps ch m) m c slopes
 
 abbrev μ-loop : tie.MeasureT-loop
 μ-loop cubic fts fps m ch ys₀ slopes₀ c₀ ys slopes c = ch - c
@@ -27,7 +29,12 @@ loop-less : tie.Need-loop-less Inv-loop μ-loop
 loop-less c = search needs
 
 loop-again : tie.Need-loop-again Inv-loop μ-loop
-loop-again c = ((omega arith, ((c .before .before .before .before .channel-slopes .kept .1 .1 .1 .1 .1 .1 .0) ∙ (c .before .before .before .before .before .before .before .before .loop .inv .0 .1 .0), (c .before .before .before .before .channel-slopes .ensures .same) ∙ (c .before .before .before .before .before .before .before .before .loop .inv .0 .1 .1))), blocks-more (c .before .before .before .before .before .before .before .before .loop .inv .1) (c .before .before .before .before .channel-slopes .ensures))
+loop-again c =
+    let channel-slopes = c .before .before .before .before .channel-slopes in
+    let at-loop = c .before .before .before .before .before .before .before .before .loop in (
+      (omega arith, ((channel-slopes .kept .1 .1 .1 .1 .1 .1 .0) ∙ (at-loop .inv .0 .1 .0), (channel-slopes .ensures .same) ∙ (at-loop .inv .0 .1 .1))),
+      blocks-more (at-loop .inv .1) (channel-slopes .ensures),
+    )
 
 same-length : tie.Need-same-length Inv-loop μ-loop
 same-length c = (c .before .loop .inv .0 .1 .0)

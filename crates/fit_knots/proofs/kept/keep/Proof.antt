@@ -22,8 +22,11 @@ loop-holds : tie.Need-loop-holds Inv-loop μ-loop
 loop-holds c = ((omega arith, omega arith), keep-first (c .before .before .args .ts .now) (c .before .before .args .out .now) (omega arith))
 
 judge-requires : tie.Need-judge-requires Inv-loop μ-loop
-judge-requires c κs = let r = keep-room _ _ ((c .before .before .loop .inv .0 .0)) ((c .before .before .loop .inv .1)) in
-    ((r .0, (r .1 .0, (omega arith, omega (arith, (c .before .before .loop .inv .1 .same), length-set (c .before .before .before .before .before .args .out .now) 0 0)))), r .1 .1)
+judge-requires c κs =
+    let at-loop = c .before .before .loop in
+    let args = c .before .before .before .before .before .args in
+    let r = keep-room _ _ (at-loop .inv .0 .0) (at-loop .inv .1) in
+    ((r .0, (r .1 .0, (omega arith, omega (arith, (at-loop .inv .1 .same), length-set (args .out .now) 0 0)))), r .1 .1)
 
 add-i : tie.Need-add-i Inv-loop μ-loop
 add-i c = search needs
@@ -32,13 +35,19 @@ loop-less : tie.Need-loop-less Inv-loop μ-loop
 loop-less c = search needs
 
 loop-again : tie.Need-loop-again Inv-loop μ-loop
-loop-again c = ((omega arith, omega arith), keep-more _ _ ((c .before .before .before .before .before .loop .inv .0 .0)) (omega (arith, length-set (c .before .before .before .before .before .before .before .before .args .out .now) 0 0)) ((c .before .before .before .before .before .loop .inv .1)) (c .before .before .judge .ensures))
+loop-again c =
+    let at-loop = c .before .before .before .before .before .loop in
+    let args = c .before .before .before .before .before .before .before .before .args in (
+      (omega arith, omega arith),
+      keep-more _ _ (at-loop .inv .0 .0) (omega (arith, length-set (args .out .now) 0 0)) (at-loop .inv .1)
+          (c .before .before .judge .ensures),
+    )
 
 same-length : tie.Need-same-length Inv-loop μ-loop
 same-length c = (c .before .loop .inv .1 .same) ∙ length-set (c .before .before .before .before .args .out .now) 0 0
 
 returns : tie.Need-returns Inv-loop μ-loop
-returns c = keep-end _ _ _ (c .before .before .before .before .args .out .now) (omega arith) ((c .before .loop .inv .1))
+returns c = keep-end _ _ _ (c .before .before .before .before .args .out .now) (omega arith) (c .before .loop .inv .1)
 
 pub keep-spec : {M : Type 1} → statement M
 keep-spec =

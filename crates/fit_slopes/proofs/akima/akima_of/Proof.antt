@@ -1,3 +1,4 @@
+-- `fit_slopes::akima::akima_of` meets its contract. Assumes nothing.
 use Rattle.fit_slopes.specs.Akima.{akimaOf}
 use borrow.Author.Needs.{needs}
 use Rattle.fit_slopes.proofs.akima.akima_of.Statement.{statement}

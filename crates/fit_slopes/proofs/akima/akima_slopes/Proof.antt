@@ -1,3 +1,4 @@
+-- `fit_slopes::akima::akima_slopes` meets its contract. Assumes nothing.
 use mathlib.Core.Path.{_∙_}
 use Rattle.fit_slopes.proofs.Slopes.{akima-straight, akima-many}
 use borrow.Author.Needs.{needs}

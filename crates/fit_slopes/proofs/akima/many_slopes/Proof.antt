@@ -1,17 +1,19 @@
+-- `fit_slopes::akima::many_slopes` meets its contract. Assumes nothing.
 use mathlib.Core.Path.{_∙_}
 use Prim.Native.Nat.{_≤_, _-_}
 use native.Mathlib.Omega.{arith}
 use lib.ListN.{length}
 use Rattle.floats.specs.Fill.{Filling, filling-none, filling-more}
 use Rattle.fit_slopes.specs.Slopes.{widened, akimaAt}
-use Rattle.fit_slopes.specs.Akima.{Window, window-more, akima-of}
+use Rattle.fit_slopes.specs.AkimaLaws.{Window, window-more, akima-of}
 use Rattle.fit_slopes.specs.Filled.{filling-end}
 use borrow.Author.Needs.{needs}
 use Rattle.fit_slopes.proofs.akima.many_slopes.Statement.{statement}
 use Rattle.fit_slopes.proofs.akima.many_slopes.Tie as tie
 
 abbrev Inv-loop : tie.InvT-loop
-Inv-loop ts ys n out₀ m1₀ m2₀ m3₀ i₀ out m1 m2 m3 i = ((i ≤ n) × (n ≤ length out₀)) × (Window (widened ts ys n) i m1 m2 m3 × Filling (akimaAt (widened ts ys n)) i out₀ out)
+Inv-loop ts ys n out₀ m1₀ m2₀ m3₀ i₀ out m1 m2 m3 i =
+    ((i ≤ n) × (n ≤ length out₀)) × (let w = widened ts ys n in Window w i m1 m2 m3 × Filling (akimaAt w) i out₀ out)
 
 abbrev μ-loop : tie.MeasureT-loop
 μ-loop ts ys n out₀ m1₀ m2₀ m3₀ i₀ out m1 m2 m3 i = n - i
@@ -26,7 +28,10 @@ widened-at-requires-3 : tie.Need-widened-at-requires-3 Inv-loop μ-loop
 widened-at-requires-3 c κs = search needs
 
 loop-holds : tie.Need-loop-holds Inv-loop μ-loop
-loop-holds c = ((omega arith, omega arith), (record { first = (c .before .before .widened-at .ensures); second = (c .before .widened-at2 .ensures); third = (c .widened-at3 .ensures) }, filling-none))
+loop-holds c =
+    let first = c .before .before .widened-at .ensures in
+    let second = c .before .widened-at2 .ensures in
+    ((omega arith, omega arith), (record { first = first; second = second; third = c .widened-at3 .ensures }, filling-none))
 
 add-widened-at : tie.Need-add-widened-at Inv-loop μ-loop
 add-widened-at c = search needs

@@ -1,3 +1,4 @@
+-- `fit_slopes::akima::slope_before` meets its contract. Assumes nothing.
 use borrow.Author.Needs.{needs}
 use Rattle.fit_slopes.proofs.akima.slope_before.Statement.{statement}
 use Rattle.fit_slopes.proofs.akima.slope_before.Tie as tie

@@ -1,3 +1,4 @@
+-- `fit_slopes::akima::slope_behind` meets its contract. Assumes nothing.
 use borrow.Author.Needs.{needs}
 use Rattle.fit_slopes.proofs.akima.slope_behind.Statement.{statement}
 use Rattle.fit_slopes.proofs.akima.slope_behind.Tie as tie

@@ -1,5 +1,6 @@
+-- `fit_slopes::akima::widened_at` meets its contract. Assumes nothing.
 use native.Mathlib.Omega.{arith}
-use Rattle.fit_slopes.specs.Akima.{wide-first, wide-second, wide-step, wide-behind, wide-last}
+use Rattle.fit_slopes.specs.AkimaLaws.{wide-first, wide-second, wide-step, wide-behind, wide-last}
 use borrow.Author.Needs.{needs}
 use Rattle.fit_slopes.proofs.akima.widened_at.Statement.{statement}
 use Rattle.fit_slopes.proofs.akima.widened_at.Tie as tie

@@ -1,3 +1,4 @@
+-- `fit_slopes::cubic::backward` meets its contract. Assumes nothing.
 use mathlib.Core.Path.{_≡_, refl, sym, _∙_}
 use mathlib.Core.List.{List}
 use Prim.Native.Nat.{ℕ, _≤_, _-_, _<_, _+_}
@@ -70,9 +71,11 @@ loop-less c = omega arith
 loop-again : tie.Need-loop-again Inv-loop μ-loop
 unfolding Agrees
 loop-again c =
-    let inv = c .before .before .before .before .loop .inv in
+    let at-loop = c .before .before .before .before .loop in
     let pre = c .before .before .before .before .before .before .before .before .before .before .pre in
-    let eb = back-more _ _ _ _ _ (omega arith) (omega arith) (omega arith) (c .before .step-at .ensures) (inv .last) (pre .1 .1 .1 _ (omega arith)) (pre .1 .1 .0 _ (omega arith)) in
+    let inv = at-loop .inv in
+    let eb = back-more _ _ _ _ _ (omega arith) (omega arith) (omega arith) (c .before .step-at .ensures) (inv .last) (pre .1 .1 .1 _ (omega arith))
+    (pre .1 .1 .0 _ (omega arith)) in
     record {
       low = omega arith;
       high = (omega arith, inv .high .1);

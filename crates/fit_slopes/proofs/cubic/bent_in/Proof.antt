@@ -1,3 +1,4 @@
+-- `fit_slopes::cubic::bent_in` meets its contract. Assumes nothing.
 use native.Mathlib.Omega.{arith}
 use Rattle.floats.specs.Fill.{filled-agrees}
 use borrow.Author.Needs.{needs}
@@ -8,10 +9,12 @@ forward-requires : tie.Need-forward-requires
 forward-requires c κs = search needs
 
 backward-requires : tie.Need-backward-requires
-backward-requires c κs = (omega arith, (omega arith, (filled-agrees _ _ _ ((c .before .before .before .before .before .before .before .forward .ensures .0)), filled-agrees _ _ _ ((c .before .before .before .before .before .before .before .forward .ensures .1)))))
+backward-requires c κs =
+    let forward = c .before .before .before .before .before .before .before .forward in
+    (omega arith, (omega arith, (filled-agrees _ _ _ (forward .ensures .0), filled-agrees _ _ _ (forward .ensures .1))))
 
 slopes-requires : tie.Need-slopes-requires
-slopes-requires c κs = (omega arith, filled-agrees _ _ _ ((c .before .before .before .before .backward .ensures)))
+slopes-requires c κs = (omega arith, filled-agrees _ _ _ (c .before .before .before .before .backward .ensures))
 
 same-length : tie.Need-same-length
 same-length c = search needs

@@ -1,3 +1,4 @@
+-- `fit_slopes::cubic::forward` meets its contract. Assumes nothing.
 use mathlib.Core.Path.{_≡_, refl, _∙_}
 use mathlib.Core.List.{List}
 use Prim.Native.Nat.{ℕ, _≤_, _-_, _<_, _+_}
@@ -88,8 +89,11 @@ loop-less c = omega arith
 
 loop-again : tie.Need-loop-again Inv-loop μ-loop
 loop-again c =
-    let inv = c .before .before .before .before .before .loop .inv in
-    let h = c .before .before .before .step-at .ensures in
+    let step-at = c .before .before .before .step-at in
+    let at-loop = c .before .before .before .before .before .loop in
+    let args = c .before .before .before .before .before .before .before .before .before .before .args in
+    let inv = at-loop .inv in
+    let h = step-at .ensures in
     let g = c .before .before .step-at2 .ensures in
     let ed = diag-more _ (add-one _) h g (inv .pivot) (inv .above) in
     let er = rhs-more _ _ (add-one _) h (inv .pivot) (c .secant-at2 .ensures) (c .before .secant-at .ensures) (inv .right) in
@@ -98,7 +102,7 @@ loop-again c =
       room = inv .room;
       pivot = ed;
       right = er;
-      above = sup-more (c .before .before .before .before .before .before .before .before .before .before .args .ts .now) (add-one (c .before .before .before .before .before .loop .i)) g;
+      above = sup-more (args .ts .now) (add-one (at-loop .i)) g;
       diags = filling-more (inv .diags) (omega arith) ed;
       rights = filling-more (inv .rights) (omega arith) er;
     }

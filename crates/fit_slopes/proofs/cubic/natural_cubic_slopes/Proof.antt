@@ -1,3 +1,4 @@
+-- `fit_slopes::cubic::natural_cubic_slopes` meets its contract. Assumes nothing.
 use mathlib.Core.Path.{_∙_}
 use native.Mathlib.Omega.{arith}
 use Rattle.fit_slopes.proofs.Slopes.{cubic-straight, cubic-many}
@@ -30,13 +31,19 @@ same-length-2 : tie.Need-same-length-2
 same-length-2 c = search needs
 
 returns-2 : tie.Need-returns-2
-returns-2 c = (c .before .before .bent-small .ensures) ∙ cubic-many _ _ _ _ (c .before .before .before .before .before .if1 .left) (omega (arith, (c .before .before .before .before .before .before .before .before .before .pre)))
+returns-2 c =
+    let if1 = c .before .before .before .before .before .if1 in
+    let pre = c .before .before .before .before .before .before .before .before .before .pre in
+    (c .before .before .bent-small .ensures) ∙ cubic-many _ _ _ _ (if1 .left) (omega (arith, pre))
 
 same-length-3 : tie.Need-same-length-3
 same-length-3 c = search needs
 
 returns-3 : tie.Need-returns-3
-returns-3 c = (c .before .before .bent-large .ensures) ∙ cubic-many _ _ _ _ (c .before .before .before .before .before .if1 .left) (omega (arith, (c .before .before .before .before .before .before .before .before .before .pre)))
+returns-3 c =
+    let if1 = c .before .before .before .before .before .if1 in
+    let pre = c .before .before .before .before .before .before .before .before .before .pre in
+    (c .before .before .bent-large .ensures) ∙ cubic-many _ _ _ _ (if1 .left) (omega (arith, pre))
 
 pub natural-cubic-slopes-spec : {M : Type 1} → statement M
 natural-cubic-slopes-spec =

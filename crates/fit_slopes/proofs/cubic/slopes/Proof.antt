@@ -1,3 +1,4 @@
+-- `fit_slopes::cubic::slopes` meets its contract. Assumes nothing.
 use mathlib.Core.Path.{_≡_}
 use Prim.Native.Nat.{_≤_, _-_, _<_}
 use native.Mathlib.Omega.{arith}
@@ -54,10 +55,13 @@ loop-less c = omega arith
 loop-again : tie.Need-loop-again Inv-loop μ-loop
 unfolding Agrees
 loop-again c =
+    let secant-at = c .before .before .before .secant-at in
     let at-loop = c .before .before .before .before .before in
     let inv = at-loop .loop .inv in
     let agrees = at-loop .before .before .before .before .before .pre .1 in
-    (omega arith, (inv .1 .0, filling-more (inv .1 .1) (omega arith) (slope-in _ _ _ _ (omega arith) (c .before .before .before .secant-at .ensures) (c .before .before .step-at .ensures) (agrees _ (omega arith)) (agrees _ (omega arith)))))
+    let step-at = c .before .before .step-at in
+    let slope = slope-in _ _ _ _ (omega arith) (secant-at .ensures) (step-at .ensures) (agrees _ (omega arith)) (agrees _ (omega arith)) in
+    (omega arith, (inv .1 .0, filling-more (inv .1 .1) (omega arith) slope))
 
 sub-j : tie.Need-sub-j Inv-loop μ-loop
 sub-j c = omega arith
@@ -92,12 +96,15 @@ same-length c = simp length-set (c .before .before .before .before .before .loop
 returns : tie.Need-returns Inv-loop μ-loop
 unfolding Agrees
 returns c =
+    let secant-at2 = c .before .before .before .secant-at2 in
     let at-loop = c .before .before .before .before .before in
     let inv = at-loop .loop .inv in
     let start = at-loop .before .before .before .before .before in
     let agrees = start .pre .1 in
     let e : at-loop .loop .i ≡ start .args .m = omega arith in
-    filling-more (rw e at (inv .1 .1)) (inv .1 .0) (slope-end _ _ _ (c .before .before .before .secant-at2 .ensures) (c .before .before .step-at2 .ensures) (agrees _ (omega arith)) (agrees _ (omega arith))) .is
+    let step-at2 = c .before .before .step-at2 in
+    let slope = slope-end _ _ _ (secant-at2 .ensures) (step-at2 .ensures) (agrees _ (omega arith)) (agrees _ (omega arith)) in
+    filling-more (rw e at (inv .1 .1)) (inv .1 .0) slope .is
 
 pub slopes-spec : {M : Type 1} → statement M
 slopes-spec =

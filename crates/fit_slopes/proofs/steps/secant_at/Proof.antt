@@ -1,3 +1,4 @@
+-- `fit_slopes::steps::secant_at` meets its contract. Assumes nothing.
 use borrow.Author.Needs.{needs}
 use Rattle.fit_slopes.proofs.steps.secant_at.Statement.{statement}
 use Rattle.fit_slopes.proofs.steps.secant_at.Tie as tie

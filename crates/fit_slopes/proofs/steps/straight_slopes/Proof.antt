@@ -1,3 +1,4 @@
+-- `fit_slopes::steps::straight_slopes` meets its contract. Assumes nothing.
 use native.Mathlib.Omega.{arith}
 use lib.ListN.{length-set}
 use Rattle.fit_slopes.proofs.Slopes.{both-filled}

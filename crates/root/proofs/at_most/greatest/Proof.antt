@@ -1,3 +1,4 @@
+-- `root::at_most::greatest` meets its contract. Assumes nothing.
 use borrow.Author.Needs.{needs}
 use Rattle.root.proofs.Bound.{by-halves}
 use Rattle.root.proofs.at_most.greatest.Statement.{statement}

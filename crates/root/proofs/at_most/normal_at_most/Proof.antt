@@ -1,3 +1,4 @@
+-- `root::at_most::normal_at_most` meets its contract. Assumes nothing.
 use borrow.Author.Needs.{needs}
 use Rattle.root.proofs.Bound.{Normals, by-power, by-digits}
 use Rattle.root.proofs.at_most.normal_at_most.Statement.{statement}

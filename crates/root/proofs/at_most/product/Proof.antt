@@ -1,3 +1,4 @@
+-- `root::at_most::product` meets its contract. Assumes nothing.
 use mathlib.Core.Path.{refl}
 use native.Mathlib.Omega.{arith}
 use Rattle.root_guess.specs.Products.{mul-lt-pow}

@@ -1,3 +1,4 @@
+-- `root::at_most::root_at_most` meets its contract. Assumes nothing.
 use mathlib.Core.Path.{sym, ap, _∙_, subst}
 use lib.Dec.{T}
 use lib.Ieee.{Float, binary64, fits, le, ofBits}
@@ -35,15 +36,19 @@ normal-at-most-requires : tie.Need-normal-at-most-requires
 normal-at-most-requires c κs =
     let second = c .before in
     let first = second .before .before in
-    (normal-is (first .before .before .bits .result) (sym (first .is-normal .ensures) ∙ second .before .if1 .taken), normal-is (first .before .bits2 .result) (sym (second .is-normal2 .ensures) ∙ c .if2 .taken))
+    let x = normal-is (first .before .before .bits .result) (sym (first .is-normal .ensures) ∙ second .before .if1 .taken) in
+    let y = normal-is (first .before .bits2 .result) (sym (second .is-normal2 .ensures) ∙ c .if2 .taken) in
+    (x, y)
 
 returns : tie.Need-returns
 returns c =
     let at = c .before .before .before .before .before in
     let start = at .before .before in
     c .normal-at-most .ensures
-    ∙ ap (λ (z : Float). le (sqrt binary64 z) (ofBits binary64 (at .bits2 .result))) (ap (ofBits binary64) (at .before .bits .ensures) ∙ ofBits-toBits binary64 (start .args .x) (held-x start))
-    ∙ ap (λ (z : Float). le (sqrt binary64 (start .args .x)) z) (ap (ofBits binary64) (at .bits2 .ensures) ∙ ofBits-toBits binary64 (start .args .y) (held-y start))
+    ∙ ap (λ (z : Float). le (sqrt binary64 z) (ofBits binary64 (at .bits2 .result)))
+    (ap (ofBits binary64) (at .before .bits .ensures) ∙ ofBits-toBits binary64 (start .args .x) (held-x start))
+    ∙ ap (λ (z : Float). le (sqrt binary64 (start .args .x)) z)
+    (ap (ofBits binary64) (at .bits2 .ensures) ∙ ofBits-toBits binary64 (start .args .y) (held-y start))
 
 root-requires : tie.Need-root-requires
 root-requires c κs = search needs
