@@ -3,7 +3,7 @@ use mathlib.Core.Path.{sym, ap, _∙_}
 use native.Mathlib.Omega.{arith}
 use borrow.Author.Tests.{le-leb, lt-leb, ne-eqb}
 use Rattle.floats.specs.Truth.{cond-t, cond-f}
-use Rattle.motion.specs.Motion.{kindOf}
+use Rattle.motion.specs.Motion.{lastMotion, kindOf}
 use Rattle.motion.proofs.kind_of.Statement.{statement}
 use Rattle.motion.proofs.kind_of.Tie as tie
 
@@ -37,11 +37,27 @@ returns-7 c = sym (cond-f _ _ (ne-eqb _ _ ((c .before .match .rest) .0 .0 .0 .0 
 
 returns-8 : tie.Need-returns-8
 unfolding kindOf
-returns-8 c = sym (cond-f _ _ (ne-eqb _ _ ((c .before .before .match .rest) .0 .0 .0 .0 .0 .1)) ∙ cond-f _ _ (lt-leb (c .before .before .before .args .motion) 2 (omega arith)) ∙ cond-f _ _ (ne-eqb _ _ ((c .before .before .match .rest) .0 .0 .0 .0 .1)) ∙ cond-f _ _ (ne-eqb _ _ ((c .before .before .match .rest) .0 .0 .0 .1)) ∙ cond-f _ _ (ne-eqb _ _ ((c .before .before .match .rest) .0 .0 .1)) ∙ cond-f _ _ (ne-eqb _ _ ((c .before .before .match .rest) .0 .1)) ∙ cond-f _ _ (ne-eqb _ _ ((c .before .before .match .rest) .1)) ∙ cond-t _ _ (le-leb (c .before .before .before .args .motion) 31 (omega arith)))
+returns-8 c =
+    let two = c .before .before in
+    let motion = two .before .args .motion in
+    let no = two .match .rest in
+    let linear = cond-f _ _ (ne-eqb _ _ (no .0 .0 .0 .0 .0 .1)) ∙ cond-f _ _ (lt-leb motion 2 (omega arith)) in
+    let arc = cond-f _ _ (ne-eqb _ _ (no .0 .0 .0 .0 .1)) ∙ cond-f _ _ (ne-eqb _ _ (no .0 .0 .0 .1)) in
+    let akima = cond-f _ _ (ne-eqb _ _ (no .0 .0 .1)) in
+    let curve = akima ∙ cond-f _ _ (ne-eqb _ _ (no .0 .1)) ∙ cond-f _ _ (ne-eqb _ _ (no .1)) in
+    sym (linear ∙ arc ∙ curve ∙ cond-t _ _ (le-leb motion lastMotion (omega arith)))
 
 returns-9 : tie.Need-returns-9
 unfolding kindOf
-returns-9 c = sym (cond-f _ _ (ne-eqb _ _ ((c .before .before .match .rest) .0 .0 .0 .0 .0 .1)) ∙ cond-f _ _ (lt-leb (c .before .before .before .args .motion) 2 (omega arith)) ∙ cond-f _ _ (ne-eqb _ _ ((c .before .before .match .rest) .0 .0 .0 .0 .1)) ∙ cond-f _ _ (ne-eqb _ _ ((c .before .before .match .rest) .0 .0 .0 .1)) ∙ cond-f _ _ (ne-eqb _ _ ((c .before .before .match .rest) .0 .0 .1)) ∙ cond-f _ _ (ne-eqb _ _ ((c .before .before .match .rest) .0 .1)) ∙ cond-f _ _ (ne-eqb _ _ ((c .before .before .match .rest) .1)) ∙ cond-f _ _ (lt-leb (c .before .before .before .args .motion) 31 (omega arith)))
+returns-9 c =
+    let two = c .before .before in
+    let motion = two .before .args .motion in
+    let no = two .match .rest in
+    let linear = cond-f _ _ (ne-eqb _ _ (no .0 .0 .0 .0 .0 .1)) ∙ cond-f _ _ (lt-leb motion 2 (omega arith)) in
+    let arc = cond-f _ _ (ne-eqb _ _ (no .0 .0 .0 .0 .1)) ∙ cond-f _ _ (ne-eqb _ _ (no .0 .0 .0 .1)) in
+    let akima = cond-f _ _ (ne-eqb _ _ (no .0 .0 .1)) in
+    let curve = akima ∙ cond-f _ _ (ne-eqb _ _ (no .0 .1)) ∙ cond-f _ _ (ne-eqb _ _ (no .1)) in
+    sym (linear ∙ arc ∙ curve ∙ cond-f _ _ (lt-leb motion lastMotion (omega arith)))
 
 pub kind-of-spec : {M : Type 1} → statement M
 kind-of-spec =
