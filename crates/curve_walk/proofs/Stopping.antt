@@ -1,4 +1,4 @@
--- Where the writing walk stops and where it halves: what it writes there, and how far its cursor moves. Assumes nothing.
+-- LAWS. Where the writing walk stops and where it halves: what it writes there, and how far its cursor moves. Assumes nothing.
 use mathlib.Core.Path.{_≡_, refl, sym, ap, _∙_}
 use mathlib.Core.List.{List, [], _∷_, _++_}
 use mathlib.Core.Bool.{true, false}
@@ -7,8 +7,9 @@ use native.Mathlib.Omega.{arith}
 use lib.ListN.{length, length-append}
 use lib.Ieee.{Float}
 use Rattle.curve_metric.specs.Walk.{samples, flat, middle}
-use Rattle.curve_walk.specs.Walks.{encode, pointsOf, Written}
-use Rattle.curve_walk.specs.Lefts.{leftsOf, Recalls, Cursor}
+use Rattle.curve_walk.specs.Walks.{encode, pointsOf}
+use Rattle.curve_walk.specs.Lefts.{leftsOf}
+use Rattle.curve_walk.specs.Asks.{Written, Recalls, Cursor}
 use Rattle.curve_walk.specs.Writing.{points-zero, points-flat, points-halves, one-room, room-first, room-second, written-as, written-two}
 use Rattle.curve_walk.specs.Remembering.{lefts-zero, lefts-flat, lefts-halves, recalls-first, recalls-second, cursor-one, cursor-half, cursor-other, passed-one}
 

@@ -1,4 +1,4 @@
--- What is counted, one part after another. Assumes nothing.
+-- LAWS. What is counted, one part after another. Assumes nothing.
 use mathlib.Core.Path.{_≡_, refl, sym, ap, _∙_}
 use mathlib.Core.List.{List, [], _∷_, _++_}
 use mathlib.Core.Bool.{Bool, true, false, cond}
@@ -11,8 +11,11 @@ use lib.Ieee.{Float, lt}
 use Rattle.bspline_tables.specs.Tables.{advanced, grevilleAt}
 use Rattle.curve_metric.specs.Walk.{Sample, samples, flat, middle}
 use Rattle.curve_metric.specs.WalkLaws.{samples-zero, samples-flat, samples-halves, samples-le}
+use Rattle.curve_walk.specs.declared.Form.{Form}
+use Rattle.curve_walk.specs.declared.Form.the-variants.{Basis, Fit}
 use Rattle.curve_walk.specs.declared.Shape.{Shape}
-use Rattle.curve_walk.specs.Walks.{ownOf, endOwner, bumped, counted, Counted, Counts}
+use Rattle.curve_walk.specs.Walks.{ownIn, ownOf, endOwner, bumped, counted}
+use Rattle.curve_walk.specs.Asks.{Bumped, Counted, Counts}
 
 -- ---- owners never fall, and stay in place
 
@@ -27,12 +30,12 @@ advanced-in ks p t (suc left) o = go (lt (grevilleAt ks p o) t) (advanced-in ks 
     go false h = omega arith
 
 pub own-in : (s : Shape) (ks : List Float) (o : ℕ) (t : Float) → o ≤ s .n - 1 → (o ≤ ownOf s ks o t) × (ownOf s ks o t ≤ s .n - 1)
-unfolding ownOf
-own-in s ks o t h = go (s .basis)
+unfolding ownIn
+own-in s ks o t h = go (s .form)
   where
-    go : (b : Bool) → (o ≤ cond b (advanced ks (s .size) t (s .n - 1 - o) o) o) × (cond b (advanced ks (s .size) t (s .n - 1 - o) o) o ≤ s .n - 1)
-    go true = omega (arith, advanced-in ks (s .size) t (s .n - 1 - o) o)
-    go false = omega arith
+    go : (f : Form) → (o ≤ ownIn f (s .n) ks o t) × (ownIn f (s .n) ks o t ≤ s .n - 1)
+    go (Basis p) = omega (arith, advanced-in ks p t (s .n - 1 - o) o)
+    go (Fit k) = omega arith
 
 -- ---- one after another
 
@@ -59,10 +62,10 @@ counted-two {own} {o} {ss} {us} {vs} {l} {r} {r'} {xs} {xs'} es a b = record {
 -- ---- a stretch
 
 module _ (ev : Float → List Float) (ms : List ℕ) (tol : Float) (left : ℕ) (t0 : Float) (p0 : List Float) (t1 : Float) (p1 : List Float) {own : ℕ → Float → ℕ} {o : ℕ} {l : List ℕ} {r : ℕ} {xs : List ℕ} where
-  pub counted-zero : left ≡ 0 → (r ≡ own o t1) × (xs ≡ bumped l (own o t1 - 1)) → Counted own o (samples ev ms tol left t0 p0 t1 p1) l r xs
+  pub counted-zero : left ≡ 0 → Bumped own o t1 l r xs → Counted own o (samples ev ms tol left t0 p0 t1 p1) l r xs
   counted-zero h e = counted-one (record { time = t1; point = p1 }) (samples-zero ev ms tol left t0 p0 t1 p1 h) (e .0) (e .1)
 
-  pub counted-flat : {pm : List Float} {b : Bool} → pm ≡ ev (middle t0 t1) → b ≡ flat ev ms tol t0 p0 t1 p1 pm → b ≡ true → (r ≡ own o t1) × (xs ≡ bumped l (own o t1 - 1)) → Counted own o (samples ev ms tol left t0 p0 t1 p1) l r xs
+  pub counted-flat : {pm : List Float} {b : Bool} → pm ≡ ev (middle t0 t1) → b ≡ flat ev ms tol t0 p0 t1 p1 pm → b ≡ true → Bumped own o t1 l r xs → Counted own o (samples ev ms tol left t0 p0 t1 p1) l r xs
   counted-flat ep eb h e = counted-one (record { time = t1; point = p1 }) (samples-flat ev ms tol left t0 p0 t1 p1 ep (sym eb ∙ h)) (e .0) (e .1)
 
   pub counted-halves : {pm : List Float} {b : Bool} {r' : ℕ} {xs' : List ℕ} → (left ≡ 0 → ⊥) → pm ≡ ev (middle t0 t1) → b ≡ flat ev ms tol t0 p0 t1 p1 pm → b ≡ false

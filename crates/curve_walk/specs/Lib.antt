@@ -1,5 +1,6 @@
 pub mod Walks
 pub mod Lefts
+pub mod Asks
 pub mod Points
 pub mod Counting
 pub mod Writing

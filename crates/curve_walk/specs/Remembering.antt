@@ -1,4 +1,4 @@
--- What the counting walk remembers and the writing walk recalls. Assumes nothing.
+-- LAWS. What the counting walk remembers and the writing walk recalls. Assumes nothing.
 use mathlib.Core.Path.{_≡_, refl, sym, ap, _∙_, subst}
 use mathlib.Core.List.{List, [], _∷_, _++_}
 use mathlib.Core.Bool.{Bool, true, false, cond, _&&_}
@@ -12,7 +12,8 @@ use lib.Seq.{getD-append-add, getD-set-same, getD-set-other, sets, length-sets}
 use lib.Ieee.{Float}
 use borrow.Author.Tests.{eq-eqb, ne-eqb, ltb-true}
 use Rattle.curve_metric.specs.Walk.{flat, middle}
-use Rattle.curve_walk.specs.Lefts.{leftsOf, Recalls, Stored, Cursor}
+use Rattle.curve_walk.specs.Lefts.{leftsOf}
+use Rattle.curve_walk.specs.Asks.{Recalls, Stored, Cursor}
 use Rattle.curve_walk.specs.Counting.{pow-half}
 
 -- ---- stores, one list after another

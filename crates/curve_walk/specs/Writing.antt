@@ -1,4 +1,4 @@
--- What is written, one part after another. Assumes nothing.
+-- LAWS. What is written, one part after another. Assumes nothing.
 use mathlib.Core.Path.{_≡_, refl, sym, ap, _∙_, subst}
 use mathlib.Core.List.{List, [], _∷_, _++_, map}
 use mathlib.Core.Bool.{Bool, true, false}
@@ -14,7 +14,8 @@ use Rattle.floats.specs.Splice.{Splicing, spliced-spliced, length-spliced, spli
 use Rattle.curve_metric.specs.Walk.{Sample, samples, flat, middle}
 use Rattle.curve_metric.specs.WalkLaws.{samples-zero, samples-flat, samples-halves}
 use Rattle.bspline_tables.specs.Joins.{flatten-append, flatten-one, map-append}
-use Rattle.curve_walk.specs.Walks.{encode, pointsOf, Written}
+use Rattle.curve_walk.specs.Walks.{encode, pointsOf}
+use Rattle.curve_walk.specs.Asks.{Written}
 
 -- ---- the words of points
 
