@@ -1,4 +1,4 @@
--- The tables of a fit, as they are laid in the two lists. Assumes nothing.
+-- LAWS. The tables of a fit, as they are laid in the two lists. Assumes nothing.
 use mathlib.Core.Path.{_≡_, sym, ap, _∙_, subst}
 use mathlib.Core.Bool.{Bool}
 use mathlib.Core.List.{List, _++_}
@@ -12,19 +12,24 @@ use borrow.Rule.Slice.PartMut.{putMid, postOf, post-is}
 use Rattle.floats.specs.Numbers.{at}
 use Rattle.floats.specs.Lists.{upto, filled, rowsOf}
 use Rattle.floats.specs.Fill.{length-upto, at-filled, length-filled}
+use Rattle.layout.specs.Layout.{axisCodes, mostPoints}
 use Rattle.curve_metric.specs.Metric.{chordTo, chords}
 use Rattle.curve_metric.specs.Points.{length-rows}
 use Rattle.fit_knots.specs.Prepare.{FitReady, FitRoom}
 use Rattle.bspline_tables.specs.RowLaws.{copied, put, put-here, put-before}
 use Rattle.curve_walk.specs.Walks.{fitTimes, fitPoints, fitSlopes}
-use Rattle.curve_runs.specs.Ready.{Fitted}
+use Rattle.curve_runs.specs.Asks.{Fitted}
 
 -- the numbers of n points
-pub cells-in : (n ch : ℕ) → ch ≤ 10 → n * ch ≤ 10 * n
-cells-in n ch h = let a : n * ch ≤ n * 10 = mul-le-mul-left n h in omega arith
+pub cells-in : (n ch : ℕ) → ch ≤ axisCodes → n * ch ≤ axisCodes * n
+cells-in n ch h = let a : n * ch ≤ n * axisCodes = mul-le-mul-left n h in omega arith
+
+pub fitted-as : {a b : Bool} {n ch : ℕ} {ms : List ℕ} {pts : List Float} {m : ℕ} {ks cs : List Float} → a ≡ b
+    → Fitted a n ch ms pts m ks cs → Fitted b n ch ms pts m ks cs
+fitted-as {a} {b} {n} {ch} {ms} {pts} {m} {ks} {cs} e f = subst (λ (z : Bool). Fitted z n ch ms pts m ks cs) e f
 
 -- room for the fit
-pub fit-room : {pts ts : List Float} (n ch : ℕ) (ks cs slopes : List Float) → 2 ≤ n → n ≤ 257 → ch ≤ 10 → n * ch ≤ length pts → length ts ≡ n → 2 * n ≤ length ks → 20 * n ≤ length cs → n * ch ≤ length slopes
+pub fit-room : {pts ts : List Float} (n ch : ℕ) (ks cs slopes : List Float) → 2 ≤ n → n ≤ mostPoints → ch ≤ axisCodes → n * ch ≤ length pts → length ts ≡ n → 2 * n ≤ length ks → 2 * axisCodes * n ≤ length cs → n * ch ≤ length slopes
     → FitRoom pts ts (take (n + n - n) (drop n ks)) (take (n * ch) cs) (take (n * ch) slopes) n ch
 fit-room n ch ks cs slopes two few narrow given sums kr cr sr =
     let w = cells-in n ch narrow in

@@ -1,4 +1,4 @@
--- What a whole B-spline's samples leave in the counts: for each control point after the start, the length of its run. Assumes nothing.
+-- LAWS. What a whole B-spline's samples leave in the counts: for each control point after the start, the length of its run. Assumes nothing.
 use mathlib.Core.Path.{_≡_, refl, ap, _∙_}
 use mathlib.Core.List.{List, [], _∷_}
 use mathlib.Core.Bool.{Bool, true, false}

@@ -10,7 +10,7 @@ use Rattle.floats.specs.Numbers.{_⊕_, _⊖_, _⊗_, f¼, f¾}
 use Rattle.floats.specs.Lists.{filled}
 use Rattle.floats.specs.Fill.{upto-same}
 use Rattle.curve_metric.specs.Walk.{near, flat}
-use Rattle.bspline_tables.specs.Tables.{Curve, curveAt}
+use Rattle.bspline_tables.specs.Tables.{curveAt}
 use Rattle.curve_walk.specs.declared.Form.{Form}
 use Rattle.curve_walk.specs.declared.Form.the-variants.{Basis, Fit}
 use Rattle.curve_walk.specs.declared.Kept.{Kept}
@@ -20,13 +20,6 @@ use Rattle.curve_walk.specs.Asks.{Formed, Tables, Knotted, Advances, Str
 use Rattle.curve_walk.specs.Counting.{own-in}
 
 -- ---- the two forms
-
-module _ (s : Shape) {ks cs : List Float} where
-  pub basis-tables : {p : ℕ} → s .form ≡ Basis p → Tables s ks cs → Curve ks cs (s .n) p (s .ch)
-  basis-tables e t = subst (λ (f : Form). Formed f (s .n) (s .ch) ks cs) e (t .formed)
-
-  pub fit-tables : {k : Kept} → s .form ≡ Fit k → Tables s ks cs → Tables s ks cs × Formed (Fit k) (s .n) (s .ch) ks cs
-  fit-tables e t = (t, subst (λ (f : Form). Formed f (s .n) (s .ch) ks cs) e (t .formed))
 
 module _ (s : Shape) (ks cs : List Float) (t : Float) (l : List Float) {r : List Float} where
   pub basis-point : {p : ℕ} → s .form ≡ Basis p → r ≡ filled (curveAt ks cs (s .n) p (s .ch) t) (s .ch) l → r ≡ filled (pointAt s ks cs t) (s .ch) l

@@ -23,16 +23,25 @@ slice-reshare-prefix-copy-to : tie.Need-slice-reshare-prefix-copy-to
 slice-reshare-prefix-copy-to c = search needs
 
 slice-aggregate-copy-to : tie.Need-slice-aggregate-copy-to
-slice-aggregate-copy-to c = sym (length-take-le (c .before .before .before .before .before .before .before .before .before .before .before .args .n) (c .before .before .before .chord-parameters .last .1 .1 .1 .1 .0) (omega (arith, (c .before .before .before .chord-parameters .kept .1 .1 .1 .1 .0), (c .before .before .before .before .before .before .before .before .before .before .before .pre) .1 .1 .1 .0)))
+slice-aggregate-copy-to c =
+    let at-chord-parameters = c .before .before .before in
+    let start = at-chord-parameters .before .before .before .before .before .before .before .before in
+    sym (length-take-le (start .args .n) (at-chord-parameters .chord-parameters .last .1 .1 .1 .1 .0) (omega (arith, (at-chord-parameters .chord-parameters .kept .1 .1 .1 .1 .0), (start .pre) .1 .1 .1 .0)))
 
 copy-to-requires : tie.Need-copy-to-requires
-copy-to-requires c κs = omega (arith, length-take-le (c .before .before .before .before .before .before .before .before .before .before .before .before .args .n) (c .before .before .before .before .chord-parameters .last .1 .1 .1 .1 .0) (omega (arith, (c .before .before .before .before .chord-parameters .kept .1 .1 .1 .1 .0), (c .before .before .before .before .before .before .before .before .before .before .before .before .pre) .1 .1 .1 .0)), (c .before .before .before .before .before .before .before .before .before .before .before .before .pre) .1 .1 .0 .0)
+copy-to-requires c κs =
+    let at-chord-parameters = c .before .before .before .before in
+    let start = at-chord-parameters .before .before .before .before .before .before .before .before in
+    omega (arith, length-take-le (start .args .n) (at-chord-parameters .chord-parameters .last .1 .1 .1 .1 .0) (omega (arith, (at-chord-parameters .chord-parameters .kept .1 .1 .1 .1 .0), (start .pre) .1 .1 .1 .0)), (start .pre) .1 .1 .0 .0)
 
 slice-reshare-prefix-prepare-fit : tie.Need-slice-reshare-prefix-prepare-fit
 slice-reshare-prefix-prepare-fit c = search needs
 
 slice-aggregate-prepare-fit : tie.Need-slice-aggregate-prepare-fit
-slice-aggregate-prepare-fit c = sym (length-take-le (c .before .before .before .before .before .before .before .before .before .before .before .before .before .before .before .before .args .n) (c .before .before .before .before .before .before .before .before .chord-parameters .last .1 .1 .1 .1 .0) (omega (arith, (c .before .before .before .before .before .before .before .before .chord-parameters .kept .1 .1 .1 .1 .0), (c .before .before .before .before .before .before .before .before .before .before .before .before .before .before .before .before .pre) .1 .1 .1 .0)))
+slice-aggregate-prepare-fit c =
+    let at-chord-parameters = c .before .before .before .before .before .before .before .before in
+    let start = at-chord-parameters .before .before .before .before .before .before .before .before in
+    sym (length-take-le (start .args .n) (at-chord-parameters .chord-parameters .last .1 .1 .1 .1 .0) (omega (arith, (at-chord-parameters .chord-parameters .kept .1 .1 .1 .1 .0), (start .pre) .1 .1 .1 .0)))
 
 mul-prepare-fit : tie.Need-mul-prepare-fit
 mul-prepare-fit c = search needs
@@ -47,28 +56,52 @@ part-prepare-fit-end : tie.Need-part-prepare-fit-end
 part-prepare-fit-end c = search needs
 
 slice-relend-prefix-prepare-fit : tie.Need-slice-relend-prefix-prepare-fit
-slice-relend-prefix-prepare-fit c = omega (arith, cells-in (c .before .before .before .before .before .before .before .before .before .before .before .before .before .before .before .before .before .args .n) (c .before .before .before .before .before .before .before .before .before .before .before .before .before .before .before .before .before .args .ch) ((c .before .before .before .before .before .before .before .before .before .before .before .before .before .before .before .before .before .pre) .0 .1 .1), (c .before .before .before .before .before .before .before .before .before .before .before .before .before .before .before .before .before .pre) .1 .1 .0 .1)
+slice-relend-prefix-prepare-fit c =
+    let back0 = c .before .before .before .before .before .before .before .before .before .before .before .before .before .before in
+    let start = back0 .before .before .before in
+    omega (arith, cells-in (start .args .n) (start .args .ch) ((start .pre) .0 .1 .1), (start .pre) .1 .1 .0 .1)
 
 slice-aggregate-prepare-fit-2 : tie.Need-slice-aggregate-prepare-fit-2
-slice-aggregate-prepare-fit-2 c = sym (length-take-le _ (c .before .before .before .before .before .before .before .before .before .before .before .before .before .before .before .before .before .before .args .cs .now) (omega (arith, cells-in (c .before .before .before .before .before .before .before .before .before .before .before .before .before .before .before .before .before .before .args .n) (c .before .before .before .before .before .before .before .before .before .before .before .before .before .before .before .before .before .before .args .ch) ((c .before .before .before .before .before .before .before .before .before .before .before .before .before .before .before .before .before .before .pre) .0 .1 .1), (c .before .before .before .before .before .before .before .before .before .before .before .before .before .before .before .before .before .before .pre) .1 .1 .0 .1)))
+slice-aggregate-prepare-fit-2 c =
+    let back0 = c .before .before .before .before .before .before .before .before .before .before .before .before .before .before in
+    let start = back0 .before .before .before .before in
+    sym (length-take-le _ (start .args .cs .now) (omega (arith, cells-in (start .args .n) (start .args .ch) ((start .pre) .0 .1 .1), (start .pre) .1 .1 .0 .1)))
 
 slice-relend-prefix-prepare-fit-2 : tie.Need-slice-relend-prefix-prepare-fit-2
 slice-relend-prefix-prepare-fit-2 c = search needs
 
 slice-aggregate-prepare-fit-3 : tie.Need-slice-aggregate-prepare-fit-3
-slice-aggregate-prepare-fit-3 c = sym (length-take-le _ (c .before .before .before .before .before .before .before .before .before .before .before .before .before .before .before .before .before .before .before .args .slopes .now) ((c .before .before .before .before .before .before .before .before .before .before .before .before .before .before .before .before .before .before .before .pre) .1 .1 .1 .1))
+slice-aggregate-prepare-fit-3 c =
+    let back0 = c .before .before .before .before .before .before .before .before .before .before .before .before .before .before in
+    let start = back0 .before .before .before .before .before in
+    sym (length-take-le _ (start .args .slopes .now) ((start .pre) .1 .1 .1 .1))
 
 prepare-fit-requires : tie.Need-prepare-fit-requires
-prepare-fit-requires c κs = fit-room _ _ (c .before .before .before .before .before .before .copy-to .last .1 .0) (c .before .before .before .before .before .before .before .before .before .before .before .before .before .before .before .before .before .before .before .args .cs .now) (c .before .before .before .before .before .before .before .before .before .before .before .before .before .before .before .before .before .before .before .args .slopes .now) ((c .before .before .before .before .before .before .before .before .before .before .before .before .before .before .before .before .before .before .before .pre) .0 .0) ((c .before .before .before .before .before .before .before .before .before .before .before .before .before .before .before .before .before .before .before .pre) .0 .1 .0) ((c .before .before .before .before .before .before .before .before .before .before .before .before .before .before .before .before .before .before .before .pre) .0 .1 .1) ((c .before .before .before .before .before .before .before .before .before .before .before .before .before .before .before .before .before .before .before .pre) .1 .0 .1) (length-take-le (c .before .before .before .before .before .before .before .before .before .before .before .before .before .before .before .before .before .before .before .args .n) (c .before .before .before .before .before .before .before .before .before .before .before .chord-parameters .last .1 .1 .1 .1 .0) (omega (arith, (c .before .before .before .before .before .before .before .before .before .before .before .chord-parameters .kept .1 .1 .1 .1 .0), (c .before .before .before .before .before .before .before .before .before .before .before .before .before .before .before .before .before .before .before .pre) .1 .1 .1 .0))) (omega (arith, (c .before .before .before .before .before .before .copy-to .kept .1 .0), (c .before .before .before .before .before .before .before .before .before .before .before .before .before .before .before .before .before .before .before .pre) .1 .1 .0 .0)) ((c .before .before .before .before .before .before .before .before .before .before .before .before .before .before .before .before .before .before .before .pre) .1 .1 .0 .1) ((c .before .before .before .before .before .before .before .before .before .before .before .before .before .before .before .before .before .before .before .pre) .1 .1 .1 .1)
+prepare-fit-requires c κs =
+    let at-copy-to = c .before .before .before .before .before .before in
+    let at-chord-parameters = at-copy-to .before .before .before .before .before in
+    let start = at-chord-parameters .before .before .before .before .before .before .before .before in
+    fit-room _ _ (at-copy-to .copy-to .last .1 .0) (start .args .cs .now) (start .args .slopes .now) ((start .pre) .0 .0) ((start .pre) .0 .1 .0) ((start .pre) .0 .1 .1) ((start .pre) .1 .0 .1) (length-take-le (start .args .n) (at-chord-parameters .chord-parameters .last .1 .1 .1 .1 .0) (omega (arith, (at-chord-parameters .chord-parameters .kept .1 .1 .1 .1 .0), (start .pre) .1 .1 .1 .0))) (omega (arith, (at-copy-to .copy-to .kept .1 .0), (start .pre) .1 .1 .0 .0)) ((start .pre) .1 .1 .0 .1) ((start .pre) .1 .1 .1 .1)
 
 slice-reshare-prefix-copy-to-2 : tie.Need-slice-reshare-prefix-copy-to-2
-slice-reshare-prefix-copy-to-2 c = omega (arith, back-length (c .before .before .before .before .before .before .before .before .before .before .before .before .before .before .before .before .before .before .before .before .before .before .before .before .before .before .args .slopes .now) (c .before .before .before .before .before .before .prepare-fit .last .1 .1 .1 .1 .1 .1 .1 .0) ((c .before .before .before .before .before .before .before .before .before .before .before .before .before .before .before .before .before .before .before .before .before .before .before .before .before .before .args .n) * (c .before .before .before .before .before .before .before .before .before .before .before .before .before .before .before .before .before .before .before .before .before .before .before .before .before .before .args .ch)) (c .before .before .before .before .before .before .prepare-fit .kept .1 .1 .1 .1 .1 .1 .1 .0) ((c .before .before .before .before .before .before .before .before .before .before .before .before .before .before .before .before .before .before .before .before .before .before .before .before .before .before .pre) .1 .1 .1 .1), (c .before .before .before .before .before .before .before .before .before .before .before .before .before .before .before .before .before .before .before .before .before .before .before .before .before .before .pre) .1 .1 .1 .1)
+slice-reshare-prefix-copy-to-2 c =
+    let at-prepare-fit = c .before .before .before .before .before .before in
+    let back1 = at-prepare-fit .before .before .before .before .before .before .before .before .before .before .before .before .before .before in
+    let start = back1 .before .before .before .before .before .before in
+    omega (arith, back-length (start .args .slopes .now) (at-prepare-fit .prepare-fit .last .1 .1 .1 .1 .1 .1 .1 .0) ((start .args .n) * (start .args .ch)) (at-prepare-fit .prepare-fit .kept .1 .1 .1 .1 .1 .1 .1 .0) ((start .pre) .1 .1 .1 .1), (start .pre) .1 .1 .1 .1)
 
 slice-aggregate-copy-to-2 : tie.Need-slice-aggregate-copy-to-2
-slice-aggregate-copy-to-2 c = sym (length-take-le _ _ (omega (arith, back-length (c .before .before .before .before .before .before .before .before .before .before .before .before .before .before .before .before .before .before .before .before .before .before .before .before .before .before .before .args .slopes .now) (c .before .before .before .before .before .before .before .prepare-fit .last .1 .1 .1 .1 .1 .1 .1 .0) ((c .before .before .before .before .before .before .before .before .before .before .before .before .before .before .before .before .before .before .before .before .before .before .before .before .before .before .before .args .n) * (c .before .before .before .before .before .before .before .before .before .before .before .before .before .before .before .before .before .before .before .before .before .before .before .before .before .before .before .args .ch)) (c .before .before .before .before .before .before .before .prepare-fit .kept .1 .1 .1 .1 .1 .1 .1 .0) ((c .before .before .before .before .before .before .before .before .before .before .before .before .before .before .before .before .before .before .before .before .before .before .before .before .before .before .before .pre) .1 .1 .1 .1), (c .before .before .before .before .before .before .before .before .before .before .before .before .before .before .before .before .before .before .before .before .before .before .before .before .before .before .before .pre) .1 .1 .1 .1)))
+slice-aggregate-copy-to-2 c =
+    let at-prepare-fit = c .before .before .before .before .before .before .before in
+    let back1 = at-prepare-fit .before .before .before .before .before .before .before .before .before .before .before .before .before .before in
+    let start = back1 .before .before .before .before .before .before in
+    sym (length-take-le _ _ (omega (arith, back-length (start .args .slopes .now) (at-prepare-fit .prepare-fit .last .1 .1 .1 .1 .1 .1 .1 .0) ((start .args .n) * (start .args .ch)) (at-prepare-fit .prepare-fit .kept .1 .1 .1 .1 .1 .1 .1 .0) ((start .pre) .1 .1 .1 .1), (start .pre) .1 .1 .1 .1)))
 
 mul-copy-to : tie.Need-mul-copy-to
-mul-copy-to c = omega (arith, cells-in (c .before .before .before .before .before .before .before .before .before .before .before .before .before .before .before .before .before .before .before .before .before .before .before .before .before .before .before .args .n) (c .before .before .before .before .before .before .before .before .before .before .before .before .before .before .before .before .before .before .before .before .before .before .before .before .before .before .before .args .ch) ((c .before .before .before .before .before .before .before .before .before .before .before .before .before .before .before .before .before .before .before .before .before .before .before .before .before .before .before .pre) .0 .1 .1), (c .before .before .before .before .before .before .before .before .before .before .before .before .before .before .before .before .before .before .before .before .before .before .before .before .before .before .before .pre) .0 .1 .0)
+mul-copy-to c =
+    let back0 = c .before .before .before .before .before .before .before .before .before .before .before .before .before .before in
+    let start = back0 .before .before .before .before .before .before .before .before .before .before .before .before .before in
+    omega (arith, cells-in (start .args .n) (start .args .ch) ((start .pre) .0 .1 .1), (start .pre) .0 .1 .0)
 
 sub-copy-to : tie.Need-sub-copy-to
 sub-copy-to c = search needs
@@ -77,10 +110,18 @@ part-copy-to-start : tie.Need-part-copy-to-start
 part-copy-to-start c = search needs
 
 part-copy-to-end : tie.Need-part-copy-to-end
-part-copy-to-end c = omega (arith, back-length (c .before .before .before .before .before .before .before .before .before .before .before .before .before .before .before .before .before .before .before .before .before .before .before .before .before .before .before .args .cs .now) (c .before .before .before .before .before .before .before .prepare-fit .last .1 .1 .1 .1 .1 .1 .0) ((c .before .before .before .before .before .before .before .before .before .before .before .before .before .before .before .before .before .before .before .before .before .before .before .before .before .before .before .args .n) * (c .before .before .before .before .before .before .before .before .before .before .before .before .before .before .before .before .before .before .before .before .before .before .before .before .before .before .before .args .ch)) (c .before .before .before .before .before .before .before .prepare-fit .kept .1 .1 .1 .1 .1 .1 .0) (omega (arith, cells-in (c .before .before .before .before .before .before .before .before .before .before .before .before .before .before .before .before .before .before .before .before .before .before .before .before .before .before .before .args .n) (c .before .before .before .before .before .before .before .before .before .before .before .before .before .before .before .before .before .before .before .before .before .before .before .before .before .before .before .args .ch) ((c .before .before .before .before .before .before .before .before .before .before .before .before .before .before .before .before .before .before .before .before .before .before .before .before .before .before .before .pre) .0 .1 .1), (c .before .before .before .before .before .before .before .before .before .before .before .before .before .before .before .before .before .before .before .before .before .before .before .before .before .before .before .pre) .1 .1 .0 .1)), cells-in (c .before .before .before .before .before .before .before .before .before .before .before .before .before .before .before .before .before .before .before .before .before .before .before .before .before .before .before .args .n) (c .before .before .before .before .before .before .before .before .before .before .before .before .before .before .before .before .before .before .before .before .before .before .before .before .before .before .before .args .ch) ((c .before .before .before .before .before .before .before .before .before .before .before .before .before .before .before .before .before .before .before .before .before .before .before .before .before .before .before .pre) .0 .1 .1), (c .before .before .before .before .before .before .before .before .before .before .before .before .before .before .before .before .before .before .before .before .before .before .before .before .before .before .before .pre) .1 .1 .0 .1)
+part-copy-to-end c =
+    let at-prepare-fit = c .before .before .before .before .before .before .before in
+    let back1 = at-prepare-fit .before .before .before .before .before .before .before .before .before .before .before .before .before .before in
+    let start = back1 .before .before .before .before .before .before in
+    omega (arith, back-length (start .args .cs .now) (at-prepare-fit .prepare-fit .last .1 .1 .1 .1 .1 .1 .0) ((start .args .n) * (start .args .ch)) (at-prepare-fit .prepare-fit .kept .1 .1 .1 .1 .1 .1 .0) (omega (arith, cells-in (start .args .n) (start .args .ch) ((start .pre) .0 .1 .1), (start .pre) .1 .1 .0 .1)), cells-in (start .args .n) (start .args .ch) ((start .pre) .0 .1 .1), (start .pre) .1 .1 .0 .1)
 
 copy-to-requires-2 : tie.Need-copy-to-requires-2
-copy-to-requires-2 c κs = copy-room ((c .before .before .before .before .before .before .before .before .before .before .before .before .before .before .before .before .before .before .before .before .before .before .before .before .before .before .before .before .args .n) * (c .before .before .before .before .before .before .before .before .before .before .before .before .before .before .before .before .before .before .before .before .before .before .before .before .before .before .before .before .args .ch)) (c .before .before .before .before .before .before .before .before .before .before .before .before .before .before .before .before .before .before .before .before .before .before .before .before .before .before .before .before .args .cs .now) (c .before .before .before .before .before .before .before .before .before .before .before .before .before .before .before .before .before .before .before .before .before .before .before .before .before .before .before .before .args .slopes .now) (c .before .before .before .before .before .before .before .before .prepare-fit .last .1 .1 .1 .1 .1 .1 .0) (c .before .before .before .before .before .before .before .before .prepare-fit .last .1 .1 .1 .1 .1 .1 .1 .0) (omega (arith, cells-in (c .before .before .before .before .before .before .before .before .before .before .before .before .before .before .before .before .before .before .before .before .before .before .before .before .before .before .before .before .args .n) (c .before .before .before .before .before .before .before .before .before .before .before .before .before .before .before .before .before .before .before .before .before .before .before .before .before .before .before .before .args .ch) ((c .before .before .before .before .before .before .before .before .before .before .before .before .before .before .before .before .before .before .before .before .before .before .before .before .before .before .before .before .pre) .0 .1 .1), (c .before .before .before .before .before .before .before .before .before .before .before .before .before .before .before .before .before .before .before .before .before .before .before .before .before .before .before .before .pre) .1 .1 .0 .1)) ((c .before .before .before .before .before .before .before .before .before .before .before .before .before .before .before .before .before .before .before .before .before .before .before .before .before .before .before .before .pre) .1 .1 .1 .1) (c .before .before .before .before .before .before .before .before .prepare-fit .kept .1 .1 .1 .1 .1 .1 .0) (c .before .before .before .before .before .before .before .before .prepare-fit .kept .1 .1 .1 .1 .1 .1 .1 .0)
+copy-to-requires-2 c κs =
+    let at-prepare-fit = c .before .before .before .before .before .before .before .before in
+    let back1 = at-prepare-fit .before .before .before .before .before .before .before .before .before .before .before .before .before .before in
+    let start = back1 .before .before .before .before .before .before in
+    copy-room ((start .args .n) * (start .args .ch)) (start .args .cs .now) (start .args .slopes .now) (at-prepare-fit .prepare-fit .last .1 .1 .1 .1 .1 .1 .0) (at-prepare-fit .prepare-fit .last .1 .1 .1 .1 .1 .1 .1 .0) (omega (arith, cells-in (start .args .n) (start .args .ch) ((start .pre) .0 .1 .1), (start .pre) .1 .1 .0 .1)) ((start .pre) .1 .1 .1 .1) (at-prepare-fit .prepare-fit .kept .1 .1 .1 .1 .1 .1 .0) (at-prepare-fit .prepare-fit .kept .1 .1 .1 .1 .1 .1 .1 .0)
 
 same-length : tie.Need-same-length
 same-length c = search needs
@@ -95,7 +136,13 @@ same-length-4 : tie.Need-same-length-4
 same-length-4 c = search needs
 
 returns : tie.Need-returns
-returns c = laid (c .before .before .before .before .before .before .before .before .before .before .before .before .before .before .before .before .before .before .before .before .before .before .before .before .before .before .before .before .before .before .before .args .cubic) (c .before .before .before .before .before .before .before .before .before .before .before .before .before .before .before .before .before .before .before .before .before .before .before .before .before .before .before .before .before .before .before .args .n) (c .before .before .before .before .before .before .before .before .before .before .before .before .before .before .before .before .before .before .before .before .before .before .before .before .before .before .before .before .before .before .before .args .ch) (c .before .before .before .before .before .before .before .before .before .before .before .before .before .before .before .before .before .before .before .before .before .before .before .before .before .before .before .before .before .before .before .args .ms .now) (c .before .before .before .before .before .before .before .before .before .before .before .before .before .before .before .before .before .before .before .before .before .before .before .before .before .before .before .before .before .before .before .args .pts .now) (c .before .before .before .before .before .before .before .before .before .before .before .before .before .before .before .before .before .before .before .before .before .before .before .before .before .before .before .before .before .before .before .args .ks .now) (c .before .before .before .before .before .before .before .before .before .before .before .before .before .before .before .before .before .before .before .before .before .before .before .before .before .before .before .before .before .before .before .args .cs .now) (c .before .before .before .before .before .before .before .before .before .before .before .before .before .before .before .before .before .before .before .before .before .before .before .before .before .before .before .before .before .before .before .args .slopes .now) _ {ts = (c .before .before .before .before .before .before .before .before .before .before .before .before .before .before .before .before .before .before .before .before .before .before .before .chord-parameters .last .1 .1 .1 .1 .0)} {fts = (c .before .before .before .before .before .before .before .before .before .before .before .prepare-fit .last .1 .1 .1 .1 .1 .0)} {fps = (c .before .before .before .before .before .before .before .before .before .before .before .prepare-fit .last .1 .1 .1 .1 .1 .1 .0)} {bends = (c .before .before .before .before .before .before .before .before .before .before .before .prepare-fit .last .1 .1 .1 .1 .1 .1 .1 .0)} ((c .before .before .before .before .before .before .before .before .before .before .before .before .before .before .before .before .before .before .before .before .before .before .before .before .before .before .before .before .before .before .before .pre) .1 .1 .0 .0) (omega (arith, cells-in (c .before .before .before .before .before .before .before .before .before .before .before .before .before .before .before .before .before .before .before .before .before .before .before .before .before .before .before .before .before .before .before .args .n) (c .before .before .before .before .before .before .before .before .before .before .before .before .before .before .before .before .before .before .before .before .before .before .before .before .before .before .before .before .before .before .before .args .ch) ((c .before .before .before .before .before .before .before .before .before .before .before .before .before .before .before .before .before .before .before .before .before .before .before .before .before .before .before .before .before .before .before .pre) .0 .1 .1), (c .before .before .before .before .before .before .before .before .before .before .before .before .before .before .before .before .before .before .before .before .before .before .before .before .before .before .before .before .before .before .before .pre) .1 .1 .0 .1)) ((c .before .before .before .before .before .before .before .before .before .before .before .before .before .before .before .before .before .before .before .before .before .before .before .before .before .before .before .before .before .before .before .pre) .1 .1 .1 .1) (omega (arith, (c .before .before .before .before .before .before .before .before .before .before .before .before .before .before .before .before .before .before .before .before .before .before .before .chord-parameters .kept .1 .1 .1 .1 .0), (c .before .before .before .before .before .before .before .before .before .before .before .before .before .before .before .before .before .before .before .before .before .before .before .before .before .before .before .before .before .before .before .pre) .1 .1 .1 .0)) (c .before .before .before .before .before .before .before .before .before .before .before .before .before .before .before .before .before .before .before .before .before .before .before .chord-parameters .ensures) (c .before .before .before .before .before .before .before .before .before .before .before .before .before .before .before .before .before .before .copy-to .ensures) (c .before .before .before .before .before .before .before .before .before .before .before .prepare-fit .kept .1 .1 .1 .1 .1 .0) (c .before .before .before .before .before .before .before .before .before .before .before .prepare-fit .kept .1 .1 .1 .1 .1 .1 .0) (c .before .before .before .before .before .before .before .before .before .before .before .prepare-fit .kept .1 .1 .1 .1 .1 .1 .1 .0) (c .before .before .copy-to2 .ensures) (c .before .before .before .before .before .before .before .before .before .before .before .prepare-fit .ensures)
+returns c =
+    let at-copy-to2 = c .before .before in
+    let at-prepare-fit = at-copy-to2 .before .before .before .before .before .before .before .before .before in
+    let at-copy-to = at-prepare-fit .before .before .before .before .before .before .before in
+    let at-chord-parameters = at-copy-to .before .before .before .before .before in
+    let start = at-chord-parameters .before .before .before .before .before .before .before .before in
+    laid (start .args .cubic) (start .args .n) (start .args .ch) (start .args .ms .now) (start .args .pts .now) (start .args .ks .now) (start .args .cs .now) (start .args .slopes .now) _ {ts = (at-chord-parameters .chord-parameters .last .1 .1 .1 .1 .0)} {fts = (at-prepare-fit .prepare-fit .last .1 .1 .1 .1 .1 .0)} {fps = (at-prepare-fit .prepare-fit .last .1 .1 .1 .1 .1 .1 .0)} {bends = (at-prepare-fit .prepare-fit .last .1 .1 .1 .1 .1 .1 .1 .0)} ((start .pre) .1 .1 .0 .0) (omega (arith, cells-in (start .args .n) (start .args .ch) ((start .pre) .0 .1 .1), (start .pre) .1 .1 .0 .1)) ((start .pre) .1 .1 .1 .1) (omega (arith, (at-chord-parameters .chord-parameters .kept .1 .1 .1 .1 .0), (start .pre) .1 .1 .1 .0)) (at-chord-parameters .chord-parameters .ensures) (at-copy-to .copy-to .ensures) (at-prepare-fit .prepare-fit .kept .1 .1 .1 .1 .1 .0) (at-prepare-fit .prepare-fit .kept .1 .1 .1 .1 .1 .1 .0) (at-prepare-fit .prepare-fit .kept .1 .1 .1 .1 .1 .1 .1 .0) (at-copy-to2 .copy-to2 .ensures) (at-prepare-fit .prepare-fit .ensures)
 
 pub lay-in-spec : {M : Type 1} → statement M
 lay-in-spec =

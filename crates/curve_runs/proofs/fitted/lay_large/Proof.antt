@@ -11,7 +11,9 @@ slice-aggregate-lay-in-2 : tie.Need-slice-aggregate-lay-in-2
 slice-aggregate-lay-in-2 c = search needs
 
 lay-in-requires : tie.Need-lay-in-requires
-lay-in-requires c κs = (((c .before .before .before .before .before .before .before .before .pre) .0 .0, (omega (arith, (c .before .before .before .before .before .before .before .before .pre) .0 .1 .0), (c .before .before .before .before .before .before .before .before .pre) .0 .1 .1)), ((c .before .before .before .before .before .before .before .before .pre) .1 .0, ((c .before .before .before .before .before .before .before .before .pre) .1 .1, ((c .before .before .before .before .before .before .before .before .pre) .0 .1 .0, omega (arith, cells-in (c .before .before .before .before .before .before .before .before .args .n) (c .before .before .before .before .before .before .before .before .args .ch) ((c .before .before .before .before .before .before .before .before .pre) .0 .1 .1), (c .before .before .before .before .before .before .before .before .pre) .0 .1 .0)))))
+lay-in-requires c κs =
+    let start = c .before .before .before .before .before .before .before .before in
+    (((start .pre) .0 .0, (omega (arith, (start .pre) .0 .1 .0), (start .pre) .0 .1 .1)), ((start .pre) .1 .0, ((start .pre) .1 .1, ((start .pre) .0 .1 .0, omega (arith, cells-in (start .args .n) (start .args .ch) ((start .pre) .0 .1 .1), (start .pre) .0 .1 .0)))))
 
 same-length : tie.Need-same-length
 same-length c = search needs
