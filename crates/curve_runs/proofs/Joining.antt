@@ -26,14 +26,17 @@ module _ (f : ℕ → List ℕ) where
   pub stored-start : {l : List ℕ} → Stored l 0 (joined f 0) 0 l
   stored-start = rw joined-none stored-none
 
-  pub stored-more : {l : List ℕ} (j : ℕ) {r r' : ℕ} {ys zs : List ℕ} → Stored l 0 (joined f j) r ys → Stored ys r (f j) r' zs → Stored l 0 (joined f (j + 1)) r' zs
+  pub stored-more : {l : List ℕ} (j : ℕ) {r r' : ℕ} {ys zs : List ℕ} → Stored l 0 (joined f j) r ys → Stored ys r (f j) r' zs
+      → Stored l 0 (joined f (j + 1)) r' zs
   stored-more j a b = stored-two (flat-more f j) a b
 
   pub passed-none : 0 ≡ 0 + length (joined f 0)
   passed-none = rw joined-none refl
 
   pub passed-more : (j : ℕ) {r r' : ℕ} → r ≡ 0 + length (joined f j) → r' ≡ r + length (f j) → r' ≡ 0 + length (joined f (j + 1))
-  passed-more j a b = let n : length (joined f (j + 1)) ≡ length (joined f j) + length (f j) = ap length (flat-more f j) ∙ length-append (joined f j) (f j) in omega arith
+  passed-more j a b =
+      let n : length (joined f (j + 1)) ≡ length (joined f j) + length (f j) = ap length (flat-more f j)
+      ∙ length-append (joined f j) (f j) in omega arith
 
   recalls-fewer : {l : List ℕ} (j d : ℕ) → Recalls l 0 (joined f (j + d)) → Recalls l 0 (joined f j)
   recalls-fewer {l} j zero r = let e : j + 0 ≡ j = omega arith in subst (λ (k : ℕ). Recalls l 0 (joined f k)) e r

@@ -135,7 +135,8 @@ module _ {d : Drawing} {p : ℕ} {ms : List ℕ} {pts ws ks cs : List Float} (r 
       ∙ ap (λ (w : List ℕ). getD w k 0) ex ∙ past-filled (λ (i : ℕ). 0) l n k 0 ge ∙ sym (past-filled (runLength d ms pts ws) l n k 0 ge))
       (lt-or-le k n))
 
-  pub spline-counted : {s : Shape} → s ≡ shapeOf d (Form.Basis p) → (l : List ℕ) {xs ys : List ℕ} → d .n - 1 ≤ length l → xs ≡ filled (λ (i : ℕ). 0) (d .n - 1) l
+  pub spline-counted : {s : Shape} → s ≡ shapeOf d (Form.Basis p) → (l : List ℕ) {xs ys : List ℕ} → d .n - 1 ≤ length l
+      → xs ≡ filled (λ (i : ℕ). 0) (d .n - 1) l
       → ys ≡ counted (ownOf s ks) 1 (splineSamples s p ms ks cs) xs → ys ≡ filled (runLength d ms pts ws) (d .n - 1) l
   spline-counted {s} es l {xs} {ys} h ex ey =
       let ez : ys ≡ counted (ownOf (shapeOf d (Form.Basis p)) ks) 1 (splineSamples (shapeOf d (Form.Basis p)) p ms ks cs) xs = rw es at ey in
@@ -219,7 +220,8 @@ module _ {d : Drawing} {k : Kept} {ms : List ℕ} {pts ws ks cs : List Float} (r
         let ez : ys ≡ filled (λ (i : ℕ). length (fitRunAt (shapeOf d (Form.Fit k)) ms pts ks cs i)) (d .n - 1) xs = rw es at ey in
         ez ∙ ap (filled f (d .n - 1)) ex ∙ refilled f (λ (i : ℕ). 0) (d .n - 1) l
         ∙ filled-below f (runLength d ms pts ws) (d .n - 1) l (λ j g.
-        sym (ap (λ (z : List (List (List Float))). length (getD z j [])) full-runs ∙ ap length (at-upto (fitRunAt (shapeOf d (Form.Fit k)) ms pts ks cs) (d .n - 1) j [] g)))
+        let at-j = at-upto (fitRunAt (shapeOf d (Form.Fit k)) ms pts ks cs) (d .n - 1) j [] g in
+        sym (ap (λ (z : List (List (List Float))). length (getD z j [])) full-runs ∙ ap length at-j))
 
     pub fit-points : {s : Shape} → s ≡ shapeOf d (Form.Fit k) → flatten (upto (fitRunAt s ms pts ks cs) (s .n - 1)) ≡ flatten (drawnRuns d ms pts ws)
     fit-points es = rw es (ap flatten (sym full-runs))

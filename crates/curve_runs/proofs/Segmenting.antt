@@ -52,9 +52,22 @@ pub stretch-of-points : {s : Shape} {ms : List ℕ} {pts ks cs : List Float} →
     → Stretch s ms ks cs (part pts (i * s .ch) (s .ch)) (part pts (i * s .ch + s .ch) (s .ch))
 stretch-of-points {s} {ms} {pts} g i h =
     let r = from-in i (s .n) (s .ch) (length pts) h (g .points) in
-    record { tables = g .tables; metric = g .metric; first = length-part pts (i * s .ch) (s .ch) (omega arith); end = length-part pts (i * s .ch + s .ch) (s .ch) r }
+    record {
+      tables = g .tables;
+      metric = g .metric;
+      first = length-part pts (i * s .ch) (s .ch) (omega arith);
+      end = length-part pts
+          (i * s .ch + s .ch) (s .ch) r;
+    }
 
 -- ---- the run of a stretch
+
+-- the samples and the lefts of stretch i between two points
+abbrev walked : Shape → List ℕ → List Float → List Float → ℕ → List Float → List Float → List Sample
+walked s ms ks cs i p0 p1 = samples (evalOf s ks cs) ms (s .tol) depth (at ks i) p0 (at ks (i + 1)) p1
+
+abbrev leftsAt : Shape → List ℕ → List Float → List Float → ℕ → List Float → List Float → List ℕ
+leftsAt s ms ks cs i p0 p1 = leftsOf (evalOf s ks cs) ms (s .tol) depth (at ks i) p0 (at ks (i + 1)) p1
 
 module _ (s : Shape) (ms : List ℕ) (pts ks cs : List Float) where
   pub run-one : (i : ℕ) {b : Bool} → b ≡ le (at ks (i + 1) ⊖ at ks i) 1e-12 → b ≡ true → fitRunAt s ms pts ks cs i ≡ part pts (i * s .ch + s .ch) (s .ch) ∷ []
@@ -62,7 +75,7 @@ module _ (s : Shape) (ms : List ℕ) (pts ks cs : List Float) where
   run-one i e h = rw (sym e ∙ h) (ap (λ (p : List Float). p ∷ []) (sym (next-is pts i (s .ch))))
 
   pub run-walk : (i : ℕ) {b : Bool} → b ≡ le (at ks (i + 1) ⊖ at ks i) 1e-12 → b ≡ false
-      → fitRunAt s ms pts ks cs i ≡ pointsOf (samples (evalOf s ks cs) ms (s .tol) depth (at ks i) (part pts (i * s .ch) (s .ch)) (at ks (i + 1)) (part pts (i * s .ch + s .ch) (s .ch)))
+      → fitRunAt s ms pts ks cs i ≡ pointsOf (walked s ms ks cs i (part pts (i * s .ch) (s .ch)) (part pts (i * s .ch + s .ch) (s .ch)))
   unfolding fitRunAt
   run-walk i e h = rw (sym e ∙ h, first-is pts i (s .ch), next-is pts i (s .ch))
 
@@ -70,9 +83,12 @@ module _ (s : Shape) (ms : List ℕ) (pts ks cs : List Float) where
   unfolding fitRunAt
   run-few i = go (le (at ks (i + 1) ⊖ at ks i) 1e-12)
     where
-      go : (b : Bool) → length (cond b (row pts (s .ch) (i + 1) ∷ []) (pointsOf (samples (evalOf s ks cs) ms (s .tol) depth (at ks i) (row pts (s .ch) i) (at ks (i + 1)) (row pts (s .ch) (i + 1))))) ≤ 2 ^ depth
+      go : (b : Bool)
+          → length (cond b (row pts (s .ch) (i + 1) ∷ []) (pointsOf (walked s ms ks cs i (row pts (s .ch) i) (row pts (s .ch) (i + 1))))) ≤ 2 ^ depth
       go true = omega arith
-      go false = rw (length-map (samples (evalOf s ks cs) ms (s .tol) depth (at ks i) (row pts (s .ch) i) (at ks (i + 1)) (row pts (s .ch) (i + 1))) (λ (s : Sample). s .point)) (samples-le (evalOf s ks cs) ms (s .tol) depth (at ks i) (row pts (s .ch) i) (at ks (i + 1)) (row pts (s .ch) (i + 1)))
+      go false =
+          rw (length-map (walked s ms ks cs i (row pts (s .ch) i) (row pts (s .ch) (i + 1))) (λ (s : Sample). s .point))
+          (samples-le (evalOf s ks cs) ms (s .tol) depth (at ks i) (row pts (s .ch) i) (at ks (i + 1)) (row pts (s .ch) (i + 1)))
 
   -- what is remembered of it
   pub lefts-one : (i : ℕ) {b : Bool} → b ≡ le (at ks (i + 1) ⊖ at ks i) 1e-12 → b ≡ true → fitLefts s ms pts ks cs i ≡ 0 ∷ []
@@ -80,7 +96,7 @@ module _ (s : Shape) (ms : List ℕ) (pts ks cs : List Float) where
   lefts-one i e h = rw (sym e ∙ h)
 
   pub lefts-walk : (i : ℕ) {b : Bool} → b ≡ le (at ks (i + 1) ⊖ at ks i) 1e-12 → b ≡ false
-      → fitLefts s ms pts ks cs i ≡ leftsOf (evalOf s ks cs) ms (s .tol) depth (at ks i) (part pts (i * s .ch) (s .ch)) (at ks (i + 1)) (part pts (i * s .ch + s .ch) (s .ch))
+      → fitLefts s ms pts ks cs i ≡ leftsAt s ms ks cs i (part pts (i * s .ch) (s .ch)) (part pts (i * s .ch + s .ch) (s .ch))
   unfolding fitLefts
   lefts-walk i e h = rw (sym e ∙ h, first-is pts i (s .ch), next-is pts i (s .ch))
 
@@ -88,7 +104,8 @@ module _ (s : Shape) (ms : List ℕ) (pts ks cs : List Float) where
   unfolding fitLefts
   lefts-few i = go (le (at ks (i + 1) ⊖ at ks i) 1e-12)
     where
-      go : (b : Bool) → length (cond b (0 ∷ []) (leftsOf (evalOf s ks cs) ms (s .tol) depth (at ks i) (row pts (s .ch) i) (at ks (i + 1)) (row pts (s .ch) (i + 1)))) ≤ 2 ^ depth
+      go : (b : Bool)
+          → length (cond b (0 ∷ []) (leftsAt s ms ks cs i (row pts (s .ch) i) (row pts (s .ch) (i + 1)))) ≤ 2 ^ depth
       go true = omega arith
       go false = lefts-led (evalOf s ks cs) ms (s .tol) depth (at ks i) (row pts (s .ch) i) (at ks (i + 1)) (row pts (s .ch) (i + 1)) .few
 
@@ -126,14 +143,15 @@ module _ (s : Shape) (ms : List ℕ) (pts ks cs : List Float) (i : ℕ) (l : Lis
   one-counted e h = ap (λ (z : List (List Float)). set l i (length z)) (sym (run-one s ms pts ks cs i e h))
 
   pub walk-counted : {b : Bool} {r : ℕ} {xs : List ℕ} → b ≡ le (at ks (i + 1) ⊖ at ks i) 1e-12 → b ≡ false → IsFit (s .form) → FreshAt s i l
-      → Counted (ownOf s ks) (i + 1) (samples (evalOf s ks cs) ms (s .tol) depth (at ks i) (part pts (i * s .ch) (s .ch)) (at ks (i + 1)) (part pts (i * s .ch + s .ch) (s .ch))) l r xs
+      → Counted (ownOf s ks) (i + 1) (walked s ms ks cs i (part pts (i * s .ch) (s .ch)) (part pts (i * s .ch + s .ch) (s .ch))) l r xs
       → xs ≡ set l i (length (fitRunAt s ms pts ks cs i))
   walk-counted {b} {r} {xs} e h kind f c =
-      let ss : List Sample = samples (evalOf s ks cs) ms (s .tol) depth (at ks i) (part pts (i * s .ch) (s .ch)) (at ks (i + 1)) (part pts (i * s .ch + s .ch) (s .ch)) in
+      let ss : List Sample = walked s ms ks cs i (part pts (i * s .ch) (s .ch)) (part pts (i * s .ch + s .ch) (s .ch)) in
       let j : i + 1 - 1 ≡ i = omega arith in
       let n : length (fitRunAt s ms pts ks cs i) ≡ length ss = ap length (run-walk s ms pts ks cs i e h) ∙ length-map ss (λ (s : Sample). s .point) in
       let v : getD l i 0 + length ss ≡ length (fitRunAt s ms pts ks cs i) = omega (arith, f .none) in
-      c .is ∙ counted-still (ownOf s ks) (own-still s ks kind) (i + 1) ss l (omega (arith, f .here, f .table)) ∙ ap (λ (k : ℕ). set l k (getD l k 0 + length ss)) j ∙ ap (set l i) v
+      c .is ∙ counted-still (ownOf s ks) (own-still s ks kind) (i + 1) ss l (omega (arith, f .here, f .table))
+      ∙ ap (λ (k : ℕ). set l k (getD l k 0 + length ss)) j ∙ ap (set l i) v
 
 -- ---- counting one stretch after another
 
@@ -174,7 +192,8 @@ module _ (f : ℕ → List (List Float)) where
       let a : length (encode (flatten (upto f (i + 1)))) ≤ length (encode (flatten (upto f n))) = rw e at (words-in (i + 1) (n - (i + 1))) in
       omega arith
 
-  pub run-room : {l : List ℕ} (i n : ℕ) {r : ℕ} {xs : List ℕ} → i < n → length (encode (flatten (upto f n))) ≤ length l → Written l 0 (flatten (upto f i)) r xs → r + length (encode (f i)) ≤ length xs
+  pub run-room : {l : List ℕ} (i n : ℕ) {r : ℕ} {xs : List ℕ} → i < n → length (encode (flatten (upto f n))) ≤ length l
+      → Written l 0 (flatten (upto f i)) r xs → r + length (encode (f i)) ≤ length xs
   run-room {l} i n h g w = room-second (f i) (flat-more f i) (run-in l i n h g) w
 
   pub run-written : {l : List ℕ} (i n : ℕ) {r r' : ℕ} {xs xs' : List ℕ} → i < n → length (encode (flatten (upto f n))) ≤ length l

@@ -34,7 +34,8 @@ module _ (ev : Float → List Float) (ms : List ℕ) (tol t0 : Float) (p0 : List
   unfolding flat
   flat-no e h = rw (sym e ∙ h)
 
-  pub flat-no-2 : {a b : Bool} → a ≡ near ms tol p0 p1 pm → a ≡ true → b ≡ near ms tol p0 p1 (ev (t0 ⊕ f¼ ⊗ (t1 ⊖ t0))) → b ≡ false → false ≡ flat ev ms tol t0 p0 t1 p1 pm
+  pub flat-no-2 : {a b : Bool} → a ≡ near ms tol p0 p1 pm → a ≡ true → b ≡ near ms tol p0 p1 (ev (t0 ⊕ f¼ ⊗ (t1 ⊖ t0))) → b ≡ false
+      → false ≡ flat ev ms tol t0 p0 t1 p1 pm
   unfolding flat
   flat-no-2 e h g k = rw (sym e ∙ h, sym g ∙ k)
 
@@ -44,7 +45,8 @@ module _ (ev : Float → List Float) (ms : List ℕ) (tol t0 : Float) (p0 : List
   flat-last e h g k m = rw (sym e ∙ h, sym g ∙ k) m
 
 -- between other points
-pub stretch-at : {s : Shape} {ms : List ℕ} {ks cs p0 p1 q0 q1 : List Float} → Stretch s ms ks cs p0 p1 → length q0 ≡ s .ch → length q1 ≡ s .ch → Stretch s ms ks cs q0 q1
+pub stretch-at : {s : Shape} {ms : List ℕ} {ks cs p0 p1 q0 q1 : List Float} → Stretch s ms ks cs p0 p1 → length q0 ≡ s .ch → length q1 ≡ s .ch
+    → Stretch s ms ks cs q0 q1
 stretch-at w e0 e1 = record { tables = w .tables; metric = w .metric; first = e0; end = e1 }
 
 -- ---- owners

@@ -1,4 +1,4 @@
--- DEFINITIONS. What the counting walk remembers for the writing walk: for each sample, in order, how many halvings were left where its stretch was found flat. Assumes nothing.
+-- DEFINITIONS. What the counting walk remembers for the writing walk: for each sample the halvings left where its stretch was flat. Assumes nothing.
 use mathlib.Core.Bool.{cond}
 use mathlib.Core.List.{List, [], _∷_, _++_}
 use Prim.Native.Nat.{ℕ, zero, suc}

@@ -45,9 +45,9 @@ same-length c = (c .before .loop .inv) .1 .same
 
 returns : tie.Need-returns Inv-loop μ-loop
 returns c =
-    let at-loop = c .before in
-    let start = at-loop .before in
-    let e : (at-loop .loop .i) ≡ length (start .args .src .now) = omega arith in (at-loop .loop .inv) .1 .is ∙ ap (λ (z : ℕ). filled (at (start .args .src .now)) z (start .args .dst .now)) e
+    let src = (c .before .before .args .src .now) in
+    let e : (c .before .loop .i) ≡ length (c .before .before .args .src .now) = omega arith in
+    (c .before .loop .inv) .1 .is ∙ ap (λ (z : ℕ). filled (at src) z (c .before .before .args .dst .now)) e
 
 pub copy-to-spec : {M : Type 1} → statement M
 copy-to-spec =

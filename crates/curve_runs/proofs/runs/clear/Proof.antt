@@ -38,9 +38,8 @@ same-length c = (c .before .loop .inv) .1 .same
 
 returns : tie.Need-returns Inv-loop μ-loop
 returns c =
-    let at-loop = c .before in
-    let start = at-loop .before in
-    let e : (at-loop .loop .i) ≡ (start .args .m) = omega arith in (at-loop .loop .inv) .1 .is ∙ ap (λ (z : ℕ). filled (λ (k : ℕ). 0) z (start .args .counts .now)) e
+    let e : (c .before .loop .i) ≡ (c .before .before .args .m) = omega arith in
+    (c .before .loop .inv) .1 .is ∙ ap (λ (z : ℕ). filled (λ (k : ℕ). 0) z (c .before .before .args .counts .now)) e
 
 pub clear-spec : {M : Type 1} → statement M
 clear-spec =

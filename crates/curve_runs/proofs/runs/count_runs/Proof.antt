@@ -48,7 +48,8 @@ returns c =
     let e = (at-form2 .form2 .given .1) in
     let ready = ready-as e ((start .pre) .0) in
     let few = (c .if1 .taken) in
-    (empty-counted ready few (a .counts .now) (at-clear .clear .ensures), empty-remembers (shapeOf (a .d) (a .form)) (a .ms .now) (a .pts .now) (a .ks .now) (a .cs .now) e few _)
+    let counted = empty-counted ready few (a .counts .now) (at-clear .clear .ensures) in
+    (counted, empty-remembers (shapeOf (a .d) (a .form)) (a .ms .now) (a .pts .now) (a .ks .now) (a .cs .now) e few _)
 
 count-segments-requires : tie.Need-count-segments-requires
 count-segments-requires c κs =
@@ -80,9 +81,10 @@ returns-2 c =
     let e = (at-form .form .given .1) in
     let ready = ready-as e ((start .pre) .0) in
     let es = (at-shape-of .shape-of .ensures) ∙ ap (shapeOf (start .args .d)) e in
+    let shaped = (at-shape-of .shape-of .ensures) in
     let count = (at-count-spline .count-spline .ensures) in (
       spline-counted ready es (a .counts .now) ((start .pre) .1) (at-clear .clear .ensures) (count .0),
-      spline-remembers (shapeOf (a .d) (a .form)) (a .ms .now) (a .pts .now) (a .ks .now) (a .cs .now) (at-shape-of .shape-of .ensures) e (a .lefts .now) (count .1),
+      spline-remembers (shapeOf (a .d) (a .form)) (a .ms .now) (a .pts .now) (a .ks .now) (a .cs .now) shaped e (a .lefts .now) (count .1),
     )
 
 same-length-4 : tie.Need-same-length-4
@@ -104,9 +106,10 @@ returns-3 c =
     let ready = ready-as e ((start .pre) .0) in
     let es = (at-shape-of .shape-of .ensures) ∙ ap (shapeOf (start .args .d)) e in
     let some = (at-if1 .if1 .left) in
+    let shaped = (at-shape-of .shape-of .ensures) in
     let count = (at-count-segments .count-segments .ensures) in (
       fit-counted ready some es (a .counts .now) (at-clear .clear .ensures) (count .0),
-      fit-remembers (shapeOf (a .d) (a .form)) (a .ms .now) (a .pts .now) (a .ks .now) (a .cs .now) (at-shape-of .shape-of .ensures) e some (a .lefts .now) (count .1),
+      fit-remembers (shapeOf (a .d) (a .form)) (a .ms .now) (a .pts .now) (a .ks .now) (a .cs .now) shaped e some (a .lefts .now) (count .1),
     )
 
 pub count-runs-spec : {M : Type 1} → statement M

@@ -87,7 +87,8 @@ returns-3 c =
     let e = (at-form2 .form2 .given .1) in
     let ready = ready-as e ((start .pre) .0) in
     let es = (at-shape-of .shape-of .ensures) ∙ ap (shapeOf (start .args .d)) e in
-    (at-write-segments .write-segments .ensures) ∙ ap (λ (z : List (List Float)). spliced (start .args .out .now) 0 (encode z)) (fit-points ready (at-if1 .if1 .left) es)
+    let written = (at-write-segments .write-segments .ensures) in
+    written ∙ ap (λ (z : List (List Float)). spliced (start .args .out .now) 0 (encode z)) (fit-points ready (at-if1 .if1 .left) es)
 
 pub write-runs-spec : {M : Type 1} → statement M
 write-runs-spec =

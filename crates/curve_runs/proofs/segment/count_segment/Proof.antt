@@ -49,7 +49,9 @@ returns c =
     let start = at-if1 .before .before .before .before .before .before .before .before .before in
     let a = (start .args) in
     let short = (at-if1 .if1 .taken) in
-    (one-counted (a .s) (a .ms .now) (a .pts .now) (a .ks .now) (a .cs .now) (a .i) (a .counts .now) refl short, stored-one (lefts-one (a .s) (a .ms .now) (a .pts .now) (a .ks .now) (a .cs .now) (a .i) refl short) refl (at-remember .remember .ensures))
+    let one = lefts-one (a .s) (a .ms .now) (a .pts .now) (a .ks .now) (a .cs .now) (a .i) refl short in
+    let stored = stored-one one refl (at-remember .remember .ensures) in
+    (one-counted (a .s) (a .ms .now) (a .pts .now) (a .ks .now) (a .cs .now) (a .i) (a .counts .now) refl short, stored)
 
 mul-a : tie.Need-mul-a
 mul-a c =

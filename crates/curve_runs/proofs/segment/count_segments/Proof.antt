@@ -53,9 +53,12 @@ count-segment-requires c κs =
     let pre = (start .pre) in
     let inv = (at-loop .loop .inv) .1 in
     let here = (at-at-stretch .at-stretch .ensures) in
-    let fresh = fresh-at (λ (j : ℕ). length (fitRunAt (a .s) (a .ms .now) (a .pts .now) (a .ks .now) (a .cs .now) j)) (run-few (a .s) (a .ms .now) (a .pts .now) (a .ks .now) (a .cs .now)) (pre .1) (inv .0) (at-loop-test .loop-test .taken) in
+    let few-runs = run-few (a .s) (a .ms .now) (a .pts .now) (a .ks .now) (a .cs .now) in
+    let lengths : ℕ → ℕ = λ j. length (fitRunAt (a .s) (a .ms .now) (a .pts .now) (a .ks .now) (a .cs .now) j) in
+    let fresh = fresh-at lengths few-runs (pre .1) (inv .0) (at-loop-test .loop-test .taken) in
     let few : (at-loop .loop .i) ≤ mostPoints = omega (arith, (at-loop-test .loop-test .taken), pre .0 .0 .tables .few) in
-    let cursor = cursor-part (fitLefts (a .s) (a .ms .now) (a .pts .now) (a .ks .now) (a .cs .now)) (lefts-few (a .s) (a .ms .now) (a .pts .now) (a .ks .now) (a .cs .now)) (at-loop .loop .i) few (inv .1 .end) in
+    let few-lefts = lefts-few (a .s) (a .ms .now) (a .pts .now) (a .ks .now) (a .cs .now) in
+    let cursor = cursor-part (fitLefts (a .s) (a .ms .now) (a .pts .now) (a .ks .now) (a .cs .now)) few-lefts (at-loop .loop .i) few (inv .1 .end) in
     (segments-as _ (pre .0 .1) here (pre .0 .0), (fresh-as _ (pre .0 .1) here fresh, cursor))
 
 loop-less : tie.Need-loop-less Inv-loop μ-loop

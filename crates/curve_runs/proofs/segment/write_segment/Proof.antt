@@ -65,7 +65,8 @@ put-sample-requires c κs =
     let start = at-if1 .before .before .before .before .before .before .before .before .before in
     let a = (start .args) in
     let pre = (start .pre) .1 in
-    (one-room _ (a .out .now) _ (run-one (a .s) (a .ms .now) (a .pts .now) (a .ks .now) (a .cs .now) (a .i) refl (at-if1 .if1 .taken)) (pre .1 .1), cursor-one (pre .0 .1))
+    let run = run-one (a .s) (a .ms .now) (a .pts .now) (a .ks .now) (a .cs .now) (a .i) refl (at-if1 .if1 .taken) in
+    (one-room _ (a .out .now) _ run (pre .1 .1), cursor-one (pre .0 .1))
 
 same-length : tie.Need-same-length
 same-length c = search needs
@@ -78,7 +79,9 @@ returns c =
     let a = (start .args) in
     let short = (at-if1 .if1 .taken) in
     let put = (at-put-sample .put-sample .ensures) in
-    (written-as (run-one (a .s) (a .ms .now) (a .pts .now) (a .ks .now) (a .cs .now) (a .i) refl short) (put .0), passed-one (a .at .sample) (lefts-one (a .s) (a .ms .now) (a .pts .now) (a .ks .now) (a .cs .now) (a .i) refl short) (put .1))
+    let run = run-one (a .s) (a .ms .now) (a .pts .now) (a .ks .now) (a .cs .now) (a .i) refl short in
+    let lefts = lefts-one (a .s) (a .ms .now) (a .pts .now) (a .ks .now) (a .cs .now) (a .i) refl short in
+    (written-as run (put .0), passed-one (a .at .sample) lefts (put .1))
 
 mul-write-walk : tie.Need-mul-write-walk
 mul-write-walk c =

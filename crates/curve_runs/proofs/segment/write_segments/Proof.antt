@@ -32,9 +32,9 @@ sub-last c = omega (arith, (c .before .before .before .before .before .before .p
 
 loop-holds : tie.Need-loop-holds Inv-loop μ-loop
 loop-holds c =
-    let start = c .before .before .before .before .before .before in
-    let a = (start .args) in
-    ((omega arith, refl), (runs-none (fitRunAt (a .s) (a .ms .now) (a .pts .now) (a .ks .now) (a .cs .now)) _, passed-none (fitLefts (a .s) (a .ms .now) (a .pts .now) (a .ks .now) (a .cs .now))))
+    let a = (c .before .before .before .before .before .before .args) in
+    let none = runs-none (fitRunAt (a .s) (a .ms .now) (a .pts .now) (a .ks .now) (a .cs .now)) _ in
+    ((omega arith, refl), (none, passed-none (fitLefts (a .s) (a .ms .now) (a .pts .now) (a .ks .now) (a .cs .now))))
 
 add-next : tie.Need-add-next Inv-loop μ-loop
 add-next c = omega (arith, (c .loop-test .taken), (c .before .before .before .before .before .before .before .before .pre) .0 .0 .tables .few)
@@ -60,7 +60,8 @@ write-segment-requires c κs =
     let lefts = lefts-as (a .s) (pre .0 .1) here (a .ms .now) (a .pts .now) (a .ks .now) (a .cs .now) i in
     let memory = recalls-as (sym lefts) (recalls-part (fitLefts (a .s) (a .ms .now) (a .pts .now) (a .ks .now) (a .cs .now)) i _ more (inv .1) (pre .1 .0)) in
     let few : (at-loop .loop .i) ≤ mostPoints = omega (arith, more, pre .0 .0 .tables .few) in
-    let cursor = cursor-part (fitLefts (a .s) (a .ms .now) (a .pts .now) (a .ks .now) (a .cs .now)) (lefts-few (a .s) (a .ms .now) (a .pts .now) (a .ks .now) (a .cs .now)) i few (inv .1) in
+    let few-lefts = lefts-few (a .s) (a .ms .now) (a .pts .now) (a .ks .now) (a .cs .now) in
+    let cursor = cursor-part (fitLefts (a .s) (a .ms .now) (a .pts .now) (a .ks .now) (a .cs .now)) few-lefts i few (inv .1) in
     let fits = run-room (fitRunAt (a .s) (a .ms .now) (a .pts .now) (a .ks .now) (a .cs .now)) i _ more (pre .1 .1) (inv .0) in
     let room = subst (λ (z : List (List Float)). (at-loop .loop .at .word) + length (encode z) ≤ length (at-loop .loop .out)) (sym run) fits in
     (segments-as _ (pre .0 .1) here (pre .0 .0), ((memory, cursor), (omega (arith, more, count-as (a .s) (pre .0 .1) here), room)))
@@ -84,7 +85,8 @@ loop-again c =
     let one = (at-write-segment .write-segment .ensures) in
     let run = run-as (a .s) (pre .0 .1) here (a .ms .now) (a .pts .now) (a .ks .now) (a .cs .now) i in
     let lefts = lefts-as (a .s) (pre .0 .1) here (a .ms .now) (a .pts .now) (a .ks .now) (a .cs .now) i in
-    let written = run-written (fitRunAt (a .s) (a .ms .now) (a .pts .now) (a .ks .now) (a .cs .now)) i _ more (pre .1 .1) (inv .1 .0) (written-as (sym run) (one .0)) in
+    let next = written-as (sym run) (one .0) in
+    let written = run-written (fitRunAt (a .s) (a .ms .now) (a .pts .now) (a .ks .now) (a .cs .now)) i _ more (pre .1 .1) (inv .1 .0) next in
     let passed = one .1 ∙ ap (λ (z : List ℕ). (at-loop .loop .at .sample) + length z) lefts in (
       (omega (arith, more), (at-write-segment .write-segment .kept .1 .1 .1 .1 .1 .1 .1 .1 .0) ∙ inv .0 .1),
       (written, passed-more (fitLefts (a .s) (a .ms .now) (a .pts .now) (a .ks .now) (a .cs .now)) i (inv .1 .1) passed),
