@@ -1,4 +1,4 @@
--- Laws of a spline's groups: none is empty; its channels are geometric axes, no code twice, at most 10; the blocks with a point are those with a channel's cell. Assumes nothing.
+-- LAWS. A spline's groups: none is empty; its channels are geometric axes, no code twice; the blocks with a point have a channel's cell. Assumes nothing.
 use Prim.Native.Nat.{ℕ, zero, suc, _+_, _*_, _≤_, _<_}
 use mathlib.Core.Option.{none, some}
 use lib.Seq.{getD-take, getD-drop}
@@ -20,7 +20,7 @@ use Rattle.rows.specs.Masks.{member-append, member-keep}
 use Rattle.spline_points.specs.Channels.{Once, Good, Distinct, channels-good, channels-few, once-distinct, distinct-keep, none-good}
 use Rattle.spline_points.specs.Keeps.{member-here}
 use Rattle.spline_points.specs.Points.{Spline, channels, channelsFrom, blockAt}
-use Rattle.spline_emission.specs.Emits.{bit-below}
+use Rattle.spline_emission.specs.Frames.{bit-below}
 use Rattle.spline_places.specs.Groups.{sampleCell, ownCell, isMarked, pointGroup, heldGroup}
 
 -- ---- no group is empty
@@ -101,7 +101,8 @@ channels-stay gs cs [] k m = m
 channels-stay gs cs (r ∷ rs) k m = channels-stay gs (cs ++ keep (λ (k : ℕ). has (presentOf r) k && not (member k cs)) gs) rs k
     (member-append k cs (keep (λ (k : ℕ). has (presentOf r) k && not (member k cs)) gs) ∙ rw m)
 
-pub channels-cover : (gs cs : List ℕ) (rs : List (List ℕ)) (i k : ℕ) → i < length rs → member k gs ≡ true → has (presentOf (getD rs i [])) k ≡ true → member k (channelsFrom gs cs rs) ≡ true
+pub channels-cover : (gs cs : List ℕ) (rs : List (List ℕ)) (i k : ℕ) → i < length rs → member k gs ≡ true → has (presentOf (getD rs i [])) k ≡ true
+    → member k (channelsFrom gs cs rs) ≡ true
 unfolding channelsFrom
 channels-cover gs cs [] i k l m e = absurd (omega arith)
 channels-cover gs cs (r ∷ rs) (suc i) k l m e = channels-cover gs (cs ++ keep (λ (k : ℕ). has (presentOf r) k && not (member k cs)) gs) rs i k (omega arith) m e

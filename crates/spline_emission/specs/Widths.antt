@@ -1,4 +1,4 @@
--- Laws of the runs of a curve: how many there are, how wide their points, how many points they have at most. Assumes nothing.
+-- LAWS. The runs of a curve: how many there are, how wide their points, how many points they have at most. Assumes nothing.
 use Prim.Native.Nat.{ℕ, zero, suc, _+_, _*_, _-_, _^_, _≤_, _<_}
 use mathlib.Core.Path.{_≡_, refl, sym, _∙_, ap}
 use mathlib.Core.Bool.{Bool, true, false, cond}
@@ -21,7 +21,9 @@ use Rattle.curve_metric.specs.Metric.{pointOf, chords}
 use Rattle.curve_metric.specs.Walk.{Sample, middle, samples, flat}
 use Rattle.fit_knots.specs.Fit.{Fit, keptTo, fitOf, pieceFrom, pieceOf, evalFit, fitRun, fitRuns}
 use Rattle.bspline_tables.specs.Basis.{Bspline, basisOf, spansOf, evalBasis, basisSamples, Owned, owned, ownerFrom, runOf, basisRuns}
-use Rattle.curve_runs.specs.Runs.{curveRuns}
+use Rattle.layout.specs.Layout.{mostPoints}
+use Rattle.motion.specs.Motion.{isBasis, isCubic}
+use Rattle.curve_runs.specs.Runs.{runsBy, curveRuns}
 
 -- ---- lists of rows of one length
 module _ {A : Type 0} where
@@ -74,16 +76,19 @@ module _ (eval : Float → List Float) (ms : List ℕ) (tol : Float) where
   samples-few zero t0 p0 t1 p1 = omega arith
   samples-few (suc left) t0 p0 t1 p1 = one (flat eval ms tol t0 p0 t1 p1 (eval (middle t0 t1))) (samples eval ms tol left t0 p0 (middle t0 t1) (eval (middle t0 t1))) (samples eval ms tol left (middle t0 t1) (eval (middle t0 t1)) t1 p1) (samples-few left t0 p0 (middle t0 t1) (eval (middle t0 t1))) (samples-few left (middle t0 t1) (eval (middle t0 t1)) t1 p1)
     where
-      one : (b : Bool) (xs ys : List Sample) → length xs ≤ 2 ^ left → length ys ≤ 2 ^ left → length (cond b (record { time = t1; point = p1 } ∷ []) (xs ++ ys)) ≤ 2 ^ suc left
+      one : (b : Bool) (xs ys : List Sample) → length xs ≤ 2 ^ left → length ys ≤ 2 ^ left
+          → length (cond b (record { time = t1; point = p1 } ∷ []) (xs ++ ys)) ≤ 2 ^ suc left
       one true xs ys h k = omega (arith, pow-pos left)
       one false xs ys h k = rw (length-append xs ys) (omega arith)
 
-  samples-wide : (n : ℕ) → ((t : Float) → length (eval t) ≡ n) → (left : ℕ) (t0 : Float) (p0 : List Float) (t1 : Float) (p1 : List Float) → length p1 ≡ n → Sized n (points (samples eval ms tol left t0 p0 t1 p1))
+  samples-wide : (n : ℕ) → ((t : Float) → length (eval t) ≡ n) → (left : ℕ) (t0 : Float) (p0 : List Float) (t1 : Float) (p1 : List Float)
+      → length p1 ≡ n → Sized n (points (samples eval ms tol left t0 p0 t1 p1))
   unfolding samples
   samples-wide n h zero t0 p0 t1 p1 e = sized-one n p1 e
   samples-wide n h (suc left) t0 p0 t1 p1 e = one (flat eval ms tol t0 p0 t1 p1 (eval (middle t0 t1))) (samples eval ms tol left t0 p0 (middle t0 t1) (eval (middle t0 t1))) (samples eval ms tol left (middle t0 t1) (eval (middle t0 t1)) t1 p1) (samples-wide n h left t0 p0 (middle t0 t1) (eval (middle t0 t1)) (h (middle t0 t1))) (samples-wide n h left (middle t0 t1) (eval (middle t0 t1)) t1 p1 e)
     where
-      one : (b : Bool) (xs ys : List Sample) → Sized n (points xs) → Sized n (points ys) → Sized n (points (cond b (record { time = t1; point = p1 } ∷ []) (xs ++ ys)))
+      one : (b : Bool) (xs ys : List Sample) → Sized n (points xs) → Sized n (points ys)
+          → Sized n (points (cond b (record { time = t1; point = p1 } ∷ []) (xs ++ ys)))
       one true xs ys s t = sized-one n p1 e
       one false xs ys s t = rw (map-append (λ (s : Sample). s .point) xs ys) (sized-append n (points xs) (points ys) s t)
 
@@ -94,7 +99,8 @@ kept-below ts zero zero h = omega arith
 kept-below ts zero (suc w) h = absurd (omega arith)
 kept-below ts (suc k) w h = one (lt 1e-12 (at ts (k + 1) ⊖ at ts (getD (keptTo ts k) (length (keptTo ts k) - 1) 0))) (kept-below ts k) h
   where
-    one : (b : Bool) → ((w : ℕ) → w < length (keptTo ts k) → getD (keptTo ts k) w 0 ≤ k) → w < length (cond b (keptTo ts k ++ ((k + 1) ∷ [])) (keptTo ts k)) → getD (cond b (keptTo ts k ++ ((k + 1) ∷ [])) (keptTo ts k)) w 0 ≤ suc k
+    one : (b : Bool) → ((w : ℕ) → w < length (keptTo ts k) → getD (keptTo ts k) w 0 ≤ k)
+        → w < length (cond b (keptTo ts k ++ ((k + 1) ∷ [])) (keptTo ts k)) → getD (cond b (keptTo ts k ++ ((k + 1) ∷ [])) (keptTo ts k)) w 0 ≤ suc k
     one false i l = omega (arith, i w l)
     one true i l = ⊎-elim
         (λ (q : w < length (keptTo ts k)). rw (List·getD-append (keptTo ts k) ((k + 1) ∷ []) 0 w q) (omega (arith, i w q)))
@@ -117,7 +123,8 @@ getD-map f [] i d e h = absurd (omega arith)
 getD-map f (x ∷ xs) zero d e h = refl
 getD-map f (x ∷ xs) (suc i) d e h = getD-map f xs i d e (omega arith)
 
-eval-wide : (cubic : Bool) (n k : ℕ) (pts : List (List Float)) (ts : List Float) → Sized n pts → k < length pts → 2 ≤ length (keptTo ts k) → (t : Float) → length (evalFit (fitOf cubic pts ts (keptTo ts k)) t) ≡ n
+eval-wide : (cubic : Bool) (n k : ℕ) (pts : List (List Float)) (ts : List Float) → Sized n pts → k < length pts → 2 ≤ length (keptTo ts k)
+    → (t : Float) → length (evalFit (fitOf cubic pts ts (keptTo ts k)) t) ≡ n
 unfolding evalFit fitOf pieceOf
 eval-wide cubic n k pts ts s l two t =
     let ks : List ℕ = keptTo ts k in
@@ -127,13 +134,15 @@ eval-wide cubic n k pts ts s l two t =
     length-upto _ (length (pointOf (map (pointOf pts) ks) w))
     ∙ ap length (getD-map (pointOf pts) ks w 0 [] lw) ∙ sized-at n pts (getD ks w 0) s (omega (arith, kept-below ts k w lw))
 
-fit-run-wide : (fit : Fit) (ms : List ℕ) (tol : Float) (pts : List (List Float)) (ts : List Float) (n i : ℕ) → ((t : Float) → length (evalFit fit t) ≡ n) → Sized n pts → i + 1 < length pts → Sized n (fitRun fit ms tol pts ts i)
+fit-run-wide : (fit : Fit) (ms : List ℕ) (tol : Float) (pts : List (List Float)) (ts : List Float) (n i : ℕ)
+    → ((t : Float) → length (evalFit fit t) ≡ n) → Sized n pts → i + 1 < length pts → Sized n (fitRun fit ms tol pts ts i)
 unfolding fitRun
 fit-run-wide fit ms tol pts ts n i h s l =
     let e : length (pointOf pts (i + 1)) ≡ n = sized-at n pts (i + 1) s l in
     sized-cond n (le (at ts (i + 1) ⊖ at ts i) 1e-12) (pointOf pts (i + 1) ∷ []) (map (λ (s : Sample). s .point) (samples (evalFit fit) ms tol 20 (at ts i) (pointOf pts i) (at ts (i + 1)) (pointOf pts (i + 1)))) (sized-one n (pointOf pts (i + 1)) e) (samples-wide (evalFit fit) ms tol n h 20 (at ts i) (pointOf pts i) (at ts (i + 1)) (pointOf pts (i + 1)) e)
 
-fit-wide : (cubic : Bool) (ms : List ℕ) (tol : Float) (pts : List (List Float)) (n : ℕ) → 1 ≤ length pts → Sized n pts → Sized n (flatten (fitRuns cubic ms tol pts))
+fit-wide : (cubic : Bool) (ms : List ℕ) (tol : Float) (pts : List (List Float)) (n : ℕ) → 1 ≤ length pts → Sized n pts
+    → Sized n (flatten (fitRuns cubic ms tol pts))
 unfolding fitRuns Sized
 fit-wide cubic ms tol pts n some s = one (ltb (length ks) 2) refl
   where
@@ -143,7 +152,8 @@ fit-wide cubic ms tol pts n some s = one (ltb (length ks) 2) refl
     ks : List ℕ
     ks = keptTo ts (length pts - 1)
 
-    one : (b : Bool) → ltb (length ks) 2 ≡ b → Sized n (flatten (cond b (upto (λ (i : ℕ). []) (length pts - 1)) (upto (fitRun (fitOf cubic pts ts ks) ms tol pts ts) (length pts - 1))))
+    one : (b : Bool) → ltb (length ks) 2 ≡ b
+        → Sized n (flatten (cond b (upto (λ (i : ℕ). []) (length pts - 1)) (upto (fitRun (fitOf cubic pts ts ks) ms tol pts ts) (length pts - 1))))
     one true e = sized-flat n (λ (i : ℕ). []) (length pts - 1) (λ i l. tt)
     one false e = sized-flat n (fitRun (fitOf cubic pts ts ks) ms tol pts ts) (length pts - 1)
         (λ i l. fit-run-wide (fitOf cubic pts ts ks) ms tol pts ts n i (eval-wide cubic n (length pts - 1) pts ts s (omega arith) (ltb-false (length ks) 2 e)) s (omega arith))
@@ -176,14 +186,16 @@ unfolding basisSamples
 basis-samples-wide b ms tol n e = sized-map-flat (λ (s : Sample). s .point) n _ (spansOf b)
     (λ j. samples-wide (evalBasis b) ms tol n (basis-eval-wide b n e) 20 _ _ _ _ (basis-eval-wide b n e _))
 
-basis-wide : (sd : ℕ) (ms : List ℕ) (tol : Float) (pts : List (List Float)) (ws : List Float) (n : ℕ) → 1 ≤ length pts → Sized n pts → Sized n (flatten (basisRuns sd ms tol pts ws))
+basis-wide : (sd : ℕ) (ms : List ℕ) (tol : Float) (pts : List (List Float)) (ws : List Float) (n : ℕ) → 1 ≤ length pts → Sized n pts
+    → Sized n (flatten (basisRuns sd ms tol pts ws))
 unfolding basisRuns runOf basisOf
 basis-wide sd ms tol pts ws n some s =
     let b : Bspline = basisOf sd pts ws in
     sized-flat n (runOf (owned b 1 (basisSamples b ms tol))) (length pts - 1) (λ i l. sized-keep (λ (s : Owned). s .point) n (λ (s : Owned). eqb (s .owner) (i + 1)) (owned b 1 (basisSamples b ms tol))
     (owned-wide b n 1 (basisSamples b ms tol) (basis-samples-wide b ms tol n (sized-at n pts 0 s some))))
 
-basis-run-few : (sd : ℕ) (ms : List ℕ) (tol : Float) (pts : List (List Float)) (ws : List Float) (i : ℕ) → length pts ≤ 257 → length (runOf (owned (basisOf sd pts ws) 1 (basisSamples (basisOf sd pts ws) ms tol)) i) ≤ 2 ^ 48
+basis-run-few : (sd : ℕ) (ms : List ℕ) (tol : Float) (pts : List (List Float)) (ws : List Float) (i : ℕ) → length pts ≤ mostPoints
+    → length (runOf (owned (basisOf sd pts ws) 1 (basisSamples (basisOf sd pts ws) ms tol)) i) ≤ 2 ^ 48
 unfolding runOf basisSamples basisOf
 basis-run-few sd ms tol pts ws i l =
     let b : Bspline = basisOf sd pts ws in
@@ -212,18 +224,24 @@ basis-many : (sd : ℕ) (ms : List ℕ) (tol : Float) (pts : List (List Float)) 
 unfolding basisRuns
 basis-many sd ms tol pts ws = length-upto (runOf (owned (basisOf sd pts ws) 1 (basisSamples (basisOf sd pts ws) ms tol))) (length pts - 1)
 
-pub runs-many : (motion sd : ℕ) (ms : List ℕ) (tol : Float) (pts : List (List Float)) (ws : List Float) → length (curveRuns motion sd ms tol pts ws) ≡ length pts - 1
-unfolding curveRuns
-runs-many motion sd ms tol pts ws =
-    either (eqb motion 6) (basisRuns sd ms tol pts ws) (fitRuns (eqb motion 7) ms tol pts) (length pts - 1) (basis-many sd ms tol pts ws) (fit-many (eqb motion 7) ms tol pts)
+pub by-many : (basis cubic : Bool) (sd : ℕ) (ms : List ℕ) (tol : Float) (pts : List (List Float)) (ws : List Float)
+    → length (runsBy basis cubic sd ms tol pts ws) ≡ length pts - 1
+by-many basis cubic sd ms tol pts ws =
+    either basis (basisRuns sd ms tol pts ws) (fitRuns cubic ms tol pts) (length pts - 1) (basis-many sd ms tol pts ws) (fit-many cubic ms tol pts)
 
-pub runs-wide : (motion sd : ℕ) (ms : List ℕ) (tol : Float) (pts : List (List Float)) (ws : List Float) (n : ℕ) → 1 ≤ length pts → Sized n pts → Sized n (flatten (curveRuns motion sd ms tol pts ws))
+pub runs-many : (motion sd : ℕ) (ms : List ℕ) (tol : Float) (pts : List (List Float)) (ws : List Float)
+    → length (curveRuns motion sd ms tol pts ws) ≡ length pts - 1
 unfolding curveRuns
-runs-wide motion sd ms tol pts ws n some s = one (eqb motion 6)
+runs-many motion sd ms tol pts ws = by-many (isBasis motion) (isCubic motion) sd ms tol pts ws
+
+pub runs-wide : (motion sd : ℕ) (ms : List ℕ) (tol : Float) (pts : List (List Float)) (ws : List Float) (n : ℕ) → 1 ≤ length pts → Sized n pts
+    → Sized n (flatten (curveRuns motion sd ms tol pts ws))
+unfolding curveRuns
+runs-wide motion sd ms tol pts ws n some s = one (isBasis motion)
   where
-    one : (b : Bool) → Sized n (flatten (cond b (basisRuns sd ms tol pts ws) (fitRuns (eqb motion 7) ms tol pts)))
+    one : (b : Bool) → Sized n (flatten (runsBy b (isCubic motion) sd ms tol pts ws))
     one true = basis-wide sd ms tol pts ws n some s
-    one false = fit-wide (eqb motion 7) ms tol pts n some s
+    one false = fit-wide (isCubic motion) ms tol pts n some s
 
 upto-few : (f : ℕ → List (List Float)) (c i b : ℕ) → ((j : ℕ) → length (f j) ≤ b) → length (getD (upto f c) i []) ≤ b
 upto-few f c i b h = ⊎-elim
@@ -231,7 +249,8 @@ upto-few f c i b h = ⊎-elim
     (λ (g : c ≤ i). rw (List·getD-eq-default (upto f c) [] {n = i} (rw (length-upto f c) g)) (omega arith))
     (lt-or-le i c)
 
-pick-few : (b : Bool) (xs ys : List (List (List Float))) (i n : ℕ) → length (getD xs i []) ≤ n → length (getD ys i []) ≤ n → length (getD (cond b xs ys) i []) ≤ n
+pick-few : (b : Bool) (xs ys : List (List (List Float))) (i n : ℕ) → length (getD xs i []) ≤ n → length (getD ys i []) ≤ n
+    → length (getD (cond b xs ys) i []) ≤ n
 pick-few true xs ys i n h k = h
 pick-few false xs ys i n h k = k
 
@@ -245,11 +264,17 @@ fit-few cubic ms tol pts i =
     pick-few (ltb (length ks) 2) (upto none (length pts - 1)) (upto some (length pts - 1)) i (2 ^ 48) (upto-few none (length pts - 1) i (2 ^ 48) (λ j. omega arith))
     (upto-few some (length pts - 1) i (2 ^ 48) (λ j. le-trans (fit-run-few (fitOf cubic pts ts ks) ms tol pts ts j) (omega arith)))
 
-basis-few : (sd : ℕ) (ms : List ℕ) (tol : Float) (pts : List (List Float)) (ws : List Float) (i : ℕ) → length pts ≤ 257 → length (getD (basisRuns sd ms tol pts ws) i []) ≤ 2 ^ 48
+basis-few : (sd : ℕ) (ms : List ℕ) (tol : Float) (pts : List (List Float)) (ws : List Float) (i : ℕ) → length pts ≤ mostPoints
+    → length (getD (basisRuns sd ms tol pts ws) i []) ≤ 2 ^ 48
 unfolding basisRuns
 basis-few sd ms tol pts ws i l = upto-few (runOf (owned (basisOf sd pts ws) 1 (basisSamples (basisOf sd pts ws) ms tol))) (length pts - 1) i (2 ^ 48) (λ j. basis-run-few sd ms tol pts ws j l)
 
-pub runs-few : (motion sd : ℕ) (ms : List ℕ) (tol : Float) (pts : List (List Float)) (ws : List Float) (i : ℕ) → length pts ≤ 257 → length (getD (curveRuns motion sd ms tol pts ws) i []) ≤ 2 ^ 48
+pub by-few : (basis cubic : Bool) (sd : ℕ) (ms : List ℕ) (tol : Float) (pts : List (List Float)) (ws : List Float) (i : ℕ) → length pts ≤ mostPoints
+    → length (getD (runsBy basis cubic sd ms tol pts ws) i []) ≤ 2 ^ 48
+by-few basis cubic sd ms tol pts ws i l =
+    pick-few basis (basisRuns sd ms tol pts ws) (fitRuns cubic ms tol pts) i (2 ^ 48) (basis-few sd ms tol pts ws i l) (fit-few cubic ms tol pts i)
+
+pub runs-few : (motion sd : ℕ) (ms : List ℕ) (tol : Float) (pts : List (List Float)) (ws : List Float) (i : ℕ) → length pts ≤ mostPoints
+    → length (getD (curveRuns motion sd ms tol pts ws) i []) ≤ 2 ^ 48
 unfolding curveRuns
-runs-few motion sd ms tol pts ws i l =
-    pick-few (eqb motion 6) (basisRuns sd ms tol pts ws) (fitRuns (eqb motion 7) ms tol pts) i (2 ^ 48) (basis-few sd ms tol pts ws i l) (fit-few (eqb motion 7) ms tol pts i)
+runs-few motion sd ms tol pts ws i l = by-few (isBasis motion) (isCubic motion) sd ms tol pts ws i l
