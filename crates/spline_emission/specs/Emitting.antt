@@ -63,7 +63,8 @@ module _ (job : Job) (axes words store : List ℕ) (h : Holds axes words store (
       let cs : List ℕ = channels s in
       let p : List Float = startPoint s cs in
       let rs : List (List ℕ) = pointRows s in
-      runs-wide (job .motion) (job .degree) (metricOf cs) (job .tol) (p ∷ pointsFrom cs p rs) (f1 ∷ map weightOf rs) (length cs) (omega arith) (sized-cons (length cs) p (pointsFrom cs p rs) (length-map cs _) (points-sized cs p rs))
+      let wide = sized-cons (length cs) p (pointsFrom cs p rs) (length-map cs _) (points-sized cs p rs) in
+      runs-wide (job .motion) (job .degree) (metricOf cs) (job .tol) (p ∷ pointsFrom cs p rs) (f1 ∷ map weightOf rs) (length cs) (omega arith) wide
 
   chans-below : (k : ℕ) → member k (channels (splineIn job axes words store)) ≡ true → k < axisCodes
   unfolding channels
@@ -80,13 +81,16 @@ module _ (job : Job) (axes words store : List ℕ) (h : Holds axes words store (
   counted-is counts total k ej ep =
       let s : Spline = splineIn job axes words store in
       let o : Frame = frameOf axes (channels s) (Motion.isBasis (job .motion)) (length (runsOf s)) in
-      let lies : Lies s (runsOf s) o (placesOf (channels s)) counts = laid-lies s axes (channels s) (Motion.isBasis (job .motion)) (length (runsOf s)) refl refl chans-below counts refl refl ej in
+      let basis : Bool = Motion.isBasis (job .motion) in
+      let lies : Lies s (runsOf s) o (placesOf (channels s)) counts =
+      laid-lies s axes (channels s) basis (length (runsOf s)) refl refl chans-below counts refl refl ej in
+      let raw : ℕ → List ℕ = λ q. map bits (getD (flatten (runsOf s)) q []) in
       record {
         known = k;
         counted = ej;
         place = ep;
         rows = ap (λ (p : Place). p .rows) ep
-            ∙ sym (same-count s (runsOf s) o (placesOf (channels s)) counts lies (blockAt store) (job .held) refl many-runs wide-runs (λ (q : ℕ). map bits (getD (flatten (runsOf s)) q [])) (λ q l. refl));
+            ∙ sym (same-count s (runsOf s) o (placesOf (channels s)) counts lies (blockAt store) (job .held) refl many-runs wide-runs raw (λ q l. refl));
       }
 
 -- ---- samples as words
@@ -103,7 +107,9 @@ raw-is : (n : ℕ) (ps : List (List Float)) (l xs : List ℕ) (q : ℕ) → Size
     → rawAt n xs q ≡ map bits (getD ps q [])
 unfolding rawAt spliced encode
 raw-is n ps l xs q s e h =
-    rw e (flat-row n (map (map bits) ps) (drop (0 + length (flatten (map (map bits) ps))) l) q (sized-bits n ps s) (rw (length-map ps (map bits)) h) ∙ getD-map (map bits) ps q [] [] h)
+    let words : List (List ℕ) = map (map bits) ps in
+    let after : List ℕ = drop (0 + length (flatten words)) l in
+    rw e (flat-row n words after q (sized-bits n ps s) (rw (length-map ps (map bits)) h) ∙ getD-map (map bits) ps q [] [] h)
 
 -- what is written over whole
 spliced-over : (l a b : List ℕ) → length a ≤ length b → spliced (spliced l 0 a) 0 b ≡ spliced l 0 b
@@ -113,7 +119,8 @@ spliced-over l a b h =
     let e : 0 + length b ≡ length a + d = omega arith in
     let z : 0 + length a ≡ length a = omega arith in
     ap (λ (x : List ℕ). b ++ x)
-    (ap (λ (k : ℕ). drop k (a ++ drop (0 + length a) l)) e ∙ drop-append-add a (drop (0 + length a) l) d ∙ ap (λ (k : ℕ). drop d (drop k l)) z ∙ drop-drop d (length a) l ∙ ap (λ (k : ℕ). drop k l) (sym e))
+    (ap (λ (k : ℕ). drop k (a ++ drop (0 + length a) l)) e ∙ drop-append-add a (drop (0 + length a) l) d
+    ∙ ap (λ (k : ℕ). drop d (drop k l)) z ∙ drop-drop d (length a) l ∙ ap (λ (k : ℕ). drop k l) (sym e))
 
 words-long : (o : Frame) (gs places counts : List ℕ) (f : ℕ → List ℕ) (l : List ℕ) (i : ℕ)
     → length (flatten (upto (heldWords o gs places counts f l) i)) ≡ placeTo gs counts f i .rows * rowWords
@@ -124,7 +131,8 @@ words-long o gs places counts f l (suc i) =
     let g : ℕ → List ℕ = heldWords o gs places counts f l in
     ap length (flatten-append (upto g i) (g i ∷ []) ∙ ap (λ (x : List ℕ). flatten (upto g i) ++ x) (append-nil (g i)))
     ∙ length-append (flatten (upto g i)) (g i)
-    ∙ ap₂ (λ (a b : ℕ). a + b) (words-long o gs places counts f l i) (block-long o places (hasPoint gs (f i)) counts (p .points) (f i) (λ (t : ℕ). rawAt (o .ch) l (p .samples + t)))
+    ∙ ap₂ (λ (a b : ℕ). a + b) (words-long o gs places counts f l i)
+    (block-long o places (hasPoint gs (f i)) counts (p .points) (f i) (λ (t : ℕ). rawAt (o .ch) l (p .samples + t)))
     ∙ rw (moved-rows (hasPoint gs (f i)) counts p) (omega arith)
 
 -- ---- the emission
@@ -135,10 +143,16 @@ module _ (job : Job) (axes words store : List ℕ) (h : Holds axes words store (
       let s : Spline = splineIn job axes words store in
       let p : Place = placeTo (geometricOf axes) counts (blockAt store) (job .held) in
       let e : p .points ≡ length (runsOf s) = place-points (geometricOf axes) counts (blockAt store) (job .held) ∙ sym (many-runs job axes words store h) in
-      let q : p .samples ≡ length (flatten (runsOf s)) = place-sum (geometricOf axes) counts (blockAt store) (runsOf s) (c .counted) (job .held) (many-runs job axes words store h) (job .held) (omega arith)
+      let many = many-runs job axes words store h in
+      let q : p .samples ≡ length (flatten (runsOf s)) =
+      place-sum (geometricOf axes) counts (blockAt store) (runsOf s) (c .counted) (job .held) many (job .held) (omega arith)
       ∙ ap (λ (k : ℕ). length (flatten (take k (runsOf s)))) e ∙ ap (λ (x : List (List (List Float))). length (flatten x)) (take-length (runsOf s)) in
-      let n : length (encode (flatten (runsOf s))) ≡ length (flatten (runsOf s)) * length (channels s) = encode-long (length (channels s)) (flatten (runsOf s)) (wide-runs job axes words store h) in
-      let m : p .samples * length (channels s) ≤ p .rows * rowWords = mul-le-mul {n₁ = p .samples} {m₁ = length (channels s)} {n₂ = p .rows} {m₂ = rowWords} (place-order (geometricOf axes) counts (blockAt store) (job .held)) (omega (arith, chans-few job axes words store h)) in
+      let n : length (encode (flatten (runsOf s))) ≡ length (flatten (runsOf s)) * length (channels s) =
+      encode-long (length (channels s)) (flatten (runsOf s)) (wide-runs job axes words store h) in
+      let order = place-order (geometricOf axes) counts (blockAt store) (job .held) in
+      let narrow : length (channels s) ≤ rowWords = omega (arith, chans-few job axes words store h) in
+      let m : p .samples * length (channels s) ≤ p .rows * rowWords =
+      mul-le-mul {n₁ = p .samples} {m₁ = length (channels s)} {n₂ = p .rows} {m₂ = rowWords} order narrow in
       rw (n, ← q, c .place) m
 
   module _ (chans : List ℕ) (points : ℕ) (ec : chans ≡ channels (splineIn job axes words store))
@@ -156,19 +170,25 @@ module _ (job : Job) (axes words store : List ℕ) (h : Holds axes words store (
         }
 
     pub emitted-is : (rows rows1 rows2 : List ℕ) → rows1 ≡ spliced rows 0 (encode (flatten (runsOf (splineIn job axes words store))))
-        → rows2 ≡ spliced rows1 0 (flatten (upto (heldWords (frameOf axes chans (Motion.isBasis (job .motion)) points) (geometricOf axes) (placesOf chans) counts (blockAt store) rows1) (job .held)))
+        → rows2 ≡ spliced rows1 0 (flatten (upto (heldWords (frameOf axes chans (Motion.isBasis (job .motion)) points)
+        (geometricOf axes) (placesOf chans) counts (blockAt store) rows1) (job .held)))
         → rows2 ≡ spliced rows 0 (flatten (flatten (splineGroups (splineIn job axes words store))))
     unfolding splineGroups heldWords
     emitted-is rows rows1 rows2 e1 e2 =
         let s : Spline = splineIn job axes words store in
         let o : Frame = frameOf axes chans (Motion.isBasis (job .motion)) points in
         let W : List ℕ = flatten (upto (heldWords o (geometricOf axes) (placesOf chans) counts (blockAt store) rows1) (job .held)) in
-        let lies : Lies s (runsOf s) o (placesOf chans) counts = laid-lies s axes chans (Motion.isBasis (job .motion)) points refl ec (chans-below job axes words store h) counts refl ep (c .counted) in
+        let lies : Lies s (runsOf s) o (placesOf chans) counts =
+        laid-lies s axes chans (Motion.isBasis (job .motion)) points refl ec (chans-below job axes words store h) counts refl ep (c .counted) in
         let raw : (q : ℕ) → q < length (flatten (runsOf s)) → rawAt (o .ch) rows1 q ≡ map bits (getD (flatten (runsOf s)) q []) =
         λ q lt. rw (ap length ec) (raw-is (length (channels s)) (flatten (runsOf s)) rows rows1 q (wide-runs job axes words store h) e1 lt) in
-        let n : length W ≡ total .rows * rowWords = words-long o (geometricOf axes) (placesOf chans) counts (blockAt store) rows1 (job .held) ∙ ap (λ (p : Place). p .rows * rowWords) (sym (c .place)) in
+        let n : length W ≡ total .rows * rowWords =
+        words-long o (geometricOf axes) (placesOf chans) counts (blockAt store) rows1 (job .held) ∙ ap (λ (p : Place). p .rows * rowWords) (sym (c .place)) in
+        let many = many-runs job axes words store h in
+        let wide = wide-runs job axes words store h in
+        let same = same-words s (runsOf s) o (placesOf chans) counts lies (blockAt store) (job .held) refl many wide (rawAt (o .ch) rows1) raw in
         e2 ∙ ap (λ (x : List ℕ). spliced x 0 W) e1 ∙ spliced-over rows (encode (flatten (runsOf s))) W (rw n encoded-few)
-        ∙ ap (spliced rows 0) (sym (same-words s (runsOf s) o (placesOf chans) counts lies (blockAt store) (job .held) refl (many-runs job axes words store h) (wide-runs job axes words store h) (rawAt (o .ch) rows1) raw))
+        ∙ ap (spliced rows 0) (sym same)
 
 -- the frame and the places as the code has them
 module _ (axes chans : List ℕ) (basis : Bool) (points : ℕ) (counts : List ℕ) (f : ℕ → List ℕ) (held : ℕ) (rows places : List ℕ) (a m : ℕ)
@@ -178,7 +198,8 @@ module _ (axes chans : List ℕ) (basis : Bool) (points : ℕ) (counts : List �
   spreads-at total s = rw (ea, em, ep) s
 
   pub spread-at : (u : List ℕ)
-      → u ≡ spliced rows 0 (flatten (upto (heldWords (record { axes = a; mask = m; ch = length chans; basis = basis; points = points }) (geometricOf axes) places counts f rows) held))
+      → u ≡ spliced rows 0 (flatten (upto (heldWords (record { axes = a; mask = m; ch = length chans; basis = basis; points = points })
+      (geometricOf axes) places counts f rows) held))
       → u ≡ spliced rows 0 (flatten (upto (heldWords (frameOf axes chans basis points) (geometricOf axes) (placesOf chans) counts f rows) held))
   spread-at u e = rw (ea, em, ep) at e
 
@@ -278,9 +299,10 @@ module _ {axes words store : List ℕ} {e : Emission} {pts ws ks cs : List Float
           let second = rw (basis-is eb) at e2 in
           let all = emitted-is (e .job) axes words store (p .holds) counts (e .place) (p .counted) (take (e .curve .ch) (e .chans)) (e .curve .n - 1)
           listed-is count-is rows rows1 rows2 first second in
+          let groups : List (List ℕ) = flatten (splineGroups (splineIn (e .job) axes words store)) in
           record {
             count = p .counted .rows;
-            written = put-some (e .job .own) (flatten (splineGroups (splineIn (e .job) axes words store))) (e .place .rows) rows (p .counted .rows) rows2 room all;
+            written = put-some (e .job .own) groups (e .place .rows) rows (p .counted .rows) rows2 room all;
           }
 
 -- ---- what is planned and written is emitted

@@ -27,17 +27,23 @@ use Rattle.spline_emission.specs.Emits.{placesOf, frameOf}
 pub bit-below : (m k : ℕ) → m < axisMasks → has m k ≡ true → k < axisCodes
 bit-below m k h e = ⊎-elim (λ (l : k < axisCodes). l) (λ (g : axisCodes ≤ k). absurd (true≢false (sym e ∙ has-past m axisCodes k h g))) (lt-or-le k axisCodes)
 
+-- a mask has no bit past the axes
+past-mask : (cs : List ℕ) (k : ℕ) → axisCodes ≤ k → has (maskSum (λ (k : ℕ). member k cs) axisCodes) k ≡ false
+past-mask cs k g = has-past (maskSum (λ (k : ℕ). member k cs) axisCodes) axisCodes k (mask-lt (λ (k : ℕ). member k cs) axisCodes) g
+
 mask-axes : (axes : List ℕ) (k : ℕ) → has (maskSum (λ (k : ℕ). member k axes) axisCodes) k ≡ member k (geometricOf axes)
 unfolding geometricOf
 mask-axes axes k = ⊎-elim
-    (λ (l : k < axisCodes). has-mask (λ (k : ℕ). member k axes) axisCodes k l ∙ sym (member-keep (λ (k : ℕ). ltb k axisCodes) k axes ∙ rw (lt-ltb k axisCodes (omega arith))))
-    (λ (g : axisCodes ≤ k). has-past (maskSum (λ (k : ℕ). member k axes) axisCodes) axisCodes k (mask-lt (λ (k : ℕ). member k axes) axisCodes) g ∙ sym (member-keep (λ (k : ℕ). ltb k axisCodes) k axes ∙ rw (le-ltb k axisCodes (omega arith))))
+    (λ (l : k < axisCodes). has-mask (λ (k : ℕ). member k axes) axisCodes k l
+    ∙ sym (member-keep (λ (k : ℕ). ltb k axisCodes) k axes ∙ rw (lt-ltb k axisCodes (omega arith))))
+    (λ (g : axisCodes ≤ k). past-mask axes k g
+    ∙ sym (member-keep (λ (k : ℕ). ltb k axisCodes) k axes ∙ rw (le-ltb k axisCodes (omega arith))))
     (lt-or-le k axisCodes)
 
 mask-codes : (cs : List ℕ) → ((k : ℕ) → member k cs ≡ true → k < axisCodes) → (k : ℕ) → has (maskSum (λ (k : ℕ). member k cs) axisCodes) k ≡ member k cs
 mask-codes cs h k = ⊎-elim
     (λ (l : k < axisCodes). has-mask (λ (k : ℕ). member k cs) axisCodes k l)
-    (λ (g : axisCodes ≤ k). has-past (maskSum (λ (k : ℕ). member k cs) axisCodes) axisCodes k (mask-lt (λ (k : ℕ). member k cs) axisCodes) g ∙ sym (no (member k cs) refl g))
+    (λ (g : axisCodes ≤ k). past-mask cs k g ∙ sym (no (member k cs) refl g))
     (lt-or-le k axisCodes)
   where
     no : (b : Bool) → member k cs ≡ b → axisCodes ≤ k → b ≡ false

@@ -36,7 +36,9 @@ module _ (axes : List ℕ) (blocks : List (List ℕ)) (o : Once axes) where
   chan-below k m = geometric-few axes k (chan-good .inside k m)
 
   pub chan-codes : (cs : List ℕ) → cs ≡ channelsFrom (geometricOf axes) [] blocks → Codes cs
-  chan-codes cs e = record { axis = λ c l. rw e (chan-below (getD (channelsFrom (geometricOf axes) [] blocks) c 0) (member-at (channelsFrom (geometricOf axes) [] blocks) c (rw e at l))) }
+  chan-codes cs e =
+      let all : List ℕ = channelsFrom (geometricOf axes) [] blocks in
+      record { axis = λ c l. rw e (chan-below (getD all c 0) (member-at all c (rw e at l))) }
 
 -- ---- the metric's places lie within a point
 unfoldable AllBelow : ℕ → List ℕ → Type 0
@@ -78,7 +80,8 @@ metric-below cs =
     let every : List ℕ = upto (λ (i : ℕ). i) (length cs) in
     let p : ℕ → Bool = λ i. leb (getD cs i 0) 2 in
     let a : AllBelow (length cs) every = all-upto (length cs) (length cs) (omega arith) in
-    pick (λ (l : List ℕ). Below l (length cs)) (eqb (length (keep p every)) 0) every (keep p every) (all-below (length cs) every a) (all-below (length cs) (keep p every) (all-keep (length cs) p every a))
+    let b : Below (keep p every) (length cs) = all-below (length cs) (keep p every) (all-keep (length cs) p every a) in
+    pick (λ (l : List ℕ). Below l (length cs)) (eqb (length (keep p every)) 0) every (keep p every) (all-below (length cs) every a) b
 
 metric-most : (cs : List ℕ) → length (metricOf cs) ≤ length cs
 unfolding metricOf

@@ -12,7 +12,7 @@ use lib.Ieee.{Float}
 use borrow.Author.Tests.{eqb-true, eqb-false}
 use Rattle.floats.specs.Lists.{upto, keep, member, anyOf}
 use Rattle.floats.specs.Fill.{length-upto}
-use Rattle.layout.specs.Layout.{rowWords, axisCodes}
+use Rattle.layout.specs.Layout.{rowWords, axisCodes, axisMasks}
 use Rattle.motion.specs.Motion.{gOne}
 use Rattle.rows.specs.Codes.{geometricOf}
 use Rattle.rows.specs.Row.{has, presentOf, shown, hasPoint, outRow, madeRow}
@@ -44,7 +44,8 @@ unfolding heldGroup
 group-some s runs i =
     let r : List ℕ = getD (s .blocks) i [] in
     let j : ℕ = length (keep (hasPoint (s .axes)) (take i (s .blocks))) in
-    either-some (hasPoint (s .axes) r) (pointGroup s (channels s) (length runs) j (getD runs j []) r) (outRow r ∷ []) (point-some s (channels s) (length runs) j (getD runs j []) r) (omega arith)
+    let some = point-some s (channels s) (length runs) j (getD runs j []) r in
+    either-some (hasPoint (s .axes) r) (pointGroup s (channels s) (length runs) j (getD runs j []) r) (outRow r ∷ []) some (omega arith)
 
 -- ---- the channels of a spline whose axes are the geometric ones of a list without a code twice
 module _ (s : Spline) (axes : List ℕ) (once : Once axes) (is : s .axes ≡ geometricOf axes) where
@@ -123,17 +124,18 @@ unfolding hasPoint channels
 point-channel s axes once is i l =
     let p : ℕ → Bool = λ k. has (presentOf (getD (s .blocks) i [])) k in
     either-way (anyOf p (s .axes)) (anyOf p (channels s))
-    (λ (e : anyOf p (s .axes) ≡ true). some-of p (anyOf p (channels s)) (s .axes) e (λ k m q. any-of p k (channels s) (channels-cover (s .axes) [] (s .blocks) i k l m q) q))
+    (λ (e : anyOf p (s .axes) ≡ true). some-of p (anyOf p (channels s)) (s .axes) e (λ k m q.
+    any-of p k (channels s) (channels-cover (s .axes) [] (s .blocks) i k l m q) q))
     (λ (e : anyOf p (channels s) ≡ true). some-of p (anyOf p (s .axes)) (channels s) e (λ k m q. any-of p k (s .axes) (channel-axis s axes once is k m) q))
 
 -- ---- as a state and a store have them: ten words of a part of the state beside their mask, and the held rows
-pub shown-part : (m a : ℕ) (l : List ℕ) → m < 1024 → shown m (take 10 (drop a l)) ≡ (λ (k : ℕ). cond (has m k) (some (getD l (a + k) 0)) none)
+pub shown-part : (m a : ℕ) (l : List ℕ) → m < axisMasks → shown m (take axisCodes (drop a l)) ≡ (λ (k : ℕ). cond (has m k) (some (getD l (a + k) 0)) none)
 unfolding shown
 shown-part m a l h = fun-ext (λ k. one k (has m k) refl)
   where
-    one : (k : ℕ) (b : Bool) → has m k ≡ b → cond b (some (getD (take 10 (drop a l)) k 0)) none ≡ cond b (some (getD l (a + k) 0)) none
+    one : (k : ℕ) (b : Bool) → has m k ≡ b → cond b (some (getD (take axisCodes (drop a l)) k 0)) none ≡ cond b (some (getD l (a + k) 0)) none
     one k false e = refl
-    one k true e = ap some (getD-take 10 (drop a l) k 0 (bit-below m k h e) ∙ getD-drop a l k 0)
+    one k true e = ap some (getD-take axisCodes (drop a l) k 0 (bit-below m k h e) ∙ getD-drop a l k 0)
 
 pub blocks-are : (store : List ℕ) (held : ℕ) → upto (blockAt store) held ≡ upto (λ (i : ℕ). take rowWords (drop (i * rowWords) store)) held
 unfolding blockAt

@@ -9,7 +9,6 @@ use native.Mathlib.Omega.{arith}
 use lib.Dec.{eqb, ltb}
 use lib.ListN.{length, getD, length-append, length-map, List·getD-append, List·getD-eq-default}
 use lib.Seq.{getD-at}
-use lib.Pow.{pow-pos}
 use lib.Ieee.{Float, lt, le}
 use borrow.Author.Tests.{ltb-false}
 use Rattle.floats.specs.Numbers.{at, _⊖_, 1e-12}
@@ -19,10 +18,12 @@ use Rattle.spline_points.specs.Flat.{Sized, sized-append, flatten-append}
 use Rattle.spline_points.specs.Keeps.{keep-most}
 use Rattle.curve_metric.specs.Metric.{pointOf, chords}
 use Rattle.curve_metric.specs.Walk.{Sample, middle, samples, flat}
+use Rattle.curve_metric.specs.WalkLaws.{samples-le}
 use Rattle.fit_knots.specs.Fit.{Fit, keptTo, fitOf, pieceFrom, pieceOf, evalFit, fitRun, fitRuns}
 use Rattle.bspline_tables.specs.Basis.{Bspline, basisOf, spansOf, evalBasis, basisSamples, Owned, owned, ownerFrom, runOf, basisRuns}
 use Rattle.layout.specs.Layout.{mostPoints}
 use Rattle.motion.specs.Motion.{isBasis, isCubic}
+use Rattle.curve_walk.specs.Lefts.{depth}
 use Rattle.curve_runs.specs.Runs.{runsBy, curveRuns}
 
 -- ---- lists of rows of one length
@@ -44,7 +45,9 @@ module _ {A : Type 0} where
   sized-flat : (n : ℕ) (f : ℕ → List (List A)) (c : ℕ) → ((i : ℕ) → i < c → Sized n (f i)) → Sized n (flatten (upto f c))
   unfolding upto flatten Sized
   sized-flat n f zero h = tt
-  sized-flat n f (suc c) h = rw (flatten-append (upto f c) (f c ∷ []), append-nil) (sized-append n (flatten (upto f c)) (f c) (sized-flat n f c (λ i l. h i (omega arith))) (h c (omega arith)))
+  sized-flat n f (suc c) h =
+      rw (flatten-append (upto f c) (f c ∷ []), append-nil)
+      (sized-append n (flatten (upto f c)) (f c) (sized-flat n f c (λ i l. h i (omega arith))) (h c (omega arith)))
 
   long-flat : (b : ℕ) (f : ℕ → List A) (c : ℕ) → ((i : ℕ) → length (f i) ≤ b) → length (flatten (upto f c)) ≤ c * b
   unfolding upto flatten
@@ -55,7 +58,9 @@ module _ {A : Type 0} (g : A → List Float) (n : ℕ) where
   sized-map-flat : (f : ℕ → List A) (c : ℕ) → ((i : ℕ) → Sized n (map g (f i))) → Sized n (map g (flatten (upto f c)))
   unfolding upto flatten Sized
   sized-map-flat f zero h = tt
-  sized-map-flat f (suc c) h = rw (flatten-append (upto f c) (f c ∷ []), append-nil, map-append) (sized-append n (map g (flatten (upto f c))) (map g (f c)) (sized-map-flat f c h) (h c))
+  sized-map-flat f (suc c) h =
+      rw (flatten-append (upto f c) (f c ∷ []), append-nil, map-append)
+      (sized-append n (map g (flatten (upto f c))) (map g (f c)) (sized-map-flat f c h) (h c))
 
   sized-keep : (p : A → Bool) (xs : List A) → Sized n (map g xs) → Sized n (map g (keep p xs))
   unfolding keep Sized
@@ -71,21 +76,16 @@ abbrev points : List Sample → List (List Float)
 points ss = map (λ (s : Sample). s .point) ss
 
 module _ (eval : Float → List Float) (ms : List ℕ) (tol : Float) where
-  samples-few : (left : ℕ) (t0 : Float) (p0 : List Float) (t1 : Float) (p1 : List Float) → length (samples eval ms tol left t0 p0 t1 p1) ≤ 2 ^ left
-  unfolding samples
-  samples-few zero t0 p0 t1 p1 = omega arith
-  samples-few (suc left) t0 p0 t1 p1 = one (flat eval ms tol t0 p0 t1 p1 (eval (middle t0 t1))) (samples eval ms tol left t0 p0 (middle t0 t1) (eval (middle t0 t1))) (samples eval ms tol left (middle t0 t1) (eval (middle t0 t1)) t1 p1) (samples-few left t0 p0 (middle t0 t1) (eval (middle t0 t1))) (samples-few left (middle t0 t1) (eval (middle t0 t1)) t1 p1)
-    where
-      one : (b : Bool) (xs ys : List Sample) → length xs ≤ 2 ^ left → length ys ≤ 2 ^ left
-          → length (cond b (record { time = t1; point = p1 } ∷ []) (xs ++ ys)) ≤ 2 ^ suc left
-      one true xs ys h k = omega (arith, pow-pos left)
-      one false xs ys h k = rw (length-append xs ys) (omega arith)
-
   samples-wide : (n : ℕ) → ((t : Float) → length (eval t) ≡ n) → (left : ℕ) (t0 : Float) (p0 : List Float) (t1 : Float) (p1 : List Float)
       → length p1 ≡ n → Sized n (points (samples eval ms tol left t0 p0 t1 p1))
   unfolding samples
   samples-wide n h zero t0 p0 t1 p1 e = sized-one n p1 e
-  samples-wide n h (suc left) t0 p0 t1 p1 e = one (flat eval ms tol t0 p0 t1 p1 (eval (middle t0 t1))) (samples eval ms tol left t0 p0 (middle t0 t1) (eval (middle t0 t1))) (samples eval ms tol left (middle t0 t1) (eval (middle t0 t1)) t1 p1) (samples-wide n h left t0 p0 (middle t0 t1) (eval (middle t0 t1)) (h (middle t0 t1))) (samples-wide n h left (middle t0 t1) (eval (middle t0 t1)) t1 p1 e)
+  samples-wide n h (suc left) t0 p0 t1 p1 e = one
+      (flat eval ms tol t0 p0 t1 p1 (eval (middle t0 t1)))
+      (samples eval ms tol left t0 p0 (middle t0 t1) (eval (middle t0 t1)))
+      (samples eval ms tol left (middle t0 t1) (eval (middle t0 t1)) t1 p1)
+      (samples-wide n h left t0 p0 (middle t0 t1) (eval (middle t0 t1)) (h (middle t0 t1)))
+      (samples-wide n h left (middle t0 t1) (eval (middle t0 t1)) t1 p1 e)
     where
       one : (b : Bool) (xs ys : List Sample) → Sized n (points xs) → Sized n (points ys)
           → Sized n (points (cond b (record { time = t1; point = p1 } ∷ []) (xs ++ ys)))
@@ -139,7 +139,9 @@ fit-run-wide : (fit : Fit) (ms : List ℕ) (tol : Float) (pts : List (List Float
 unfolding fitRun
 fit-run-wide fit ms tol pts ts n i h s l =
     let e : length (pointOf pts (i + 1)) ≡ n = sized-at n pts (i + 1) s l in
-    sized-cond n (le (at ts (i + 1) ⊖ at ts i) 1e-12) (pointOf pts (i + 1) ∷ []) (map (λ (s : Sample). s .point) (samples (evalFit fit) ms tol 20 (at ts i) (pointOf pts i) (at ts (i + 1)) (pointOf pts (i + 1)))) (sized-one n (pointOf pts (i + 1)) e) (samples-wide (evalFit fit) ms tol n h 20 (at ts i) (pointOf pts i) (at ts (i + 1)) (pointOf pts (i + 1)) e)
+    let run : List (List Float) = points (samples (evalFit fit) ms tol depth (at ts i) (pointOf pts i) (at ts (i + 1)) (pointOf pts (i + 1))) in
+    let wide = samples-wide (evalFit fit) ms tol n h depth (at ts i) (pointOf pts i) (at ts (i + 1)) (pointOf pts (i + 1)) e in
+    sized-cond n (le (at ts (i + 1) ⊖ at ts i) 1e-12) (pointOf pts (i + 1) ∷ []) run (sized-one n (pointOf pts (i + 1)) e) wide
 
 fit-wide : (cubic : Bool) (ms : List ℕ) (tol : Float) (pts : List (List Float)) (n : ℕ) → 1 ≤ length pts → Sized n pts
     → Sized n (flatten (fitRuns cubic ms tol pts))
@@ -156,13 +158,18 @@ fit-wide cubic ms tol pts n some s = one (ltb (length ks) 2) refl
         → Sized n (flatten (cond b (upto (λ (i : ℕ). []) (length pts - 1)) (upto (fitRun (fitOf cubic pts ts ks) ms tol pts ts) (length pts - 1))))
     one true e = sized-flat n (λ (i : ℕ). []) (length pts - 1) (λ i l. tt)
     one false e = sized-flat n (fitRun (fitOf cubic pts ts ks) ms tol pts ts) (length pts - 1)
-        (λ i l. fit-run-wide (fitOf cubic pts ts ks) ms tol pts ts n i (eval-wide cubic n (length pts - 1) pts ts s (omega arith) (ltb-false (length ks) 2 e)) s (omega arith))
+        (λ i l.
+        let wide = eval-wide cubic n (length pts - 1) pts ts s (omega arith) (ltb-false (length ks) 2 e) in
+        fit-run-wide (fitOf cubic pts ts ks) ms tol pts ts n i wide s (omega arith))
 
-fit-run-few : (fit : Fit) (ms : List ℕ) (tol : Float) (pts : List (List Float)) (ts : List Float) (i : ℕ) → length (fitRun fit ms tol pts ts i) ≤ 2 ^ 20
+fit-run-few : (fit : Fit) (ms : List ℕ) (tol : Float) (pts : List (List Float)) (ts : List Float) (i : ℕ) → length (fitRun fit ms tol pts ts i) ≤ 2 ^ depth
 unfolding fitRun
-fit-run-few fit ms tol pts ts i = one (le (at ts (i + 1) ⊖ at ts i) 1e-12) (map (λ (s : Sample). s .point) (samples (evalFit fit) ms tol 20 (at ts i) (pointOf pts i) (at ts (i + 1)) (pointOf pts (i + 1)))) (rw (length-map (samples (evalFit fit) ms tol 20 (at ts i) (pointOf pts i) (at ts (i + 1)) (pointOf pts (i + 1))) (λ (s : Sample). s .point)) (samples-few (evalFit fit) ms tol 20 (at ts i) (pointOf pts i) (at ts (i + 1)) (pointOf pts (i + 1))))
+fit-run-few fit ms tol pts ts i =
+    let run : List Sample = samples (evalFit fit) ms tol depth (at ts i) (pointOf pts i) (at ts (i + 1)) (pointOf pts (i + 1)) in
+    let few = samples-le (evalFit fit) ms tol depth (at ts i) (pointOf pts i) (at ts (i + 1)) (pointOf pts (i + 1)) in
+    one (le (at ts (i + 1) ⊖ at ts i) 1e-12) (points run) (rw (length-map run (λ (s : Sample). s .point)) few)
   where
-    one : (b : Bool) (xs : List (List Float)) → length xs ≤ 2 ^ 20 → length (cond b (pointOf pts (i + 1) ∷ []) xs) ≤ 2 ^ 20
+    one : (b : Bool) (xs : List (List Float)) → length xs ≤ 2 ^ depth → length (cond b (pointOf pts (i + 1) ∷ []) xs) ≤ 2 ^ depth
     one true xs h = omega arith
     one false xs h = h
 
@@ -184,15 +191,16 @@ basis-eval-wide b n e t = length-upto _ (length (pointOf (b .points) 0)) ∙ e
 basis-samples-wide : (b : Bspline) (ms : List ℕ) (tol : Float) (n : ℕ) → length (pointOf (b .points) 0) ≡ n → Sized n (points (basisSamples b ms tol))
 unfolding basisSamples
 basis-samples-wide b ms tol n e = sized-map-flat (λ (s : Sample). s .point) n _ (spansOf b)
-    (λ j. samples-wide (evalBasis b) ms tol n (basis-eval-wide b n e) 20 _ _ _ _ (basis-eval-wide b n e _))
+    (λ j. samples-wide (evalBasis b) ms tol n (basis-eval-wide b n e) depth _ _ _ _ (basis-eval-wide b n e _))
 
 basis-wide : (sd : ℕ) (ms : List ℕ) (tol : Float) (pts : List (List Float)) (ws : List Float) (n : ℕ) → 1 ≤ length pts → Sized n pts
     → Sized n (flatten (basisRuns sd ms tol pts ws))
 unfolding basisRuns runOf basisOf
 basis-wide sd ms tol pts ws n some s =
     let b : Bspline = basisOf sd pts ws in
-    sized-flat n (runOf (owned b 1 (basisSamples b ms tol))) (length pts - 1) (λ i l. sized-keep (λ (s : Owned). s .point) n (λ (s : Owned). eqb (s .owner) (i + 1)) (owned b 1 (basisSamples b ms tol))
-    (owned-wide b n 1 (basisSamples b ms tol) (basis-samples-wide b ms tol n (sized-at n pts 0 s some))))
+    let all : List Owned = owned b 1 (basisSamples b ms tol) in
+    let wide = owned-wide b n 1 (basisSamples b ms tol) (basis-samples-wide b ms tol n (sized-at n pts 0 s some)) in
+    sized-flat n (runOf all) (length pts - 1) (λ i l. sized-keep (λ (s : Owned). s .point) n (λ (s : Owned). eqb (s .owner) (i + 1)) all wide)
 
 basis-run-few : (sd : ℕ) (ms : List ℕ) (tol : Float) (pts : List (List Float)) (ws : List Float) (i : ℕ) → length pts ≤ mostPoints
     → length (runOf (owned (basisOf sd pts ws) 1 (basisSamples (basisOf sd pts ws) ms tol)) i) ≤ 2 ^ 48
@@ -201,9 +209,9 @@ basis-run-few sd ms tol pts ws i l =
     let b : Bspline = basisOf sd pts ws in
     let ss : List Sample = basisSamples b ms tol in
     let p : Owned → Bool = λ s. eqb (s .owner) (i + 1) in
-    let k : length ss ≤ spansOf b * 2 ^ 20 = long-flat (2 ^ 20) _ (spansOf b) (λ j. samples-few (evalBasis b) ms tol 20 _ _ _ _) in
-    let few : spansOf b ≤ 257 = omega arith in
-    let m : spansOf b * 2 ^ 20 ≤ 257 * 2 ^ 20 = mul-le-mul-right (2 ^ 20) few in
+    let k : length ss ≤ spansOf b * 2 ^ depth = long-flat (2 ^ depth) _ (spansOf b) (λ j. samples-le (evalBasis b) ms tol depth _ _ _ _) in
+    let few : spansOf b ≤ mostPoints = omega arith in
+    let m : spansOf b * 2 ^ depth ≤ mostPoints * 2 ^ depth = mul-le-mul-right (2 ^ depth) few in
     omega (arith, length-map (keep p (owned b 1 ss)) (λ (s : Owned). s .point), keep-most p (owned b 1 ss), owned-long b 1 ss)
 
 -- ---- either kind
@@ -218,7 +226,8 @@ fit-many cubic ms tol pts =
     let ks : List ℕ = keptTo ts (length pts - 1) in
     let none : ℕ → List (List Float) = λ i. [] in
     let some : ℕ → List (List Float) = fitRun (fitOf cubic pts ts ks) ms tol pts ts in
-    either (ltb (length ks) 2) (upto none (length pts - 1)) (upto some (length pts - 1)) (length pts - 1) (length-upto none (length pts - 1)) (length-upto some (length pts - 1))
+    let n : ℕ = length pts - 1 in
+    either (ltb (length ks) 2) (upto none n) (upto some n) n (length-upto none n) (length-upto some n)
 
 basis-many : (sd : ℕ) (ms : List ℕ) (tol : Float) (pts : List (List Float)) (ws : List Float) → length (basisRuns sd ms tol pts ws) ≡ length pts - 1
 unfolding basisRuns
@@ -261,13 +270,16 @@ fit-few cubic ms tol pts i =
     let ks : List ℕ = keptTo ts (length pts - 1) in
     let none : ℕ → List (List Float) = λ i. [] in
     let some : ℕ → List (List Float) = fitRun (fitOf cubic pts ts ks) ms tol pts ts in
-    pick-few (ltb (length ks) 2) (upto none (length pts - 1)) (upto some (length pts - 1)) i (2 ^ 48) (upto-few none (length pts - 1) i (2 ^ 48) (λ j. omega arith))
-    (upto-few some (length pts - 1) i (2 ^ 48) (λ j. le-trans (fit-run-few (fitOf cubic pts ts ks) ms tol pts ts j) (omega arith)))
+    let n : ℕ = length pts - 1 in
+    pick-few (ltb (length ks) 2) (upto none n) (upto some n) i (2 ^ 48) (upto-few none n i (2 ^ 48) (λ j. omega arith))
+    (upto-few some n i (2 ^ 48) (λ j. le-trans (fit-run-few (fitOf cubic pts ts ks) ms tol pts ts j) (omega arith)))
 
 basis-few : (sd : ℕ) (ms : List ℕ) (tol : Float) (pts : List (List Float)) (ws : List Float) (i : ℕ) → length pts ≤ mostPoints
     → length (getD (basisRuns sd ms tol pts ws) i []) ≤ 2 ^ 48
 unfolding basisRuns
-basis-few sd ms tol pts ws i l = upto-few (runOf (owned (basisOf sd pts ws) 1 (basisSamples (basisOf sd pts ws) ms tol))) (length pts - 1) i (2 ^ 48) (λ j. basis-run-few sd ms tol pts ws j l)
+basis-few sd ms tol pts ws i l =
+    let b : Bspline = basisOf sd pts ws in
+    upto-few (runOf (owned b 1 (basisSamples b ms tol))) (length pts - 1) i (2 ^ 48) (λ j. basis-run-few sd ms tol pts ws j l)
 
 pub by-few : (basis cubic : Bool) (sd : ℕ) (ms : List ℕ) (tol : Float) (pts : List (List Float)) (ws : List Float) (i : ℕ) → length pts ≤ mostPoints
     → length (getD (runsBy basis cubic sd ms tol pts ws) i []) ≤ 2 ^ 48

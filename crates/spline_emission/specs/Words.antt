@@ -114,7 +114,8 @@ module _ (s : Spline) (runs : List (List (List Float))) (o : Frame) (places coun
   unfolding pointGroup rawGroup bareRow rawRow rawMotion rawMark isMarked
   same-group j c run r raw ec er ew = rw (← ec)
       (ap₂ (λ (a b : List (List ℕ)). cond (eqb c 0) a b)
-      (ap (λ (x : List ℕ). x ∷ []) (made-same (s .axes) (axesOf (o .axes)) r true _ false (ownCell s r) (rawOwn o r) (λ k l. same-axes k) (λ k l. same-own r k)))
+      (ap (λ (x : List ℕ). x ∷ [])
+      (made-same (s .axes) (axesOf (o .axes)) r true _ false (ownCell s r) (rawOwn o r) (λ k l. same-axes k) (λ k l. same-own r k)))
       (upto-below _ _ c (λ t l.
       rw (← (h .basis), ← (h .points), er t l)
       (made-same (s .axes) (axesOf (o .axes)) r (eqb t 0) _ _ _ _ (λ k l. same-axes k) (λ k m. same-sample (getD run t []) k (ew t l))))))
@@ -137,7 +138,9 @@ points-mono gs counts f (suc n) i h = ⊎-elim
 point-known : (gs counts : List ℕ) (f : ℕ → List ℕ) (n m i : ℕ) → i < n → hasPoint gs (f i) ≡ true → m ≡ length (keep (hasPoint gs) (upto f n))
     → placeTo gs counts f i .points < m
 point-known gs counts f n m i l e em =
-    let g : placeTo gs counts f (i + 1) .points ≡ placeTo gs counts f i .points + 1 = ap (λ (p : Place). p .points) (place-next gs counts f i) ∙ points-grow (hasPoint gs (f i)) counts (placeTo gs counts f i) .1 e in
+    let p : Place = placeTo gs counts f i in
+    let g : placeTo gs counts f (i + 1) .points ≡ p .points + 1 =
+    ap (λ (p : Place). p .points) (place-next gs counts f i) ∙ points-grow (hasPoint gs (f i)) counts p .1 e in
     omega (arith, points-mono gs counts f n (i + 1) (omega arith), place-points gs counts f n)
 
 -- the samples before a block are those of the runs before it
@@ -150,15 +153,19 @@ module _ (gs counts : List ℕ) (f : ℕ → List ℕ) (runs : List (List (List 
   moved-sum true p l e =
       let k : p .points < length runs = l refl in
       let d : take (p .points + 1) runs ≡ take (p .points) runs ++ (getD runs (p .points) [] ∷ []) = rw add-one (take-suc runs (p .points) [] k) in
+      let before : List (List (List Float)) = take (p .points) runs in
+      let run : List (List Float) = getD runs (p .points) [] in
       ap₂ (λ (a b : ℕ). a + b) e (is (p .points) k)
-      ∙ sym (ap (λ (l : List (List (List Float))). length (flatten l)) d ∙ ap length (flatten-append (take (p .points) runs) (getD runs (p .points) [] ∷ []) ∙ ap (λ (l : List (List Float)). flatten (take (p .points) runs) ++ l) (append-nil (getD runs (p .points) [])))
-      ∙ length-append (flatten (take (p .points) runs)) (getD runs (p .points) []))
+      ∙ sym (ap (λ (l : List (List (List Float))). length (flatten l)) d
+      ∙ ap length (flatten-append before (run ∷ []) ∙ ap (λ (l : List (List Float)). flatten before ++ l) (append-nil run))
+      ∙ length-append (flatten before) run)
 
   pub place-sum : (n : ℕ) → length runs ≡ length (keep (hasPoint gs) (upto f n)) → (i : ℕ) → i ≤ n
       → placeTo gs counts f i .samples ≡ length (flatten (take (placeTo gs counts f i .points) runs))
   unfolding placeTo flatten
   place-sum n em zero h = refl
-  place-sum n em (suc i) h = moved-sum (hasPoint gs (f i)) (placeTo gs counts f i) (λ e. point-known gs counts f n (length runs) i h e em) (place-sum n em i (omega arith))
+  place-sum n em (suc i) h =
+      moved-sum (hasPoint gs (f i)) (placeTo gs counts f i) (λ e. point-known gs counts f n (length runs) i h e em) (place-sum n em i (omega arith))
 
 -- ---- of the held blocks f 0, f 1, ..
 module _ (s : Spline) (runs : List (List (List Float))) (o : Frame) (places counts : List ℕ) (h : Lies s runs o places counts)
@@ -172,7 +179,8 @@ module _ (s : Spline) (runs : List (List (List Float))) (o : Frame) (places coun
   same-block i l false e j ej = refl
   same-block i l true e j ej =
       let lj : j < length runs = rw ej (point-known (s .axes) counts f held (length runs) i l e many) in
-      let sum : placeTo (s .axes) counts f i .samples ≡ length (flatten (take j runs)) = place-sum (s .axes) counts f runs (h .counted) held many i (omega arith) ∙ ap (λ (k : ℕ). length (flatten (take k runs))) (sym ej) in
+      let sum : placeTo (s .axes) counts f i .samples ≡ length (flatten (take j runs)) =
+      place-sum (s .axes) counts f runs (h .counted) held many i (omega arith) ∙ ap (λ (k : ℕ). length (flatten (take k runs))) (sym ej) in
       let ec : getD counts j 0 ≡ length (getD runs j []) = h .counted j lj in
       same-group s runs o places counts h j (getD counts j 0) (getD runs j []) (f i) (λ (t : ℕ). raw (placeTo (s .axes) counts f i .samples + t)) ec
       (λ t lt. let lt′ : t < length (getD runs j []) = rw ec at lt in
@@ -189,11 +197,12 @@ module _ (s : Spline) (runs : List (List (List Float))) (o : Frame) (places coun
       ∙ sym (place-points (s .axes) counts f i) in
       rw (er, ej) (same-block i l (hasPoint (s .axes) (f i)) refl (placeTo (s .axes) counts f i .points) refl)
 
-  pub same-words : flatten (flatten (upto (heldGroup s runs) (length (s .blocks)))) ≡ flatten (upto (λ (i : ℕ). flatten (rawHeld o places (s .axes) counts raw f i)) held)
+  pub same-words : flatten (flatten (upto (heldGroup s runs) (length (s .blocks))))
+      ≡ flatten (upto (λ (i : ℕ). flatten (rawHeld o places (s .axes) counts raw f i)) held)
   same-words =
       flat-flat (heldGroup s runs) (length (s .blocks))
       ∙ ap (λ (n : ℕ). flatten (upto (λ (i : ℕ). flatten (heldGroup s runs i)) n)) (ap length blocks ∙ length-upto f held)
-      ∙ ap flatten (upto-below (λ (i : ℕ). flatten (heldGroup s runs i)) (λ (i : ℕ). flatten (rawHeld o places (s .axes) counts raw f i)) held (λ i l. ap flatten (same-held i l)))
+      ∙ ap flatten (upto-below (λ (i : ℕ). flatten (heldGroup s runs i)) _ held (λ i l. ap flatten (same-held i l)))
 
   block-rows : (b : Bool) (j : ℕ) (r : List ℕ) (g : ℕ → List ℕ) → length (rawBlock o places b j (getD counts j 0) r g) ≡ sizeOf (samplesOf b counts j)
   unfolding rawBlock rawGroup sizeOf samplesOf
