@@ -18,7 +18,8 @@ use Rattle.curve_metric.specs.Metric.{chords}
 use Rattle.curve_metric.specs.Walk.{Sample}
 use Rattle.curve_metric.specs.Points.{length-rows, point-rows}
 use Rattle.fit_knots.specs.Fit.{Fit, keptTo, fitOf, evalFit, fitRun, fitRuns}
-use Rattle.fit_knots.specs.Memory.{FitHeld, eval-is}
+use Rattle.fit_knots.specs.Memory.{FitHeld}
+use Rattle.fit_knots.specs.MemoryLaws.{eval-is}
 use Rattle.bspline_tables.specs.Basis.{Bspline, basisOf, evalBasis, basisSamples, ownerFrom, owned, runOf, basisRuns}
 use Rattle.bspline_tables.specs.BasisLaws.{runs-join, run-at}
 use Rattle.bspline_tables.specs.Tables.{advanced}
