@@ -66,15 +66,7 @@ fn has_point(row: &[u64], gs: u64) -> bool
     requires { ⌜ (length (now row) ≡ rowWords) × (gs < axisMasks) ⌝ }
     ensures { λ r. ⌜ r ≡ hasPoint (axesOf gs) (now (row .entry)) ⌝ }
 {
-    let present = row[R_PRESENT];
-    let mut k: usize = 0;
-    while k < layout::AXIS_CODES {
-        if arc_sample::programs(gs, present, k) {
-            return true;
-        }
-        k += 1;
-    }
-    false
+    gs & row[R_PRESENT] != 0
 }
 
 fn is_silent(row: &[u64], gs: u64, u: usize, v: usize) -> bool
@@ -93,35 +85,13 @@ fn is_silent(row: &[u64], gs: u64, u: usize, v: usize) -> bool
     !row_cells::has_bit(row[R_PRESENT], layout::C_CR as u64)
 }
 
-// Whether axis k ramps with no start to ramp from.
-fn holds_end(gs: u64, present: u64, known: u64, u: usize, v: usize, k: usize) -> bool
-    requires { ⌜ k < axisCodes ⌝ }
-    ensures { λ r. ⌜ r ≡ holds gs present known u v k ⌝ }
-{
-    if !arc_sample::programs(gs, present, k) {
-        return false;
-    }
-    if row_cells::has_bit(known, k as u64) {
-        return false;
-    }
-    if k == u {
-        return false;
-    }
-    k != v
-}
-
+// The axes that ramp with no start to ramp from: programmed, not known, and not the plane's.
 fn held_axes(row: &[u64], gs: u64, known: u64, u: usize, v: usize) -> u64
-    requires { ⌜ length (now row) ≡ rowWords ⌝ }
+    requires { ⌜ (length (now row) ≡ rowWords) × ((gs < axisMasks) × ((u < axisCodes) × (v < axisCodes))) ⌝ }
     ensures { λ r. ⌜ r ≡ maskSum (holds gs (presentOf (now (row .entry))) known u v) axisCodes ⌝ }
 {
-    let present = row[R_PRESENT];
-    let mut m: u64 = 0;
-    let mut k: usize = 0;
-    while k < layout::AXIS_CODES {
-        m = row_cells::mask_with(m, k, holds_end(gs, present, known, u, v, k));
-        k += 1;
-    }
-    m
+    let started = row_cells::set_bit(row_cells::set_bit(known, u as u64), v as u64);
+    gs & row[R_PRESENT] & !started
 }
 
 fn passing(warning: u64) -> Plan

@@ -2,14 +2,13 @@
 use layout::R_PRESENT;
 use motion::G1;
 ghost use mathlib.Core.Path.{_≡_};
-ghost use mathlib.Core.Bool.{_&&_};
 ghost use Prim.Native.Nat.{_+_, _-_, _*_, _<_, _≤_};
 ghost use lib.ListN.{length};
 ghost use Rattle.floats.specs.Lists.{upto, spliced};
-ghost use Rattle.layout.specs.Layout.{axisCodes, rowWords};
+ghost use Rattle.layout.specs.Layout.{axisCodes, axisMasks, rowWords};
 ghost use Rattle.row_cells.specs.Codes.{planeU, planeV};
-ghost use Rattle.row_cells.specs.Bits.{has, maskSum};
 ghost use Rattle.row_cells.specs.Row.{shown, presentOf};
+ghost use Rattle.row_cells.specs.Bits.{maskSum};
 ghost use Rattle.arc_centre.specs.Types.{endsIs};
 ghost use Rattle.arc_numbers.specs.Types.{arcIs};
 ghost use Rattle.arc_sample.specs.Rowing.{Rowing};
@@ -56,43 +55,13 @@ pub fn plane_v(plane: u64) -> usize
     }
 }
 
-pub fn programs(gs: u64, present: u64, k: usize) -> bool
-    requires { ⌜ k < axisCodes ⌝ }
-    ensures { λ r. ⌜ r ≡ (has gs k && has present k) ⌝ }
-{
-    if row_cells::has_bit(gs, k as u64) {
-        row_cells::has_bit(present, k as u64)
-    } else {
-        false
-    }
-}
-
-// Whether the rows of an arc have axis k.
-fn draws(gs: u64, present: u64, u: usize, v: usize, k: usize) -> bool
-    requires { ⌜ k < axisCodes ⌝ }
-    ensures { λ r. ⌜ r ≡ drawn gs present u v k ⌝ }
-{
-    if k == u {
-        return true;
-    }
-    if k == v {
-        return true;
-    }
-    programs(gs, present, k)
-}
-
+// The axes that the rows of an arc have: the programmed ones of the geometric, and the plane's.
 fn drawn_axes(row: &[u64], gs: u64, u: usize, v: usize) -> u64
-    requires { ⌜ length (now row) ≡ rowWords ⌝ }
+    requires { ⌜ (length (now row) ≡ rowWords) × ((gs < axisMasks) × ((u < axisCodes) × (v < axisCodes))) ⌝ }
     ensures { λ r. ⌜ r ≡ maskSum (drawn gs (presentOf (now (row .entry))) u v) axisCodes ⌝ }
 {
-    let present = row[R_PRESENT];
-    let mut m: u64 = 0;
-    let mut k: usize = 0;
-    while k < layout::AXIS_CODES {
-        m = row_cells::mask_with(m, k, draws(gs, present, u, v, k));
-        k += 1;
-    }
-    m
+    let named = gs & row[R_PRESENT];
+    row_cells::set_bit(row_cells::set_bit(named, u as u64), v as u64)
 }
 
 // Where axis k starts its ramp: at its position, or at its end where that is not known.
@@ -252,7 +221,7 @@ fn put_last_row(
     let made = row_put::Made {
         axes: d.gs,
         mask: d.mask,
-        first,
+        first: first,
         motion: G1,
         marked: false,
     };
