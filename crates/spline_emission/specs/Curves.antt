@@ -11,9 +11,8 @@ use Rattle.floats.specs.Fill.{at-filled, past-filled, lt-or-le}
 use Rattle.floats.specs.Splice.{spliced-none}
 use Rattle.layout.specs.Layout.{mostPoints}
 use Rattle.motion.specs.Motion.{basisKind, cubicKind}
-use Rattle.motion.specs.Motion as Motion
 use Rattle.rows.specs.Codes.{geometricOf}
-use Rattle.rows.specs.Row.{has, shown}
+use Rattle.rows.specs.Row.{shown}
 use Rattle.curve_metric.specs.Points.{length-rows}
 use Rattle.curve_walk.specs.Walks.{encode}
 use Rattle.curve_runs.specs.declared.Drawing.{Drawing}

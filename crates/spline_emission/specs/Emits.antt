@@ -10,16 +10,15 @@ use Rattle.floats.specs.Numbers.{f1}
 use Rattle.floats.specs.Lists.{upto, keep, member, filled, flatten, rowsOf}
 use Rattle.layout.specs.Layout.{rowWords, axisCodes, mostHeld, mostPoints}
 use Rattle.motion.specs.Motion.{kindOf}
-use Rattle.motion.specs.Motion as Motion
 use Rattle.rows.specs.Codes.{geometricOf}
-use Rattle.rows.specs.Row.{has, shown, hasPoint}
+use Rattle.rows.specs.Row.{shown, hasPoint}
 use Rattle.rows.specs.Masks.{maskSum}
 use Rattle.curve_metric.specs.Below.{Below}
 use Rattle.curve_walk.specs.declared.Form.{Form}
 use Rattle.curve_runs.specs.declared.Drawing.{Drawing}
 use Rattle.curve_runs.specs.Runs.{shapeOf}
 use Rattle.curve_runs.specs.Asks.{Ready, Remembers}
-use Rattle.spline_points.specs.Points.{Spline, channels, channelsFrom, startValue, pointsFrom, metricOf, weightOf, blockAt, splineOf}
+use Rattle.spline_points.specs.Points.{Spline, channelsFrom, startValue, pointsFrom, metricOf, weightOf, blockAt, splineOf}
 use Rattle.spline_points.specs.Channels.{Once}
 use Rattle.spline_places.specs.declared.frame.Frame.{Frame}
 use Rattle.spline_places.specs.declared.place.Place.{Place}

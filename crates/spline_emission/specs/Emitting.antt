@@ -16,7 +16,7 @@ use Rattle.layout.specs.Layout.{rowWords, axisCodes}
 use Rattle.motion.specs.Motion.{basisKind}
 use Rattle.motion.specs.Motion as Motion
 use Rattle.rows.specs.Codes.{geometricOf}
-use Rattle.rows.specs.Row.{has, shown, hasPoint}
+use Rattle.rows.specs.Row.{shown, hasPoint}
 use Rattle.rows.specs.Masks.{maskSum}
 use Rattle.curve_walk.specs.Walks.{encode}
 use Rattle.curve_walk.specs.declared.Form.{Form}

@@ -11,7 +11,6 @@ use borrow.Author.Tests.{lt-ltb, le-ltb}
 use Rattle.floats.specs.Lists.{member}
 use Rattle.floats.specs.Fill.{at-filled, length-filled, lt-or-le}
 use Rattle.layout.specs.Layout.{axisCodes, axisMasks}
-use Rattle.motion.specs.Motion as Motion
 use Rattle.rows.specs.Codes.{geometricOf}
 use Rattle.rows.specs.Row.{has}
 use Rattle.rows.specs.Masks.{maskSum, has-mask, mask-lt, has-past, member-keep}

@@ -12,11 +12,10 @@ use lib.Ieee.{Float}
 use Rattle.floats.specs.Lists.{upto, keep, member}
 use Rattle.floats.specs.Fill.{length-upto}
 use Rattle.layout.specs.Layout.{axisCodes, mostHeld}
-use Rattle.motion.specs.Motion as Motion
 use Rattle.rows.specs.Codes.{geometricOf}
-use Rattle.rows.specs.Row.{has, hasPoint}
+use Rattle.rows.specs.Row.{hasPoint}
 use Rattle.curve_metric.specs.Below.{Below}
-use Rattle.spline_points.specs.Points.{channels, channelsFrom, metricOf}
+use Rattle.spline_points.specs.Points.{channelsFrom, metricOf}
 use Rattle.spline_points.specs.Append.{Appended}
 use Rattle.spline_points.specs.Channels.{Once, Good, channels-good, channels-few, geometric-few, once-distinct, distinct-keep, none-good}
 use Rattle.spline_points.specs.Curve.{Codes, PointsAre}
