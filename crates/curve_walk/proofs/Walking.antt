@@ -15,7 +15,7 @@ use Rattle.curve_walk.specs.declared.Form.{Form}
 use Rattle.curve_walk.specs.declared.Form.the-variants.{Basis, Fit}
 use Rattle.curve_walk.specs.declared.Kept.{Kept}
 use Rattle.curve_walk.specs.declared.Shape.{Shape}
-use Rattle.curve_walk.specs.Walks.{formAt, pointAt, ownIn, ownOf}
+use Rattle.curve_walk.specs.Walks.{formAt, pointAt, ownOf}
 use Rattle.curve_walk.specs.Asks.{Formed, Tables, Knotted, Advances, Stretch, Owners, Counts}
 use Rattle.curve_walk.specs.Counting.{own-in}
 

@@ -1,6 +1,5 @@
 -- `curve_runs::segment::at_stretch` meets its contract. Assumes nothing.
-use mathlib.Core.Path.{ap, _∙_}
-use Prim.Native.Nat.{ℕ}
+use mathlib.Core.Path.{ap}
 use Rattle.curve_runs.specs.Stretches.{inPiece}
 use borrow.Author.Needs.{needs}
 use Rattle.curve_runs.proofs.segment.at_stretch.Statement.{statement}

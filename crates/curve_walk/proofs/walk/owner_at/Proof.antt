@@ -1,7 +1,5 @@
 -- `curve_walk::walk::owner_at` meets its contract. Assumes nothing.
-use mathlib.Core.Path.{ap, sym, _∙_}
 use native.Mathlib.Omega.{arith}
-use Rattle.curve_walk.specs.declared.Form.{Form}
 use Rattle.curve_walk.specs.Walks.{ownIn}
 use Rattle.curve_walk.proofs.Walking.{knotted}
 use borrow.Author.Needs.{needs}
