@@ -11,13 +11,8 @@ use Rattle.floats.specs.Fill.{at-filled, past-filled, lt-or-le}
 use Rattle.floats.specs.Splice.{spliced-none}
 use Rattle.layout.specs.Layout.{mostPoints}
 use Rattle.motion.specs.Motion.{basisKind, cubicKind}
-<<<<<<< HEAD
-use Rattle.motion.specs.Motion as Motion
 use Rattle.row_cells.specs.Codes.{geometricOf}
-use Rattle.row_cells.specs.Bits.{has}
 use Rattle.row_cells.specs.Row.{shown}
-=======
->>>>>>> h-emission
 use Rattle.curve_metric.specs.Points.{length-rows}
 use Rattle.curve_walk.specs.Walks.{encode}
 use Rattle.curve_runs.specs.declared.Drawing.{Drawing}

@@ -10,23 +10,16 @@ use Rattle.floats.specs.Numbers.{f1}
 use Rattle.floats.specs.Lists.{upto, keep, member, filled, flatten, rowsOf}
 use Rattle.layout.specs.Layout.{rowWords, axisCodes, mostHeld, mostPoints}
 use Rattle.motion.specs.Motion.{kindOf}
-<<<<<<< HEAD
-use Rattle.motion.specs.Motion as Motion
 use Rattle.row_cells.specs.Codes.{geometricOf}
-use Rattle.row_cells.specs.Bits.{has, maskSum}
 use Rattle.row_cells.specs.Row.{shown, hasPoint}
-=======
->>>>>>> h-emission
+use Rattle.row_cells.specs.Bits.{maskSum}
 use Rattle.curve_metric.specs.Below.{Below}
 use Rattle.curve_walk.specs.declared.Form.{Form}
 use Rattle.curve_runs.specs.declared.Drawing.{Drawing}
 use Rattle.curve_runs.specs.Runs.{shapeOf}
 use Rattle.curve_runs.specs.Asks.{Ready, Remembers}
-<<<<<<< HEAD
-use Rattle.spline_points.specs.Points.{Spline, channels, channelsFrom, startValue, pointsFrom, metricOf, weightOf, blockAt, splineOf, placeOf}
+use Rattle.spline_points.specs.Points.{Spline, channelsFrom, startValue, pointsFrom, metricOf, weightOf, blockAt, splineOf, placeOf}
 use Rattle.spline_points.specs.Gathers.{Once}
-=======
->>>>>>> h-emission
 use Rattle.spline_places.specs.declared.frame.Frame.{Frame}
 use Rattle.spline_places.specs.declared.place.Place.{Place}
 use Rattle.spline_places.specs.Places.{Few}

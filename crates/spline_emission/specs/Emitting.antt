@@ -15,12 +15,9 @@ use Rattle.floats.specs.Fill.{at-filled}
 use Rattle.layout.specs.Layout.{rowWords, axisCodes}
 use Rattle.motion.specs.Motion.{basisKind}
 use Rattle.motion.specs.Motion as Motion
-<<<<<<< HEAD
 use Rattle.row_cells.specs.Codes.{geometricOf}
-use Rattle.row_cells.specs.Bits.{has, maskSum}
 use Rattle.row_cells.specs.Row.{shown, hasPoint}
-=======
->>>>>>> h-emission
+use Rattle.row_cells.specs.Bits.{maskSum}
 use Rattle.curve_walk.specs.Walks.{encode}
 use Rattle.curve_walk.specs.declared.Form.{Form}
 use Rattle.curve_runs.specs.declared.Drawing.{Drawing}

@@ -11,14 +11,10 @@ use borrow.Author.Tests.{lt-ltb, le-ltb}
 use Rattle.floats.specs.Lists.{member}
 use Rattle.floats.specs.Fill.{at-filled, length-filled, lt-or-le}
 use Rattle.layout.specs.Layout.{axisCodes, axisMasks}
-<<<<<<< HEAD
-use Rattle.motion.specs.Motion as Motion
 use Rattle.row_cells.specs.Codes.{geometricOf}
 use Rattle.row_cells.specs.Bits.{has, maskSum}
 use Rattle.row_cells.specs.Masks.{has-mask, mask-lt, has-past, member-keep}
 use Rattle.spline_points.specs.Points.{Spline, channels, placeOf}
-=======
->>>>>>> h-emission
 use Rattle.spline_places.specs.declared.frame.Frame.{Frame}
 use Rattle.spline_places.specs.Groups.{isBasis}
 use Rattle.spline_rows.specs.Puts.{Sound}

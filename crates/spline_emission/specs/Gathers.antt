@@ -12,18 +12,12 @@ use lib.Ieee.{Float}
 use Rattle.floats.specs.Lists.{upto, keep, member}
 use Rattle.floats.specs.Fill.{length-upto}
 use Rattle.layout.specs.Layout.{axisCodes, mostHeld}
-<<<<<<< HEAD
-use Rattle.motion.specs.Motion as Motion
 use Rattle.row_cells.specs.Codes.{geometricOf}
-use Rattle.row_cells.specs.Bits.{has}
 use Rattle.row_cells.specs.Row.{hasPoint}
 use Rattle.curve_metric.specs.Below.{Below}
-use Rattle.spline_points.specs.Points.{channels, channelsFrom, metricOf}
+use Rattle.spline_points.specs.Points.{channelsFrom, metricOf}
 use Rattle.spline_points.specs.Gathers.{Appended, Once, Codes, PointsAre}
 use Rattle.spline_points.specs.Channels.{Good, channels-good, channels-few, geometric-few, once-distinct, distinct-keep, none-good}
-=======
-use Rattle.curve_metric.specs.Below.{Below}
->>>>>>> h-emission
 use Rattle.spline_points.specs.Keeps.{keep-upto-most, keep-most, member-at}
 use Rattle.spline_emission.specs.declared.Curve.{Curve}
 use Rattle.spline_emission.specs.declared.Job.{Job}
