@@ -19,7 +19,7 @@ use Rattle.floats.specs.Lists.{upto, keep, member}
 use Rattle.floats.specs.Fill.{at-upto}
 use Rattle.floats.specs.FloatLaws.{one, one-is, tidy, fits-unique}
 use Rattle.layout.specs.Layout.{axisCodes, mostHeld}
-use Rattle.motion.specs.Motion.{gOne}
+use Rattle.motion.specs.Motion.{gOne, isCubic}
 use Rattle.row_cells.specs.Row.{cell, hasPoint, markOf, outRow}
 use Rattle.row_put.specs.Made.{madeRow}
 use Rattle.row_check.specs.Check.{within}
@@ -118,7 +118,7 @@ module _ (sp : Spline) (B : List (List ℕ)) (r : List ℕ) (M : List (List ℕ)
   bas = basisRuns (sp .power) (metricOf (channels sp)) (sp .tol) pts ws
 
   fit : List (List (List Float))
-  fit = fitRuns (eqb (sp .motion) 7) (metricOf (channels sp)) (sp .tol) pts
+  fit = fitRuns (isCubic (sp .motion)) (metricOf (channels sp)) (sp .tol) pts
 
   runs-is : runsOf sp ≡ cond (isBasis sp) bas fit
   unfolding runsOf curveRuns bas fit pts ws
@@ -140,7 +140,7 @@ module _ (sp : Spline) (B : List (List ℕ)) (r : List ℕ) (M : List (List ℕ)
       ∙ less-one (length (pointRows sp)))
       (λ b.
       ap length (cond-f bas fit b)
-      ∙ fit-length (eqb (sp .motion) 7) (metricOf (channels sp)) (sp .tol) pts
+      ∙ fit-length (isCubic (sp .motion)) (metricOf (channels sp)) (sp .tol) pts
       ∙ ap (λ (n : ℕ). n - 1) pts-length
       ∙ less-one (length (pointRows sp)))
     where
@@ -189,7 +189,7 @@ module _ (sp : Spline) (B : List (List ℕ)) (r : List ℕ) (M : List (List ℕ)
           ⊎-elim
           (λ (z : getD fit (length X) [] ≡ []). absurd (has (ap length (e ∙ z))))
           (λ (z : EndsWith (getD fit (length X) []) (pointOf pts (length X + 1))). ap (λ (l : List (List Float)). getD l (length l - 1) []) e ∙ ends-last z [])
-          (fit-ends (eqb (sp .motion) 7) (metricOf (channels sp)) (sp .tol) pts (length X) run-within)
+          (fit-ends (isCubic (sp .motion)) (metricOf (channels sp)) (sp .tol) pts (length X) run-within)
 
       -- a B-spline's last: the curve's end
       basis-end : isBasis sp ≡ true → length Y ≡ 0 → end ≡ evalBasis (basisOf (sp .power) pts ws) (ofNat (spansOf (basisOf (sp .power) pts ws)))
