@@ -1,303 +1,204 @@
 // Flattens the row text of standard input: axes X Y Z, tolerance 0.1, no seed, a full spline store, room for 256 rows.
-// Input and output go by large pieces, in memory of a fixed size.
-use call_reply::Reply;
-use csv_line::End;
-use csv_out::BAD_TEXT;
+// Input and output go by large pieces, in memory of a fixed size. What a line does is csvline's; here bytes are read,
+// handed to it line by line, and what waits is written.
+use csv_io::ENDED;
+use csv_io::GOES_ON;
+use csv_io::NO_INPUT;
+use csv_io::emptied;
+use csv_io::flush;
+use csv_io::report;
+use csv_io::tell;
+use csv_step::csv_end;
+use csv_step::csv_line;
 use csv_out::Run;
-use csv_out::answered;
-use csv_out::emptied;
-use csv_out::flush;
-use csv_out::headed;
-use csv_out::next_line;
-use csv_out::refuse;
-use csv_out::stopped;
-use layout::R_LINE;
 use text_lines::line_end;
 use text_lines::read_more;
 use text_lines::to_front;
 ghost use mathlib.Core.Path.{_≡_};
-ghost use Prim.Native.Nat.{_-_, _<_, _≤_};
+ghost use Prim.Native.Nat.{ℕ, _+_, _-_, _<_, _≤_};
 ghost use lib.ListN.{length};
-ghost use Rattle.csv_out.specs.Bounds.{Waits, Roomy};
+ghost use Rattle.flatcsv.specs.Bounds.{Waits, Ready, Sound};
 
 // 0.1
 const TOLERANCE: u64 = 0x3fb9_9999_9999_999a;
 
-// What a turn found: a line, the end of the input, nothing yet, or that there is no going on.
-enum Found {
-    Header,
-    Row,
-    Bad,
-    End,
-    Nothing,
-    Failed,
-}
+const STATE: usize = layout::STATE_WORDS;
 
-// The unread bytes of the input buffer are from `at` up to `end`.
-struct Window {
+// The words of 256 rows.
+const ROWS: usize = 256 * layout::ROW_WORDS;
+
+const INPUT: usize = 65536;
+
+const OUTPUT: usize = 131072;
+
+const NOTICES: usize = 4096;
+
+// The unread bytes of the input buffer are from `at` up to `end`; `turns` are left, none once the run is over.
+struct Stand {
     at: usize,
     end: usize,
-    found: Found,
+    turns: u64,
+    run: Run,
+    over: u64,
 }
 
-// The text of a line: the first header, or a row.
-fn line_text(text: &[u8], is_first: bool, row: &mut [u64]) -> Found
-    requires { ⌜ length (now row) ≡ 29 ⌝ }
+// After a turn.
+fn after_turn(at: usize, end: usize, turns: u64, run: Run, over: u64) -> Stand
+    requires { ⌜ (at ≤ end) × ((end ≤ 65536) × ((0 < turns) × Waits run)) ⌝ }
+    ensures { λ r. ⌜ Sound turns (r .at) (r .end) (r .turns) (r .run) ⌝ }
 {
-    if is_first {
-        if csv_line::is_header(text) {
-            return Found::Header;
-        }
-        return Found::Bad;
-    }
-    if csv_read::read_row(text, row) {
-        return Found::Row;
-    }
-    Found::Bad
-}
-
-// A whole line, with its LF.
-fn one_line(line: &[u8], is_first: bool, row: &mut [u64]) -> Found
-    requires { ⌜ length (now row) ≡ 29 ⌝ }
-{
-    let End::Upto(n) = csv_line::text_end(line) else {
-        return Found::Bad;
-    };
-    line_text(&line[..n], is_first, row)
-}
-
-// The line that ends before place e.
-fn take_line(w: Window, e: usize, is_first: bool, buf: &[u8], row: &mut [u64]) -> Window
-    requires { ⌜ (w .at < e) × ((e ≤ w .end) × (w .end ≤ length (now buf))) ⌝ }
-    requires { ⌜ length (now row) ≡ 29 ⌝ }
-    ensures { λ r. ⌜ (r .at ≤ r .end) × (r .end ≤ length (now (buf .entry))) ⌝ }
-{
-    let at = w.at;
-    let found = one_line(&buf[at..e], is_first, row);
-    Window {
-        at: e,
-        end: w.end,
-        found,
+    let left = if over == GOES_ON { turns - 1 } else { 0 };
+    Stand {
+        at,
+        end,
+        turns: left,
+        run,
+        over,
     }
 }
 
-// Nothing came: the input could not be read, or has ended, where no line may stand without an end.
-fn ended(left: usize, ok: bool, is_first: bool) -> Found {
-    if !ok {
-        return Found::Failed;
-    }
-    if left > 0 {
-        return Found::Bad;
-    }
-    if is_first { Found::Bad } else { Found::End }
+// Whether a refusal ends the run.
+fn going(run: Run) -> u64 {
+    if run.refused { ENDED } else { GOES_ON }
 }
 
-// The unread bytes are at the front.
-fn at_front(end: usize, found: Found) -> Window
-    ensures { λ r. ⌜ (r .at ≤ r .end) × (r .end ≡ end) ⌝ }
+// The line that ends before place e is done.
+fn take_line(
+    s: Stand,
+    e: usize,
+    run: Run,
+    buf: &[u8],
+    state: &mut [u64; STATE],
+    store: &mut [u64; ROWS],
+    rows: &mut [u64; ROWS],
+    out: &mut [u8; OUTPUT],
+    err: &mut [u8; NOTICES],
+) -> Stand
+    requires { ⌜ (s .at < e) × ((e ≤ s .end) × ((s .end ≤ 65536) × ((0 < s .turns) × Ready run))) ⌝ }
+    requires { ⌜ length (now buf) ≡ 65536 ⌝ }
+    ensures { λ r. ⌜ Sound (s .turns) (r .at) (r .end) (r .turns) (r .run) ⌝ }
 {
-    Window { at: 0, end, found }
+    let at = s.at;
+    let then = csv_line(run, &buf[at..e], state, store, rows, out, err);
+    after_turn(e, s.end, s.turns, then, going(then))
 }
 
-// The unread bytes go to the front, and more are read behind them; a line that fills the buffer is too long.
-fn read_on(w: Window, is_first: bool, buf: &mut [u8]) -> Window
-    requires { ⌜ (w .at ≤ w .end) × (w .end ≤ length (now buf)) ⌝ }
-    ensures { λ r. ⌜ (r .at ≤ r .end) × (r .end ≤ length (now (buf .exit))) ⌝ }
+// The end of the input: `left` bytes stand behind its last line.
+fn finish(
+    turns: u64,
+    left: usize,
+    run: Run,
+    state: &mut [u64; STATE],
+    store: &[u64; ROWS],
+    rows: &mut [u64; ROWS],
+    out: &mut [u8; OUTPUT],
+    err: &mut [u8; NOTICES],
+) -> Stand
+    requires { ⌜ (0 < turns) × Ready run ⌝ }
+    ensures { λ r. ⌜ Sound turns (r .at) (r .end) (r .turns) (r .run) ⌝ }
 {
-    let n = to_front(buf, w.at, w.end);
-    if n == buf.len() {
-        return at_front(0, Found::Bad);
+    let then = csv_end(run, left, state, store, rows, out, err);
+    after_turn(0, 0, turns, then, ENDED)
+}
+
+// No line stands whole: the unread bytes go to the front, and more are read behind them. A line that fills the buffer is
+// too long to be one, as one without its end is.
+fn read_on(
+    s: Stand,
+    run: Run,
+    buf: &mut [u8; INPUT],
+    state: &mut [u64; STATE],
+    store: &[u64; ROWS],
+    rows: &mut [u64; ROWS],
+    out: &mut [u8; OUTPUT],
+    err: &mut [u8; NOTICES],
+) -> Stand
+    requires { ⌜ (s .at ≤ s .end) × ((s .end ≤ 65536) × ((0 < s .turns) × Ready run)) ⌝ }
+    ensures { λ r. ⌜ Sound (s .turns) (r .at) (r .end) (r .turns) (r .run) ⌝ }
+{
+    let n = to_front(buf, s.at, s.end);
+    if n == INPUT {
+        return finish(s.turns, n, run, state, store, rows, out, err);
     }
     let came = read_more(buf, n);
     if came.n > n {
-        return at_front(came.n, Found::Nothing);
+        return after_turn(0, came.n, s.turns, run, GOES_ON);
     }
-    at_front(0, ended(n, came.ok, is_first))
-}
-
-// A line that stands whole in the buffer, or a reading, where the run goes on.
-fn turn(w: Window, run: Run, buf: &mut [u8], row: &mut [u64]) -> Window
-    requires { ⌜ (w .at ≤ w .end) × ((w .end ≤ length (now buf)) × (length (now row) ≡ 29)) ⌝ }
-    ensures { λ r. ⌜ (r .at ≤ r .end) × (r .end ≤ length (now (buf .exit))) ⌝ }
-{
-    if !run.go {
-        return Window {
-            at: w.at,
-            end: w.end,
-            found: Found::Failed,
-        };
+    if came.ok {
+        return finish(s.turns, n, run, state, store, rows, out, err);
     }
-    let is_first = run.physical == 1;
-    let e = line_end(buf, w.at, w.end);
-    if e <= w.end {
-        return take_line(w, e, is_first, buf, row);
-    }
-    read_on(w, is_first, buf)
+    after_turn(0, n, s.turns, run, NO_INPUT)
 }
 
-// The calls without what they promise, which the program does not need: proofs about their callers stay small.
-fn push(
-    state: &mut [u64; 44],
-    store: &mut [u64; 7424],
-    rows: &mut [u64; 7424],
-    row: &[u64; 29],
-) -> Reply {
-    flattener::call::flat_push(state, store, rows, row)
-}
-
-fn close(state: &mut [u64; 44], store: &[u64; 7424], rows: &mut [u64; 7424]) -> Reply {
-    flattener::call::flat_close(state, store, rows)
-}
-
-// A row, pushed.
-fn pushed(
-    run: Run,
-    row: &[u64; 29],
-    state: &mut [u64; 44],
-    store: &mut [u64; 7424],
-    rows: &mut [u64; 7424],
-    out: &mut [u8; 131072],
-    err: &mut [u8; 4096],
-) -> Run
-    requires { ⌜ Roomy run ⌝ }
-    ensures { λ r. ⌜ Waits r ⌝ }
-{
-    let reply = push(state, store, rows, row);
-    let read = Run {
-        out: run.out,
-        err: run.err,
-        physical: run.physical,
-        source: row[R_LINE],
-        go: run.go,
-    };
-    next_line(answered(read, reply.code, reply.count, reply.warning, rows, out, err))
-}
-
-// The end of the input.
-fn closed(
-    run: Run,
-    state: &mut [u64; 44],
-    store: &[u64; 7424],
-    rows: &mut [u64; 7424],
-    out: &mut [u8; 131072],
-    err: &mut [u8; 4096],
-) -> Run
-    requires { ⌜ Roomy run ⌝ }
-    ensures { λ r. ⌜ Waits r ⌝ }
-{
-    let reply = close(state, store, rows);
-    stopped(answered(run, reply.code, reply.count, reply.warning, rows, out, err))
-}
-
-// What needs no call.
-fn told(run: Run, found: Found, out: &mut [u8; 131072], err: &mut [u8; 4096]) -> Run
-    requires { ⌜ Roomy run ⌝ }
-    ensures { λ r. ⌜ Waits r ⌝ }
-{
-    match found {
-        Found::Header => next_line(headed(run, out)),
-        Found::Bad => refuse(run, err, run.physical, BAD_TEXT),
-        Found::Failed => stopped(run),
-        _ => run,
-    }
-}
-
-// What a turn found, done.
-fn done(
-    run: Run,
-    found: Found,
-    row: &[u64; 29],
-    state: &mut [u64; 44],
-    store: &mut [u64; 7424],
-    rows: &mut [u64; 7424],
-    out: &mut [u8; 131072],
-    err: &mut [u8; 4096],
-) -> Run
-    requires { ⌜ Roomy run ⌝ }
-    ensures { λ r. ⌜ Waits r ⌝ }
-{
-    match found {
-        Found::Row => pushed(run, row, state, store, rows, out, err),
-        Found::End => closed(run, state, store, rows, out, err),
-        _ => told(run, found, out, err),
-    }
-}
-
-// Where the run stands; `turns` are left.
-struct Stand {
-    window: Window,
-    turns: u64,
-    run: Run,
-}
-
-// After a turn: there is none left once the run has ended.
-fn after_turn(window: Window, turns: u64, run: Run) -> Stand
-    requires { ⌜ (window .at ≤ window .end) × ((window .end ≤ 65536) × ((0 < turns) × Waits run)) ⌝ }
-    ensures { λ r. ⌜ (r .window .at ≤ r .window .end) × ((r .window .end ≤ 65536) × ((r .turns < turns) × Waits (r .run))) ⌝ }
-{
-    let left = if run.go { turns - 1 } else { 0 };
-    Stand {
-        window,
-        turns: left,
-        run,
-    }
-}
-
-// One turn, and what it found done.
+// One turn: room is made, and then a line is done or more is read.
 fn step(
     s: Stand,
-    buf: &mut [u8; 65536],
-    state: &mut [u64; 44],
-    store: &mut [u64; 7424],
-    rows: &mut [u64; 7424],
-    out: &mut [u8; 131072],
-    err: &mut [u8; 4096],
+    buf: &mut [u8; INPUT],
+    state: &mut [u64; STATE],
+    store: &mut [u64; ROWS],
+    rows: &mut [u64; ROWS],
+    out: &mut [u8; OUTPUT],
+    err: &mut [u8; NOTICES],
 ) -> Stand
-    requires { ⌜ (s .window .at ≤ s .window .end) × ((s .window .end ≤ 65536) × ((0 < s .turns) × Waits (s .run))) ⌝ }
-    ensures { λ r. ⌜ (r .window .at ≤ r .window .end) × ((r .window .end ≤ 65536) × ((r .turns < s .turns) × Waits (r .run))) ⌝ }
+    requires { ⌜ (s .at ≤ s .end) × ((s .end ≤ 65536) × ((0 < s .turns) × Waits (s .run))) ⌝ }
+    ensures { λ r. ⌜ Sound (s .turns) (r .at) (r .end) (r .turns) (r .run) ⌝ }
 {
-    let mut row = [0u64; 29];
-    let ready = emptied(s.run, out);
-    let window = turn(s.window, ready, buf, &mut row);
-    let found = window.found;
-    let run = done(ready, found, &row, state, store, rows, out, err);
-    after_turn(window, s.turns, run)
+    let room = emptied(s.run, out, err);
+    let run = room.run;
+    if room.over != GOES_ON {
+        return after_turn(s.at, s.end, s.turns, run, room.over);
+    }
+    let e = line_end(buf, s.at, s.end);
+    if e <= s.end {
+        return take_line(s, e, run, buf, state, store, rows, out, err);
+    }
+    read_on(s, run, buf, state, store, rows, out, err)
 }
 
 // Before the first line.
 fn begun() -> Stand
-    ensures { λ r. ⌜ (r .window .at ≤ r .window .end) × ((r .window .end ≤ 65536) × Waits (r .run)) ⌝ }
+    ensures { λ r. ⌜ (r .at ≤ r .end) × ((r .end ≤ 65536) × Waits (r .run)) ⌝ }
 {
     Stand {
-        window: at_front(0, Found::Nothing),
+        at: 0,
+        end: 0,
         turns: u64::MAX,
         run: Run {
             out: 0,
             err: 0,
             physical: 1,
             source: 0,
-            go: true,
+            refused: false,
         },
+        over: GOES_ON,
     }
 }
 
-fn flush_all(run: Run, out: &[u8; 131072], err: &[u8; 4096])
+// What waits is written, unless writing failed before; and what failed, if anything did.
+fn last(over: u64, run: Run, out: &[u8; OUTPUT], err: &[u8; NOTICES]) -> u64
     requires { ⌜ Waits run ⌝ }
 {
-    flush(run, out, err);
+    if over > NO_INPUT {
+        return over;
+    }
+    let left = flush(run, out, err);
+    if left.over != GOES_ON {
+        return left.over;
+    }
+    over
 }
 
-fn start(state: &mut [u64; 44]) {
+fn start(state: &mut [u64; STATE]) {
     flattener::start::flat_start(state, TOLERANCE, &[0, 1, 2]);
 }
 
 fn main() {
-    let mut buf = [0u8; 65536];
-    let mut state = [0u64; 44];
-    let mut store = [0u64; 7424];
-    let mut rows = [0u64; 7424];
-    let mut out = [0u8; 131072];
-    let mut err = [0u8; 4096];
+    let mut buf = [0u8; INPUT];
+    let mut state = [0u64; STATE];
+    let mut store = [0u64; ROWS];
+    let mut rows = [0u64; ROWS];
+    let mut out = [0u8; OUTPUT];
+    let mut err = [0u8; NOTICES];
     start(&mut state);
     let mut s = begun();
     while s.turns > 0 {
@@ -311,5 +212,7 @@ fn main() {
             &mut err,
         );
     }
-    flush_all(s.run, &out, &err);
+    let over = last(s.over, s.run, &out, &err);
+    tell(over);
+    report(over, s.run.refused);
 }

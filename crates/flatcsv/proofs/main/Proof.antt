@@ -1,12 +1,12 @@
--- `flatcsv::main` ends: a turn is used up each time round. Assumes nothing.
+-- `flatcsv::main` meets its contract. Assumes nothing.
 use Prim.Native.Nat.{_≤_}
+use Rattle.flatcsv.specs.Bounds.{Waits}
 use borrow.Author.Needs.{needs}
-use Rattle.csv_out.specs.Bounds.{Waits}
 use Rattle.flatcsv.proofs.main.Statement.{statement}
 use Rattle.flatcsv.proofs.main.Tie as tie
 
 abbrev Inv-loop : tie.InvT-loop
-Inv-loop buf₀ state₀ store₀ rows₀ out₀ err₀ s₀ buf state store rows out err s = (s .window .at ≤ s .window .end) × ((s .window .end ≤ 65536) × Waits (s .run))
+Inv-loop buf₀ state₀ store₀ rows₀ out₀ err₀ s₀ buf state store rows out err s = (s .at ≤ s .end) × ((s .end ≤ 65536) × Waits (s .run))
 
 abbrev μ-loop : tie.MeasureT-loop
 μ-loop buf₀ state₀ store₀ rows₀ out₀ err₀ s₀ buf state store rows out err s = s .turns
@@ -18,19 +18,25 @@ begun-requires : tie.Need-begun-requires Inv-loop μ-loop
 begun-requires c κs = search needs
 
 loop-holds : tie.Need-loop-holds Inv-loop μ-loop
-loop-holds c = c .begun .ensures
+loop-holds c = (c .begun .ensures)
 
 step-requires : tie.Need-step-requires Inv-loop μ-loop
 step-requires c κs = search needs
 
 loop-less : tie.Need-loop-less Inv-loop μ-loop
-loop-less c = c .step .ensures .1 .1 .0
+loop-less c = (c .step .ensures .fewer)
 
 loop-again : tie.Need-loop-again Inv-loop μ-loop
-loop-again c = (c .step .ensures .0, (c .step .ensures .1 .0, c .step .ensures .1 .1 .1))
+loop-again c = ((c .step .ensures .window), ((c .step .ensures .inside), (c .step .ensures .waits)))
 
-flush-all-requires : tie.Need-flush-all-requires Inv-loop μ-loop
-flush-all-requires c κs = search needs
+last-requires : tie.Need-last-requires Inv-loop μ-loop
+last-requires c κs = search needs
+
+tell-requires : tie.Need-tell-requires Inv-loop μ-loop
+tell-requires c κs = search needs
+
+report-requires : tie.Need-report-requires Inv-loop μ-loop
+report-requires c κs = search needs
 
 returns : tie.Need-returns Inv-loop μ-loop
 returns c = search needs
@@ -47,5 +53,7 @@ main-spec =
     step-requires
     loop-less
     loop-again
-    flush-all-requires
+    last-requires
+    tell-requires
+    report-requires
     returns)
