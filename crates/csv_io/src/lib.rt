@@ -1,4 +1,6 @@
 // What the row text program writes to descriptors: what waits, one line for what could not be done, and its status.
+use csv_out::CALL_ROOM;
+use csv_out::NOTICE_ROOM;
 use csv_out::Run;
 use libc::STDERR_FILENO;
 use libc::STDOUT_FILENO;
@@ -6,16 +8,20 @@ ghost use mathlib.Core.Path.{_≡_};
 ghost use Prim.Native.Nat.{ℕ, _≤_};
 ghost use lib.ListN.{length};
 ghost use Rattle.csv_io.specs.Flush.{HandedOver, Flushed, Emptied};
-ghost use Rattle.csv_io.specs.Status.{statusOf};
+ghost use Rattle.csv_io.specs.Status.{ended, statusOf};
 
 // The descriptor of the status.
 const STATUS_FILENO: i32 = 3;
 
-// What may wait in the output buffer before a line: the rows of a call have room behind it.
-const WAITING: usize = 65536;
+// The bytes that the two buffers have room for: what may wait, and what a line adds to it.
+pub const OUT_ROOM: usize = 2 * CALL_ROOM;
 
-// What may wait in the buffer of standard error before a line.
-const NOTICES: usize = 4064;
+pub const ERR_ROOM: usize = 4096;
+
+// What may wait before a line.
+const WAITING: usize = OUT_ROOM - CALL_ROOM;
+
+const NOTICES: usize = ERR_ROOM - NOTICE_ROOM;
 
 // The run goes on; it has ended; standard input, output or error failed.
 pub const GOES_ON: u64 = 0;
@@ -43,22 +49,28 @@ pub struct Left {
     pub over: u64,
 }
 
+fn lent(rows: usize, notices: usize, over: u64) -> Sent
+    requires { ⌜ (over ≡ ended → ⊥) ⌝ }
+    ensures { λ r. ⌜ HandedOver rows notices r ⌝ }
+{
+    Sent {
+        rows,
+        notices,
+        over,
+    }
+}
+
 // Rows to standard output, and then notices to standard error; where the rows cannot be written the notices are not.
 fn hand_over(rows: &[u8], notices: &[u8]) -> Sent
     ensures { λ r. ⌜ HandedOver (length (now (rows .entry))) (length (now (notices .entry))) r ⌝ }
 {
-    let mut over = NO_OUTPUT;
     if io::write_all(STDOUT_FILENO, rows) {
-        over = NO_ERROR;
         if io::write_all(STDERR_FILENO, notices) {
-            over = GOES_ON;
+            return lent(rows.len(), notices.len(), GOES_ON);
         }
+        return lent(rows.len(), notices.len(), NO_ERROR);
     }
-    Sent {
-        rows: rows.len(),
-        notices: notices.len(),
-        over,
-    }
+    lent(rows.len(), notices.len(), NO_OUTPUT)
 }
 
 // All that waits is handed over.
@@ -68,7 +80,7 @@ pub fn flush(run: Run, out: &[u8], err: &[u8]) -> Left
 {
     let n = run.out;
     let m = run.err;
-    let sent = hand_over(&out[..n], &err[..m]);
+    let handed = hand_over(&out[..n], &err[..m]);
     Left {
         run: Run {
             out: 0,
@@ -77,29 +89,16 @@ pub fn flush(run: Run, out: &[u8], err: &[u8]) -> Left
             source: run.source,
             refused: run.refused,
         },
-        rows: sent.rows,
-        notices: sent.notices,
-        over: sent.over,
-    }
-}
-
-// The run as it is.
-fn kept(run: Run) -> Left
-    requires { ⌜ (run .out ≤ 65536) × (run .err ≤ 4064) ⌝ }
-    ensures { λ r. ⌜ Emptied run r ⌝ }
-{
-    Left {
-        run,
-        rows: 0,
-        notices: 0,
-        over: GOES_ON,
+        rows: handed.rows,
+        notices: handed.notices,
+        over: handed.over,
     }
 }
 
 // Makes room for what one line can say: where much waits, all of it is handed over, the rows first.
 pub fn emptied(run: Run, out: &[u8], err: &[u8]) -> Left
     requires { ⌜ (run .out ≤ length (now out)) × (run .err ≤ length (now err)) ⌝ }
-    ensures { λ r. ⌜ Emptied run r ⌝ }
+    ensures { λ r. ⌜ Emptied run (now (out .entry)) (now (err .entry)) r ⌝ }
 {
     if run.out > WAITING {
         return flush(run, out, err);
@@ -107,7 +106,12 @@ pub fn emptied(run: Run, out: &[u8], err: &[u8]) -> Left
     if run.err > NOTICES {
         return flush(run, out, err);
     }
-    kept(run)
+    Left {
+        run,
+        rows: 0,
+        notices: 0,
+        over: GOES_ON,
+    }
 }
 
 // One plain line that names what failed.
@@ -125,11 +129,11 @@ pub fn tell(over: u64) -> bool {
     }
 }
 
-// 0 done, 1 refused, 2 could not read or write.
+// 0 done, 1 refused, 2 could not read or write, or did not come to the end.
 fn status_of(over: u64, refused: bool) -> u8
     ensures { λ r. ⌜ (r ≡ statusOf over refused) × (r ≤ 2) ⌝ }
 {
-    if over > ENDED {
+    if over != ENDED {
         return 2;
     }
     if refused { 1 } else { 0 }

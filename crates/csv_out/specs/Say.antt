@@ -1,5 +1,5 @@
--- Document 01, "Row text": what the program says to a header, to what a call answered, and to text that it cannot read. Definitions only.
-use Prim.Native.Nat.{ℕ, _+_}
+-- DEFINITIONS. What the row text program says to a header, to what a call answered, and to text that it cannot read. Assumes nothing.
+use Prim.Native.Nat.{ℕ, _+_, _*_}
 use mathlib.Core.Bool.{Bool, true, false, cond}
 use mathlib.Core.List.{List, [], _++_}
 use lib.Dec.{ltb, eqb}
@@ -17,6 +17,13 @@ headerRoom = 80
 
 abbrev pub rowRoom : ℕ
 rowRoom = 256
+
+-- how many rows a call is lent room for, and how many bytes they are never more than
+abbrev pub lentRows : ℕ
+lentRows = 256
+
+abbrev pub callRoom : ℕ
+callRoom = rowRoom * lentRows
 
 -- the refusal of text, and of a row whose numbers have none
 abbrev pub badText : ℕ

@@ -10,8 +10,18 @@ ghost use Rattle.layout.specs.Layout.{rowWords};
 ghost use Rattle.csv_line.specs.LineText.{crlf, headerOut};
 ghost use Rattle.csv_line.specs.Notice.{noticeText};
 ghost use Rattle.csv_out.specs.Say.{noticeRoom, headerRoom, rowRoom, refusal, heading, warningText, answer, nextLine};
-ghost use Rattle.csv_out.specs.Said.{Noted, Said, NextIs};
+ghost use Rattle.csv_out.specs.Said.{Noted, Said, NextIs, AnswerFits};
 
+// How long the lines of standard error and those of rows never are longer than, and how many rows a call is lent room for.
+pub const NOTICE_ROOM: usize = 32;
+
+const ROW_ROOM: usize = 256;
+
+pub const LENT_ROWS: usize = 256;
+
+pub const CALL_ROOM: usize = ROW_ROOM * LENT_ROWS;
+
+// The refusal of text, and of a row whose numbers have none.
 pub const BAD_TEXT: u64 = 10;
 
 // Physical lines are counted up to this one.
@@ -63,7 +73,10 @@ fn warned(run: Run, err: &mut [u8], warning: u64) -> Run
 // The first line: the header, which is answered by the second, or not.
 pub fn headed(run: Run, text: &[u8], out: &mut [u8], err: &mut [u8]) -> Run
     requires { ⌜ (run .out + headerRoom ≤ length (now out)) × (run .err + noticeRoom ≤ length (now err)) ⌝ }
-    ensures { λ r. ⌜ Said (heading (run .physical) (now (text .entry))) run (now (out .entry)) (now (err .entry)) r (now (out .exit)) (now (err .exit)) ⌝ }
+    ensures { λ r.
+      let p = heading (run .physical) (now (text .entry)) in
+      ⌜ Said p run (now (out .entry)) (now (err .entry)) r (now (out .exit)) (now (err .exit)) ⌝
+    }
 {
     if csv_line::is_header(text) {
         let n = csv_line::put_header(out, run.out);
@@ -89,8 +102,11 @@ pub fn answered(
     out: &mut [u8],
     err: &mut [u8],
 ) -> Run
-    requires { ⌜ (code ≡ 0 → (count * rowWords ≤ length (now rows)) × (run .out + rowRoom * count ≤ length (now out))) × (run .err + noticeRoom ≤ length (now err)) ⌝ }
-    ensures { λ r. ⌜ Said (answer (run .source) code count warning (now (rows .entry))) run (now (out .entry)) (now (err .entry)) r (now (out .exit)) (now (err .exit)) ⌝ }
+    requires { ⌜ AnswerFits code count (length (now rows)) (length (now out)) (length (now err)) run ⌝ }
+    ensures { λ r.
+      let p = answer (run .source) code count warning (now (rows .entry)) in
+      ⌜ Said p run (now (out .entry)) (now (err .entry)) r (now (out .exit)) (now (err .exit)) ⌝
+    }
 {
     if code != 0 {
         return refuse(run, err, run.source, code);

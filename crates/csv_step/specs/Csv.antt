@@ -1,13 +1,13 @@
--- Document 01, "Row text": the whole program, from the bytes of its input to the bytes of its outputs. Definitions only.
+-- DEFINITIONS. The whole row text program, from the bytes of its input to the bytes of its outputs. Assumes nothing.
 use Prim.Native.Nat.{ℕ, _*_}
 use mathlib.Core.Bool.{Bool, false, cond}
 use mathlib.Core.List.{List, [], _∷_, _++_}
-use lib.ListN.{length}
-use Rattle.floats.specs.Lists.{upto}
-use Rattle.layout.specs.Layout.{rowWords, stateWords}
+use lib.ListN.{length, replicate}
+use Rattle.layout.specs.Layout.{rowWords, stateWords, mostHeld}
 use Rattle.call_start.specs.Start.{startSpec}
 use Rattle.text_lines.specs.Cut.{linesFrom, restFrom}
-use Rattle.csv_step.specs.Line.{Stand, Step, lentRows, csvLine, csvEnd}
+use Rattle.csv_out.specs.Say.{lentRows}
+use Rattle.csv_step.specs.Line.{Stand, Step, csvLine, csvEnd}
 
 -- one step after another
 abbrev pub andThen : Step → Step → Step
@@ -29,7 +29,7 @@ csvFinish d left = cond (d .stand .refused) d (andThen d (csvEnd (d .stand) left
 unfoldable pub csvRest : Stand → List ℕ → Step
 csvRest s input = csvFinish (csvLines s (linesFrom [] input)) (length (restFrom [] input))
 
--- axes X Y Z, tolerance 0.1, no seed; a store and a lent memory of 256 rows
+-- axes X Y Z, tolerance 0.1, no seed, a full spline store
 abbrev pub tolerance : ℕ
 tolerance = 0x3fb999999999999a
 
@@ -37,13 +37,13 @@ abbrev pub axes : List ℕ
 axes = 0 ∷ 1 ∷ 2 ∷ []
 
 abbrev pub blank : ℕ → List ℕ
-blank n = upto (λ (i : ℕ). 0) n
+blank n = replicate n 0
 
 unfoldable pub begun : Stand
 begun =
     record {
       state = startSpec (blank stateWords) tolerance axes .state;
-      store = blank (lentRows * rowWords);
+      store = blank (mostHeld * rowWords);
       rows = blank (lentRows * rowWords);
       physical = 1;
       source = 0;

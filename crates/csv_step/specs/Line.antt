@@ -1,4 +1,4 @@
--- Document 01, "Row text": what the program does with one line, and with the end of the input. Definitions only.
+-- DEFINITIONS. What the row text program does with one line, and with the end of its input. Assumes nothing.
 use Prim.Native.Nat.{ℕ, _*_, _+_, _≤_}
 use mathlib.Core.Path.{_≡_}
 use mathlib.Core.Bool.{Bool, cond}
@@ -19,11 +19,8 @@ use Rattle.csv_out.specs.declared.Run.{Run}
 use Rattle.csv_out.specs.Say.{Say, badText, noticeRoom, rowRoom, refusal, heading, answer, nextLine}
 use Rattle.csv_out.specs.Said.{Adds}
 
--- how many rows a call is lent room for
-abbrev pub lentRows : ℕ
-lentRows = 256
-
--- what stands before a line: the state and the store, the words of the lent rows, the number of the line, the source line of the last block, and whether there was a refusal
+-- what stands before a line: the state and the store, the words of the lent rows, the number of the line, the source line of
+-- the last block, and whether there was a refusal
 pub record Stand : Type 0 where
   pub state : List ℕ
   pub store : List ℕ
@@ -81,8 +78,9 @@ onEnd s line (End.Upto n) = onText s (take n line)
 abbrev pub counted : Step → Step
 counted d =
     let s = d .stand in
+    let n = nextLine (s .physical) in
     record {
-      stand = record { state = s .state; store = s .store; rows = s .rows; physical = nextLine (s .physical); source = s .source; refused = s .refused };
+      stand = record { state = s .state; store = s .store; rows = s .rows; physical = n; source = s .source; refused = s .refused };
       out = d .out;
       err = d .err;
     }
@@ -95,23 +93,7 @@ csvLine s line = counted (onEnd s line (endOf line))
 unfoldable pub csvClose : Stand → Step
 csvClose s = called s (s .source) (closeSpec (s .state) (s .store) (s .rows))
 
--- the end of the input, where `left` bytes stand behind its last LF: a line without its end is no line, and the header may not be missing
+-- the end of the input, where `left` bytes stand behind its last LF: a line without its end is no line, and the header may
+-- not be missing
 unfoldable pub csvEnd : Stand → ℕ → Step
 csvEnd s left = cond (eqb left 0) (cond (eqb (s .physical) 1) (unread s) (csvClose s)) (unread s)
-
--- ---- as a contract says it
--- what stands, in a run and the lent memory
-abbrev pub standing : Run → List ℕ → List ℕ → List ℕ → Stand
-standing run st store rows = record { state = st; store = store; rows = rows; physical = run .physical; source = run .source; refused = run .refused }
-
--- the step d was done: what stands then is its, and its bytes are added behind those that wait
-pub record Stepped (d : Step) (run : Run) (o e : List ℕ) (r : Run) (st store rows o′ e′ : List ℕ) : Type 0 where
-  pub stand : standing r st store rows ≡ d .stand
-  pub out : Adds (d .out) o (run .out) o′ (r .out)
-  pub err : Adds (d .err) e (run .err) e′ (r .err)
-
--- room for what one line can say: all the lent rows, and one notice
-pub record Room (run : Run) (rows out err : ℕ) : Type 0 where
-  pub places : rows ≡ lentRows * rowWords
-  pub outs : run .out + rowRoom * lentRows ≤ out
-  pub errs : run .err + noticeRoom ≤ err

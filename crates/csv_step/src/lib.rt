@@ -1,5 +1,6 @@
 // One line of the row text program, and the end of its input, over slices: what is said waits behind what waits already,
 // and nothing is read or written.
+use csv_line::End;
 use csv_out::BAD_TEXT;
 use csv_out::Run;
 use csv_out::answered;
@@ -8,14 +9,14 @@ use csv_out::next_line;
 use csv_out::refuse;
 use flattener::call::flat_close;
 use flattener::call::flat_push;
-use csv_line::End;
+use layout::R_LINE;
 use layout::ROW_WORDS;
 ghost use mathlib.Core.Path.{_≡_};
-ghost use Prim.Native.Nat.{ℕ, _+_, _≤_};
 ghost use lib.ListN.{length};
 ghost use Rattle.layout.specs.Layout.{rowWords};
 ghost use Rattle.csv_line.specs.LineText.{endOf};
-ghost use Rattle.csv_step.specs.Line.{Room, Stepped, standing, onRow, onText, onEnd, csvLine, csvClose, csvEnd};
+ghost use Rattle.csv_step.specs.Line.{onRow, onText, onEnd, csvLine, csvClose, csvEnd};
+ghost use Rattle.csv_step.specs.Steps.{Room, Stepped, slices, standing};
 
 // A row, pushed.
 fn push_row(
@@ -28,14 +29,18 @@ fn push_row(
     err: &mut [u8],
 ) -> Run
     requires { ⌜ (length (now row) ≡ rowWords) × Room run (length (now rows)) (length (now out)) (length (now err)) ⌝ }
-    ensures { λ r. ⌜ Stepped (onRow (standing run (now (state .entry)) (now (store .entry)) (now (rows .entry))) (now (row .entry))) run (now (out .entry)) (now (err .entry)) r (now (state .exit)) (now (store .exit)) (now (rows .exit)) (now (out .exit)) (now (err .exit)) ⌝ }
+    ensures { λ r.
+      let was = slices (now (state .entry)) (now (store .entry)) (now (rows .entry)) (now (out .entry)) (now (err .entry)) in
+      let is = slices (now (state .exit)) (now (store .exit)) (now (rows .exit)) (now (out .exit)) (now (err .exit)) in
+      ⌜ Stepped (onRow (standing run was) (now (row .entry))) run was r is ⌝
+    }
 {
     let reply = flat_push(state, store, rows, row);
     let read = Run {
         out: run.out,
         err: run.err,
         physical: run.physical,
-        source: row[0],
+        source: row[R_LINE],
         refused: run.refused,
     };
     answered(read, reply.code, reply.count, reply.warning, rows, out, err)
@@ -52,7 +57,11 @@ fn text_line(
     err: &mut [u8],
 ) -> Run
     requires { ⌜ Room run (length (now rows)) (length (now out)) (length (now err)) ⌝ }
-    ensures { λ r. ⌜ Stepped (onText (standing run (now (state .entry)) (now (store .entry)) (now (rows .entry))) (now (text .entry))) run (now (out .entry)) (now (err .entry)) r (now (state .exit)) (now (store .exit)) (now (rows .exit)) (now (out .exit)) (now (err .exit)) ⌝ }
+    ensures { λ r.
+      let was = slices (now (state .entry)) (now (store .entry)) (now (rows .entry)) (now (out .entry)) (now (err .entry)) in
+      let is = slices (now (state .exit)) (now (store .exit)) (now (rows .exit)) (now (out .exit)) (now (err .exit)) in
+      ⌜ Stepped (onText (standing run was) (now (text .entry))) run was r is ⌝
+    }
 {
     if run.physical == 1 {
         return headed(run, text, out, err);
@@ -75,7 +84,11 @@ fn whole_line(
     err: &mut [u8],
 ) -> Run
     requires { ⌜ Room run (length (now rows)) (length (now out)) (length (now err)) ⌝ }
-    ensures { λ r. ⌜ Stepped (onEnd (standing run (now (state .entry)) (now (store .entry)) (now (rows .entry))) (now (line .entry)) (endOf (now (line .entry)))) run (now (out .entry)) (now (err .entry)) r (now (state .exit)) (now (store .exit)) (now (rows .exit)) (now (out .exit)) (now (err .exit)) ⌝ }
+    ensures { λ r.
+      let was = slices (now (state .entry)) (now (store .entry)) (now (rows .entry)) (now (out .entry)) (now (err .entry)) in
+      let is = slices (now (state .exit)) (now (store .exit)) (now (rows .exit)) (now (out .exit)) (now (err .exit)) in
+      ⌜ Stepped (onEnd (standing run was) (now (line .entry)) (endOf (now (line .entry)))) run was r is ⌝
+    }
 {
     let End::Upto(n) = csv_line::text_end(line) else {
         return refuse(run, err, run.physical, BAD_TEXT);
@@ -94,7 +107,11 @@ pub fn csv_line(
     err: &mut [u8],
 ) -> Run
     requires { ⌜ Room run (length (now rows)) (length (now out)) (length (now err)) ⌝ }
-    ensures { λ r. ⌜ Stepped (csvLine (standing run (now (state .entry)) (now (store .entry)) (now (rows .entry))) (now (line .entry))) run (now (out .entry)) (now (err .entry)) r (now (state .exit)) (now (store .exit)) (now (rows .exit)) (now (out .exit)) (now (err .exit)) ⌝ }
+    ensures { λ r.
+      let was = slices (now (state .entry)) (now (store .entry)) (now (rows .entry)) (now (out .entry)) (now (err .entry)) in
+      let is = slices (now (state .exit)) (now (store .exit)) (now (rows .exit)) (now (out .exit)) (now (err .exit)) in
+      ⌜ Stepped (csvLine (standing run was) (now (line .entry))) run was r is ⌝
+    }
 {
     next_line(whole_line(run, line, state, store, rows, out, err))
 }
@@ -109,7 +126,11 @@ fn close_run(
     err: &mut [u8],
 ) -> Run
     requires { ⌜ Room run (length (now rows)) (length (now out)) (length (now err)) ⌝ }
-    ensures { λ r. ⌜ Stepped (csvClose (standing run (now (state .entry)) (now (store .entry)) (now (rows .entry)))) run (now (out .entry)) (now (err .entry)) r (now (state .exit)) (now (store .entry)) (now (rows .exit)) (now (out .exit)) (now (err .exit)) ⌝ }
+    ensures { λ r.
+      let was = slices (now (state .entry)) (now (store .entry)) (now (rows .entry)) (now (out .entry)) (now (err .entry)) in
+      let is = slices (now (state .exit)) (now (store .entry)) (now (rows .exit)) (now (out .exit)) (now (err .exit)) in
+      ⌜ Stepped (csvClose (standing run was)) run was r is ⌝
+    }
 {
     let reply = flat_close(state, store, rows);
     answered(run, reply.code, reply.count, reply.warning, rows, out, err)
@@ -126,7 +147,11 @@ pub fn csv_end(
     err: &mut [u8],
 ) -> Run
     requires { ⌜ Room run (length (now rows)) (length (now out)) (length (now err)) ⌝ }
-    ensures { λ r. ⌜ Stepped (csvEnd (standing run (now (state .entry)) (now (store .entry)) (now (rows .entry))) left) run (now (out .entry)) (now (err .entry)) r (now (state .exit)) (now (store .entry)) (now (rows .exit)) (now (out .exit)) (now (err .exit)) ⌝ }
+    ensures { λ r.
+      let was = slices (now (state .entry)) (now (store .entry)) (now (rows .entry)) (now (out .entry)) (now (err .entry)) in
+      let is = slices (now (state .exit)) (now (store .entry)) (now (rows .exit)) (now (out .exit)) (now (err .exit)) in
+      ⌜ Stepped (csvEnd (standing run was) left) run was r is ⌝
+    }
 {
     if left != 0 {
         return refuse(run, err, run.physical, BAD_TEXT);

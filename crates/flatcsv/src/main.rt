@@ -1,168 +1,153 @@
 // Flattens the row text of standard input: axes X Y Z, tolerance 0.1, no seed, a full spline store, room for 256 rows.
-// Input and output go by large pieces, in memory of a fixed size. What a line does is csvline's; here bytes are read,
-// handed to it line by line, and what waits is written.
+// Memory is of a fixed size: text_lines reads, csv_step does a line, csv_io writes what waits, and the loop is here.
 use csv_io::ENDED;
+use csv_io::ERR_ROOM;
 use csv_io::GOES_ON;
 use csv_io::NO_INPUT;
+use csv_io::OUT_ROOM;
 use csv_io::emptied;
 use csv_io::flush;
 use csv_io::report;
 use csv_io::tell;
+use csv_out::LENT_ROWS;
+use csv_out::Run;
 use csv_step::csv_end;
 use csv_step::csv_line;
-use csv_out::Run;
-use text_lines::line_end;
-use text_lines::read_more;
-use text_lines::to_front;
+use layout::MOST_HELD;
+use layout::ROW_WORDS;
+use layout::STATE_WORDS;
+use text_lines::Found;
+use text_lines::Turn;
+use text_lines::next_turn;
+ghost use mathlib.Core.Logic.{_⊎_};
 ghost use mathlib.Core.Path.{_≡_};
-ghost use Prim.Native.Nat.{ℕ, _+_, _-_, _<_, _≤_};
+ghost use Prim.Native.Nat.{_<_, _≤_};
 ghost use lib.ListN.{length};
-ghost use Rattle.flatcsv.specs.Bounds.{Waits, Ready, Sound};
+ghost use Rattle.call_start.specs.Start.{startSpec};
+ghost use Rattle.csv_io.specs.Status.{goesOn, ended};
+ghost use Rattle.csv_step.specs.Csv.{tolerance, axes, begun};
+ghost use Rattle.csv_step.specs.Steps.{Room, slices};
+ghost use Rattle.flatcsv.specs.Reading.{goingOf};
+ghost use Rattle.flatcsv.specs.Turns.{FoundIn, Within, Done, TurnIs, First, Finished};
 
 // 0.1
 const TOLERANCE: u64 = 0x3fb9_9999_9999_999a;
 
-const STATE: usize = layout::STATE_WORDS;
+const STORE: usize = MOST_HELD as usize * ROW_WORDS;
 
-// The words of 256 rows.
-const ROWS: usize = 256 * layout::ROW_WORDS;
+const ROWS: usize = LENT_ROWS * ROW_WORDS;
 
 const INPUT: usize = 65536;
 
-const OUTPUT: usize = 131072;
-
-const NOTICES: usize = 4096;
-
-// The unread bytes of the input buffer are from `at` up to `end`; `turns` are left, none once the run is over.
-struct Stand {
+// Where the reading stands: the unread bytes of the input buffer are from `at` up to `end`.
+struct Reading {
     at: usize,
     end: usize,
-    turns: u64,
     run: Run,
     over: u64,
 }
 
-// After a turn.
-fn after_turn(at: usize, end: usize, turns: u64, run: Run, over: u64) -> Stand
-    requires { ⌜ (at ≤ end) × ((end ≤ 65536) × ((0 < turns) × Waits run)) ⌝ }
-    ensures { λ r. ⌜ Sound turns (r .at) (r .end) (r .turns) (r .run) ⌝ }
+// A refusal ends the run.
+fn going(run: Run) -> u64
+    ensures { λ r. ⌜ r ≡ goingOf (run .refused) ⌝ }
 {
-    let left = if over == GOES_ON { turns - 1 } else { 0 };
-    Stand {
-        at,
-        end,
-        turns: left,
+    if run.refused { ENDED } else { GOES_ON }
+}
+
+// The reading behind a turn.
+fn behind(t: Turn, run: Run, over: u64) -> Reading
+    ensures { λ r. ⌜ r ≡ record { at = t .at; end = t .end; run = run; over = over } ⌝ }
+{
+    Reading {
+        at: t.at,
+        end: t.end,
         run,
         over,
     }
 }
 
-// Whether a refusal ends the run.
-fn going(run: Run) -> u64 {
-    if run.refused { ENDED } else { GOES_ON }
-}
-
-// The line that ends before place e is done.
-fn take_line(
-    s: Stand,
-    e: usize,
+// What a turn found is done: a line; the end of the input, or a line that fills the buffer, which is refused as one without
+// its end is; or nothing.
+fn done(
+    t: Turn,
     run: Run,
     buf: &[u8],
-    state: &mut [u64; STATE],
-    store: &mut [u64; ROWS],
-    rows: &mut [u64; ROWS],
-    out: &mut [u8; OUTPUT],
-    err: &mut [u8; NOTICES],
-) -> Stand
-    requires { ⌜ (s .at < e) × ((e ≤ s .end) × ((s .end ≤ 65536) × ((0 < s .turns) × Ready run))) ⌝ }
-    requires { ⌜ length (now buf) ≡ 65536 ⌝ }
-    ensures { λ r. ⌜ Sound (s .turns) (r .at) (r .end) (r .turns) (r .run) ⌝ }
-{
-    let at = s.at;
-    let then = csv_line(run, &buf[at..e], state, store, rows, out, err);
-    after_turn(e, s.end, s.turns, then, going(then))
-}
-
-// The end of the input: `left` bytes stand behind its last line.
-fn finish(
-    turns: u64,
-    left: usize,
-    run: Run,
-    state: &mut [u64; STATE],
-    store: &[u64; ROWS],
-    rows: &mut [u64; ROWS],
-    out: &mut [u8; OUTPUT],
-    err: &mut [u8; NOTICES],
-) -> Stand
-    requires { ⌜ (0 < turns) × Ready run ⌝ }
-    ensures { λ r. ⌜ Sound turns (r .at) (r .end) (r .turns) (r .run) ⌝ }
-{
-    let then = csv_end(run, left, state, store, rows, out, err);
-    after_turn(0, 0, turns, then, ENDED)
-}
-
-// No line stands whole: the unread bytes go to the front, and more are read behind them. A line that fills the buffer is
-// too long to be one, as one without its end is.
-fn read_on(
-    s: Stand,
-    run: Run,
-    buf: &mut [u8; INPUT],
-    state: &mut [u64; STATE],
-    store: &[u64; ROWS],
-    rows: &mut [u64; ROWS],
-    out: &mut [u8; OUTPUT],
-    err: &mut [u8; NOTICES],
-) -> Stand
-    requires { ⌜ (s .at ≤ s .end) × ((s .end ≤ 65536) × ((0 < s .turns) × Ready run)) ⌝ }
-    ensures { λ r. ⌜ Sound (s .turns) (r .at) (r .end) (r .turns) (r .run) ⌝ }
-{
-    let n = to_front(buf, s.at, s.end);
-    if n == INPUT {
-        return finish(s.turns, n, run, state, store, rows, out, err);
+    state: &mut [u64],
+    store: &mut [u64],
+    rows: &mut [u64],
+    out: &mut [u8],
+    err: &mut [u8],
+) -> Reading
+    requires { ⌜ FoundIn t (length (now buf)) × Room run (length (now rows)) (length (now out)) (length (now err)) ⌝ }
+    ensures { λ r.
+      let was = slices (now (state .entry)) (now (store .entry)) (now (rows .entry)) (now (out .entry)) (now (err .entry)) in
+      let is = slices (now (state .exit)) (now (store .exit)) (now (rows .exit)) (now (out .exit)) (now (err .exit)) in
+      ⌜ Done t run (now (buf .entry)) was r is ⌝
     }
-    let came = read_more(buf, n);
-    if came.n > n {
-        return after_turn(0, came.n, s.turns, run, GOES_ON);
+{
+    let found = t.found;
+    match found {
+        Found::Line => {
+            let from = t.from;
+            let at = t.at;
+            let then = csv_line(run, &buf[from..at], state, store, rows, out, err);
+            behind(t, then, going(then))
+        }
+        Found::More => behind(t, run, GOES_ON),
+        Found::Failed => behind(t, run, NO_INPUT),
+        _ => {
+            let left = t.end - t.at;
+            let then = csv_end(run, left, state, store, rows, out, err);
+            behind(t, then, ENDED)
+        }
     }
-    if came.ok {
-        return finish(s.turns, n, run, state, store, rows, out, err);
-    }
-    after_turn(0, n, s.turns, run, NO_INPUT)
 }
 
 // One turn: room is made, and then a line is done or more is read.
 fn step(
-    s: Stand,
+    s: Reading,
     buf: &mut [u8; INPUT],
-    state: &mut [u64; STATE],
-    store: &mut [u64; ROWS],
+    state: &mut [u64; STATE_WORDS],
+    store: &mut [u64; STORE],
     rows: &mut [u64; ROWS],
-    out: &mut [u8; OUTPUT],
-    err: &mut [u8; NOTICES],
-) -> Stand
-    requires { ⌜ (s .at ≤ s .end) × ((s .end ≤ 65536) × ((0 < s .turns) × Waits (s .run))) ⌝ }
-    ensures { λ r. ⌜ Sound (s .turns) (r .at) (r .end) (r .turns) (r .run) ⌝ }
+    out: &mut [u8; OUT_ROOM],
+    err: &mut [u8; ERR_ROOM],
+) -> Reading
+    requires { ⌜ Within s ⌝ }
+    ensures { λ r.
+      let was = slices (now (state .entry)) (now (store .entry)) (now (rows .entry)) (now (out .entry)) (now (err .entry)) in
+      let is = slices (now (state .exit)) (now (store .exit)) (now (rows .exit)) (now (out .exit)) (now (err .exit)) in
+      ⌜ TurnIs s (now (buf .entry)) was r (now (buf .exit)) is ⌝
+    }
 {
     let room = emptied(s.run, out, err);
-    let run = room.run;
     if room.over != GOES_ON {
-        return after_turn(s.at, s.end, s.turns, run, room.over);
+        return Reading {
+            at: s.at,
+            end: s.end,
+            run: room.run,
+            over: room.over,
+        };
     }
-    let e = line_end(buf, s.at, s.end);
-    if e <= s.end {
-        return take_line(s, e, run, buf, state, store, rows, out, err);
-    }
-    read_on(s, run, buf, state, store, rows, out, err)
+    let t = next_turn(buf, s.at, s.end);
+    done(t, room.run, buf, state, store, rows, out, err)
+}
+
+// The turns that are left: none once the run is over.
+fn turns_left(turns: u64, over: u64) -> u64
+    requires { ⌜ 0 < turns ⌝ }
+    ensures { λ r. ⌜ (r < turns) × ((over ≡ goesOn) ⊎ (r ≡ 0)) ⌝ }
+{
+    if over == GOES_ON { turns - 1 } else { 0 }
 }
 
 // Before the first line.
-fn begun() -> Stand
-    ensures { λ r. ⌜ (r .at ≤ r .end) × ((r .end ≤ 65536) × Waits (r .run)) ⌝ }
+fn first() -> Reading
+    ensures { λ r. ⌜ First r ⌝ }
 {
-    Stand {
+    Reading {
         at: 0,
         end: 0,
-        turns: u64::MAX,
         run: Run {
             out: 0,
             err: 0,
@@ -174,45 +159,67 @@ fn begun() -> Stand
     }
 }
 
-// What waits is written, unless writing failed before; and what failed, if anything did.
-fn last(over: u64, run: Run, out: &[u8; OUTPUT], err: &[u8; NOTICES]) -> u64
-    requires { ⌜ Waits run ⌝ }
-{
-    if over > NO_INPUT {
-        return over;
+// Turn after turn, up to the end.
+fn all_turns(
+    buf: &mut [u8; INPUT],
+    state: &mut [u64; STATE_WORDS],
+    store: &mut [u64; STORE],
+    rows: &mut [u64; ROWS],
+    out: &mut [u8; OUT_ROOM],
+    err: &mut [u8; ERR_ROOM],
+) -> Reading
+    requires { ⌜ (now state ≡ begun .state) × ((now store ≡ begun .store) × (now rows ≡ begun .rows)) ⌝ }
+    ensures { λ r.
+      let is = slices (now (state .exit)) (now (store .exit)) (now (rows .exit)) (now (out .exit)) (now (err .exit)) in
+      ⌜ Finished r is ⌝
     }
-    let left = flush(run, out, err);
+{
+    let mut s = first();
+    let mut turns = u64::MAX;
+    while turns > 0 {
+        s = step(s, buf, state, store, rows, out, err);
+        turns = turns_left(turns, s.over);
+    }
+    s
+}
+
+// What waits is written, unless writing failed before; and what failed, if anything did.
+fn last(s: Reading, out: &[u8; OUT_ROOM], err: &[u8; ERR_ROOM]) -> u64
+    requires { ⌜ Within s ⌝ }
+{
+    if s.over > NO_INPUT {
+        return s.over;
+    }
+    let left = flush(s.run, out, err);
     if left.over != GOES_ON {
         return left.over;
     }
-    over
+    s.over
 }
 
-fn start(state: &mut [u64; STATE]) {
+fn start(state: &mut [u64; STATE_WORDS])
+    ensures { ⌜ now (state .exit) ≡ startSpec (now (state .entry)) tolerance axes .state ⌝ }
+{
     flattener::start::flat_start(state, TOLERANCE, &[0, 1, 2]);
 }
 
 fn main() {
     let mut buf = [0u8; INPUT];
-    let mut state = [0u64; STATE];
-    let mut store = [0u64; ROWS];
+    let mut state = [0u64; STATE_WORDS];
+    let mut store = [0u64; STORE];
     let mut rows = [0u64; ROWS];
-    let mut out = [0u8; OUTPUT];
-    let mut err = [0u8; NOTICES];
+    let mut out = [0u8; OUT_ROOM];
+    let mut err = [0u8; ERR_ROOM];
     start(&mut state);
-    let mut s = begun();
-    while s.turns > 0 {
-        s = step(
-            s,
-            &mut buf,
-            &mut state,
-            &mut store,
-            &mut rows,
-            &mut out,
-            &mut err,
-        );
-    }
-    let over = last(s.over, s.run, &out, &err);
+    let s = all_turns(
+        &mut buf,
+        &mut state,
+        &mut store,
+        &mut rows,
+        &mut out,
+        &mut err,
+    );
+    let over = last(s, &out, &err);
     tell(over);
     report(over, s.run.refused);
 }

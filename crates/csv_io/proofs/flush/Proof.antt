@@ -15,7 +15,17 @@ hand-over-requires : tie.Need-hand-over-requires
 hand-over-requires c κs = search needs
 
 returns : tie.Need-returns
-returns c = record { allRows = (c .hand-over .ensures .rows) ∙ length-take-le _ _ ((c .before .before .before .before .before .pre .0)); allNotices = (c .hand-over .ensures .notices) ∙ length-take-le _ _ ((c .before .before .before .before .before .pre .1)); noRows = refl; noNotices = refl; lines = record { physical = refl; source = refl; refused = refl } }
+returns c =
+    let start = c .before .before .before .before .before in
+    let sent = c .hand-over .ensures in
+    record {
+      allRows = sent .rows ∙ length-take-le _ _ (start .pre .0);
+      allNotices = sent .notices ∙ length-take-le _ _ (start .pre .1);
+      noRows = refl;
+      noNotices = refl;
+      lines = record { physical = refl; source = refl; refused = refl };
+      going = sent .going;
+    }
 
 pub flush-spec : {M : Type 1} → statement M
 flush-spec =

@@ -13,10 +13,14 @@ same-length : tie.Need-same-length
 same-length c = search needs
 
 returns : tie.Need-returns
-returns c = say-noted (answer-refused _ _ _ _ _ (λ (z : (c .before .before .before .before .before .before .before .before .args .code) ≡ 0). omega arith)) refl refl (c .before .before .refuse .ensures)
+returns c =
+    let code = c .before .before .before .before .before .before .before .before .args .code in
+    say-noted (answer-refused _ _ _ _ _ (λ (z : code ≡ 0). omega arith)) refl refl (c .before .before .refuse .ensures)
 
 write-rows-requires : tie.Need-write-rows-requires
-write-rows-requires c κs = (c .before .before .before .before .before .pre .0) (omega arith)
+write-rows-requires c κs =
+    let fits = c .before .before .before .before .before .pre in
+    (fits .lent (omega arith), fits .outs (omega arith))
 
 enum-known-n : tie.Need-enum-known-n
 enum-known-n c = search needs
@@ -34,7 +38,14 @@ same-length-3 : tie.Need-same-length-3
 same-length-3 c = search needs
 
 returns-2 : tie.Need-returns-2
-returns-2 c = say-noted (answer-bad _ _ _ _ _ (omega arith) (tried-bad (c .before .before .before .before .before .before .before .before .write-rows .ensures) (c .before .before .before .before .enum-told .given .1))) ((c .before .before .before .before .before .before .before .before .write-rows .ensures) .kept (c .before .before .before .before .before .before .before .before .before .before .before .before .before .before .args .run .out) (omega arith)) ((c .before .before .before .before .before .before .before .before .write-rows .ensures) .same) (c .before .before .refuse2 .ensures)
+returns-2 c =
+    let told = c .before .before .before .before in
+    let tried = told .before .before .before .before in
+    let start = tried .before .before .before .before .before .before in
+    let wrote = tried .write-rows .ensures in
+    let zero : start .args .code ≡ 0 = omega arith in
+    let bad = answer-bad _ _ _ _ _ zero (tried-bad wrote (told .enum-told .given .1)) in
+    say-noted bad (wrote .kept (start .args .run .out) (omega arith)) (wrote .same) (c .before .before .refuse2 .ensures)
 
 warned-requires : tie.Need-warned-requires
 warned-requires c κs = search needs
@@ -46,7 +57,15 @@ same-length-5 : tie.Need-same-length-5
 same-length-5 c = search needs
 
 returns-3 : tie.Need-returns-3
-returns-3 c = say-rows _ _ _ _ (answer-done _ _ _ _ _ (omega arith) (tried-good (c .before .before .before .before .before .before .before .before .before .write-rows .ensures) ((c .before .before .before .before .before .n .given .1)) .0)) (c .before .before .before .before .before .before .before .before .before .write-rows .ensures) ((c .before .before .before .before .before .n .given .1)) ((c .before .before .before .before .before .before .before .before .before .before .before .before .before .before .before .pre .0) (omega arith) .1) refl refl refl (c .before .before .warned .ensures)
+returns-3 c =
+    let told = c .before .before .before .before .before in
+    let tried = told .before .before .before .before in
+    let start = tried .before .before .before .before .before .before in
+    let wrote = tried .write-rows .ensures in
+    let placed = told .n .given .1 in
+    let zero : start .args .code ≡ 0 = omega arith in
+    let done = answer-done _ _ _ _ _ zero (tried-good wrote placed .0) in
+    say-rows _ _ _ _ done wrote placed (start .pre .outs (omega arith)) refl refl refl (c .before .before .warned .ensures)
 
 pub answered-spec : {M : Type 1} → statement M
 answered-spec =

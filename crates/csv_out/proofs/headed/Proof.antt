@@ -15,7 +15,10 @@ same-length : tie.Need-same-length
 same-length c = search needs
 
 returns : tie.Need-returns
-returns c = say-header (heading-good _ _ (sym (c .before .before .before .before .before .is-header .ensures) ∙ (c .before .before .before .before .if1 .taken))) refl refl refl refl ((c .before .before .before .before .before .before .before .before .before .pre .0)) (c .before .before .put-header .ensures)
+returns c =
+    let test = c .before .before .before .before in
+    let good = heading-good _ _ (sym (test .before .is-header .ensures) ∙ test .if1 .taken) in
+    say-header good refl refl refl refl (test .before .before .before .before .before .pre .0) (c .before .before .put-header .ensures)
 
 refuse-requires : tie.Need-refuse-requires
 refuse-requires c κs = search needs
@@ -24,7 +27,10 @@ same-length-2 : tie.Need-same-length-2
 same-length-2 c = search needs
 
 returns-2 : tie.Need-returns-2
-returns-2 c = say-noted (heading-bad _ _ (sym (c .before .before .before .before .before .is-header .ensures) ∙ (c .before .before .before .before .if1 .left))) refl refl (c .before .before .refuse .ensures)
+returns-2 c =
+    let test = c .before .before .before .before in
+    let bad = heading-bad _ _ (sym (test .before .is-header .ensures) ∙ test .if1 .left) in
+    say-noted bad refl refl (c .before .before .refuse .ensures)
 
 pub headed-spec : {M : Type 1} → statement M
 headed-spec =

@@ -16,7 +16,10 @@ same-length : tie.Need-same-length
 same-length c = search needs
 
 returns-2 : tie.Need-returns-2
-returns-2 c = note (warning-some _ _ (λ (z : (c .before .before .before .before .before .before .args .warning) ≡ 0). omega arith)) refl refl refl refl (notice-short _ _ _) (c .before .before .before .before .before .before .pre) (c .before .before .put-notice .ensures)
+returns-2 c =
+    let start = c .before .before .before .before .before .before in
+    let some = warning-some _ _ (λ (z : start .args .warning ≡ 0). omega arith) in
+    note some refl refl refl refl (notice-short _ _ _) (start .pre) (c .before .before .put-notice .ensures)
 
 pub warned-spec : {M : Type 1} → statement M
 warned-spec = tie.close (tie.spec returns put-notice-requires same-length returns-2)

@@ -9,7 +9,10 @@ flat-close-requires : tie.Need-flat-close-requires
 flat-close-requires c κs = search needs
 
 answered-requires : tie.Need-answered-requires
-answered-requires c κs = answer-room (c .before .before .before .before .before .before .before .before .before .before .before .before .before .before .before .pre) ((c .before .before .before .before .before .before .before .flat-close .ensures .reply)) (close-fits _ _ _) (search needs) refl refl
+answered-requires c κs =
+    let closed = c .before .before .before .before .before .before .before in
+    let start = closed .before .before .before .before .before .before .before .before in
+    answer-room (start .pre) (closed .flat-close .ensures .reply) (close-fits _ _ _) (search needs) refl refl
 
 same-length : tie.Need-same-length
 same-length c = search needs
@@ -24,7 +27,10 @@ same-length-4 : tie.Need-same-length-4
 same-length-4 c = search needs
 
 returns : tie.Need-returns
-returns c = close-step _ _ _ (c .before .before .before .before .before .before .before .before .before .before .before .before .flat-close .ensures) (c .before .before .before .before .answered .ensures)
+returns c =
+    let said = c .before .before .before .before in
+    let closed = said .before .before .before .before .before .before .before .before in
+    close-step (closed .flat-close .ensures) (said .answered .ensures)
 
 pub close-run-spec : {M : Type 1} → statement M
 close-run-spec =

@@ -13,7 +13,9 @@ same-length : tie.Need-same-length
 same-length c = search needs
 
 returns : tie.Need-returns
-returns c = step-as (end-left _ _ (λ (z : (c .before .before .before .before .before .before .before .before .before .before .args .left) ≡ 0). omega arith)) (bad-step (c .before .before .refuse .ensures))
+returns c =
+    let left = c .before .before .before .before .before .before .before .before .before .before .args .left in
+    step-as (end-left _ _ (λ (z : left ≡ 0). omega arith)) (bad-step (c .before .before .refuse .ensures))
 
 refuse-requires-2 : tie.Need-refuse-requires-2
 refuse-requires-2 c κs = search needs
@@ -40,7 +42,11 @@ same-length-6 : tie.Need-same-length-6
 same-length-6 c = search needs
 
 returns-3 : tie.Need-returns-3
-returns-3 c = step-as (end-close _ _ (omega arith) (λ (z : (c .before .before .before .before .before .before .before .before .before .before .before .before .before .before .before .before .before .before .before .before .before .args .run .physical) ≡ 1). omega arith)) (c .before .before .before .before .before .before .before .before .close-run .ensures)
+returns-3 c =
+    let closed = c .before .before .before .before .before .before .before .before in
+    let start = closed .before .before .before .before .before .before .before .before .before .before .before .before .before in
+    let none : start .args .left ≡ 0 = omega arith in
+    step-as (end-close _ _ none (λ (z : start .args .run .physical ≡ 1). omega arith)) (closed .close-run .ensures)
 
 pub csv-end-spec : {M : Type 1} → statement M
 csv-end-spec =

@@ -26,7 +26,9 @@ same-length-5 : tie.Need-same-length-5
 same-length-5 c = search needs
 
 returns : tie.Need-returns
-returns c = line-step _ _ _ _ (c .before .before .before .before .before .before .before .before .before .before .before .whole-line .ensures) (c .next-line .ensures)
+returns c =
+    let done = c .before .before .before .before .before .before .before .before .before .before .before in
+    line-step _ (done .whole-line .ensures) (c .next-line .ensures)
 
 pub csv-line-spec : {M : Type 1} → statement M
 csv-line-spec =

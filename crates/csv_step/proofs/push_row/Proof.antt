@@ -12,7 +12,10 @@ shared-slice-read-t17 : tie.Need-shared-slice-read-t17
 shared-slice-read-t17 c = search needs
 
 answered-requires : tie.Need-answered-requires
-answered-requires c κs = answer-room ((c .before .before .before .before .before .before .before .before .before .before .before .before .before .before .before .before .before .before .before .before .pre .1)) ((c .before .before .before .before .before .before .before .before .before .before .flat-push .ensures .reply)) (push-fits _ _ _ _) (search needs) refl refl
+answered-requires c κs =
+    let pushed = c .before .before .before .before .before .before .before .before .before .before in
+    let start = pushed .before .before .before .before .before .before .before .before .before .before in
+    answer-room (start .pre .1) (pushed .flat-push .ensures .reply) (push-fits _ _ _ _) (search needs) refl refl
 
 same-length : tie.Need-same-length
 same-length c = search needs
@@ -30,7 +33,11 @@ same-length-5 : tie.Need-same-length-5
 same-length-5 c = search needs
 
 returns : tie.Need-returns
-returns c = row-step _ _ _ _ (c .before .before .before .before .before .before .before .before .before .before .before .before .before .before .before .flat-push .ensures) refl refl refl refl (c .before .before .before .before .answered .ensures)
+returns c =
+    let said = c .before .before .before .before in
+    let pushed = said .before .before .before .before .before .before .before .before .before .before .before in
+    let reads = record { source = refl; out = refl; err = refl; physical = refl } in
+    row-step _ (pushed .flat-push .ensures) reads (said .answered .ensures)
 
 pub push-row-spec : {M : Type 1} → statement M
 push-row-spec =

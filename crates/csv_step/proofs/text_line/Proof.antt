@@ -46,7 +46,14 @@ same-length-7 : tie.Need-same-length-7
 same-length-7 c = search needs
 
 returns-2 : tie.Need-returns-2
-returns-2 c = step-as (text-row _ _ _ _ (λ (z : (c .before .before .before .before .before .before .before .before .before .before .before .before .before .before .before .before .before .before .before .before .before .before .before .before .before .before .before .before .before .args .run .physical) ≡ 1). omega arith) (sym ((c .before .before .before .before .before .before .before .before .before .before .before .before .before .before .before .before .before .before .before .read-row .ensures .0)) ∙ (c .before .before .before .before .before .before .before .before .before .before .before .before .before .before .before .before .before .if2 .taken)) ((c .before .before .before .before .before .before .before .before .before .before .before .before .before .before .before .before .before .before .before .read-row .ensures .1))) (c .before .before .before .before .before .before .before .before .before .before .push-row .ensures)
+returns-2 c =
+    let pushed = c .before .before .before .before .before .before .before .before .before .before in
+    let test = pushed .before .before .before .before .before .before .before in
+    let read = test .before .before in
+    let start = read .before .before .before .before .before .before .before .before .before .before in
+    let first : start .args .run .physical ≡ 1 → ⊥ = λ (z : start .args .run .physical ≡ 1). omega arith in
+    let row = text-row _ _ _ _ first (sym (read .read-row .ensures .0) ∙ test .if2 .taken) (read .read-row .ensures .1) in
+    step-as row (pushed .push-row .ensures)
 
 refuse-requires : tie.Need-refuse-requires
 refuse-requires c κs = search needs
@@ -55,7 +62,12 @@ same-length-8 : tie.Need-same-length-8
 same-length-8 c = search needs
 
 returns-3 : tie.Need-returns-3
-returns-3 c = step-as (text-bad _ _ (λ (z : (c .before .before .before .before .before .before .before .before .before .before .before .before .before .before .before .before .args .run .physical) ≡ 1). omega arith) (sym ((c .before .before .before .before .before .before .read-row .ensures .0)) ∙ (c .before .before .before .before .if2 .left))) (bad-step (c .before .before .refuse .ensures))
+returns-3 c =
+    let test = c .before .before .before .before in
+    let read = test .before .before in
+    let start = read .before .before .before .before .before .before .before .before .before .before in
+    let first : start .args .run .physical ≡ 1 → ⊥ = λ (z : start .args .run .physical ≡ 1). omega arith in
+    step-as (text-bad _ _ first (sym (read .read-row .ensures .0) ∙ test .if2 .left)) (bad-step (c .before .before .refuse .ensures))
 
 pub text-line-spec : {M : Type 1} → statement M
 text-line-spec =

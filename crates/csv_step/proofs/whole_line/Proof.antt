@@ -23,10 +23,15 @@ same-length : tie.Need-same-length
 same-length c = search needs
 
 returns : tie.Need-returns
-returns c = step-as (ap (onEnd _ _) (sym (c .before .before .before .before .before .before .text-end .ensures) ∙ (c .before .before .before .before .enum-told .given .1))) (bad-step (c .before .before .refuse .ensures))
+returns c =
+    let told = c .before .before .before .before in
+    let bad = sym (told .before .before .text-end .ensures) ∙ told .enum-told .given .1 in
+    step-as (ap (onEnd _ _) bad) (bad-step (c .before .before .refuse .ensures))
 
 slice-aggregate-text-line : tie.Need-slice-aggregate-text-line
-slice-aggregate-text-line c = sym (length-take-le _ _ (end-in _ (sym (c .before .before .before .before .text-end .ensures) ∙ (c .before .before .n .given .1))))
+slice-aggregate-text-line c =
+    let told = c .before .before in
+    sym (length-take-le _ _ (end-in _ (sym (told .before .before .text-end .ensures) ∙ told .n .given .1)))
 
 text-line-requires : tie.Need-text-line-requires
 text-line-requires c κs = search needs
@@ -47,7 +52,10 @@ same-length-6 : tie.Need-same-length-6
 same-length-6 c = search needs
 
 returns-2 : tie.Need-returns-2
-returns-2 c = step-as (ap (onEnd _ _) (sym (c .before .before .before .before .before .before .before .before .before .before .before .before .before .before .before .before .before .before .before .before .text-end .ensures) ∙ (c .before .before .before .before .before .before .before .before .before .before .before .before .before .before .before .before .before .before .n .given .1))) (c .before .before .before .before .before .before .before .before .before .before .text-line .ensures)
+returns-2 c =
+    let done = c .before .before .before .before .before .before .before .before .before .before in
+    let told = done .before .before .before .before .before .before .before .before in
+    step-as (ap (onEnd _ _) (sym (told .before .before .text-end .ensures) ∙ told .n .given .1)) (done .text-line .ensures)
 
 pub whole-line-spec : {M : Type 1} → statement M
 whole-line-spec =
