@@ -1,4 +1,4 @@
--- Laws of lines: the first line of an input and the others, an input that comes in pieces, and the search for an LF. Assumes nothing.
+-- LAWS. The first line of an input and the others, an input that comes in pieces, the search for an LF. Assumes nothing.
 use Prim.Native.Nat.{ℕ, suc, _+_, _-_, _≤_, _<_, zero-le}
 use mathlib.Core.Path.{_≡_, refl, sym, ap, _∙_}
 use mathlib.Core.Bool.{Bool, true, false, cond}
@@ -14,21 +14,28 @@ use Rattle.text_lines.specs.Cut.{lf, cut, linesFrom, restFrom, between}
 pub lines-pieces : (a b part : List ℕ) → linesFrom part (a ++ b) ≡ linesFrom part a ++ linesFrom (restFrom part a) b
 unfolding linesFrom restFrom
 lines-pieces [] b part = refl
-lines-pieces (c ∷ a) b part = go (eqb c lf) (lines-pieces a b []) (lines-pieces a b (part ++ (c ∷ [])))
+lines-pieces (c ∷ a) b part = go (eqb c lf) (lines-pieces a b []) (lines-pieces a b more)
   where
-    go : (x : Bool) → linesFrom [] (a ++ b) ≡ linesFrom [] a ++ linesFrom (restFrom [] a) b → linesFrom (part ++ (c ∷ [])) (a ++ b) ≡ linesFrom (part ++ (c ∷ [])) a ++ linesFrom (restFrom (part ++ (c ∷ [])) a) b
-        → cond x ((part ++ (c ∷ [])) ∷ linesFrom [] (a ++ b)) (linesFrom (part ++ (c ∷ [])) (a ++ b))
-        ≡ cond x ((part ++ (c ∷ [])) ∷ linesFrom [] a) (linesFrom (part ++ (c ∷ [])) a) ++ linesFrom (cond x (restFrom [] a) (restFrom (part ++ (c ∷ [])) a)) b
-    go true p q = ap (λ (l : List (List ℕ)). (part ++ (c ∷ [])) ∷ l) p
+    more : List ℕ
+    more = part ++ (c ∷ [])
+
+    go : (x : Bool) → linesFrom [] (a ++ b) ≡ linesFrom [] a ++ linesFrom (restFrom [] a) b
+        → linesFrom more (a ++ b) ≡ linesFrom more a ++ linesFrom (restFrom more a) b
+        → cond x (more ∷ linesFrom [] (a ++ b)) (linesFrom more (a ++ b))
+        ≡ cond x (more ∷ linesFrom [] a) (linesFrom more a) ++ linesFrom (cond x (restFrom [] a) (restFrom more a)) b
+    go true p q = ap (λ (l : List (List ℕ)). more ∷ l) p
     go false p q = q
 
 pub rest-pieces : (a b part : List ℕ) → restFrom part (a ++ b) ≡ restFrom (restFrom part a) b
 unfolding restFrom
 rest-pieces [] b part = refl
-rest-pieces (c ∷ a) b part = go (eqb c lf) (rest-pieces a b []) (rest-pieces a b (part ++ (c ∷ [])))
+rest-pieces (c ∷ a) b part = go (eqb c lf) (rest-pieces a b []) (rest-pieces a b more)
   where
-    go : (x : Bool) → restFrom [] (a ++ b) ≡ restFrom (restFrom [] a) b → restFrom (part ++ (c ∷ [])) (a ++ b) ≡ restFrom (restFrom (part ++ (c ∷ [])) a) b
-        → cond x (restFrom [] (a ++ b)) (restFrom (part ++ (c ∷ [])) (a ++ b)) ≡ restFrom (cond x (restFrom [] a) (restFrom (part ++ (c ∷ [])) a)) b
+    more : List ℕ
+    more = part ++ (c ∷ [])
+
+    go : (x : Bool) → restFrom [] (a ++ b) ≡ restFrom (restFrom [] a) b → restFrom more (a ++ b) ≡ restFrom (restFrom more a) b
+        → cond x (restFrom [] (a ++ b)) (restFrom more (a ++ b)) ≡ restFrom (cond x (restFrom [] a) (restFrom more a)) b
     go true p q = p
     go false p q = q
 
@@ -39,20 +46,29 @@ append-more part c t = append-assoc part (c ∷ []) t
 pub first-line : (l part : List ℕ) → cut l ≤ length l → linesFrom part l ≡ (part ++ take (cut l) l) ∷ linesFrom [] (drop (cut l) l)
 unfolding cut linesFrom
 first-line [] part h = absurd (omega arith)
-first-line (c ∷ t) part h = go (eqb c lf) h (first-line t (part ++ (c ∷ [])))
+first-line (c ∷ t) part h = go (eqb c lf) h (first-line t more)
   where
-    go : (x : Bool) → cond x 1 (suc (cut t)) ≤ suc (length t) → (cut t ≤ length t → linesFrom (part ++ (c ∷ [])) t ≡ ((part ++ (c ∷ [])) ++ take (cut t) t) ∷ linesFrom [] (drop (cut t) t))
-        → cond x ((part ++ (c ∷ [])) ∷ linesFrom [] t) (linesFrom (part ++ (c ∷ [])) t) ≡ (part ++ take (cond x 1 (suc (cut t))) (c ∷ t)) ∷ linesFrom [] (drop (cond x 1 (suc (cut t))) (c ∷ t))
+    more : List ℕ
+    more = part ++ (c ∷ [])
+
+    n : Bool → ℕ
+    n x = cond x 1 (suc (cut t))
+
+    go : (x : Bool) → n x ≤ suc (length t) → (cut t ≤ length t → linesFrom more t ≡ (more ++ take (cut t) t) ∷ linesFrom [] (drop (cut t) t))
+        → cond x (more ∷ linesFrom [] t) (linesFrom more t) ≡ (part ++ take (n x) (c ∷ t)) ∷ linesFrom [] (drop (n x) (c ∷ t))
     go true h r = refl
     go false h r = r (omega arith) ∙ ap (λ (a : List ℕ). a ∷ linesFrom [] (drop (cut t) t)) (append-more part c (take (cut t) t))
 
 pub first-rest : (l part : List ℕ) → cut l ≤ length l → restFrom part l ≡ restFrom [] (drop (cut l) l)
 unfolding cut restFrom
 first-rest [] part h = absurd (omega arith)
-first-rest (c ∷ t) part h = go (eqb c lf) h (first-rest t (part ++ (c ∷ [])))
+first-rest (c ∷ t) part h = go (eqb c lf) h (first-rest t more)
   where
-    go : (x : Bool) → cond x 1 (suc (cut t)) ≤ suc (length t) → (cut t ≤ length t → restFrom (part ++ (c ∷ [])) t ≡ restFrom [] (drop (cut t) t))
-        → cond x (restFrom [] t) (restFrom (part ++ (c ∷ [])) t) ≡ restFrom [] (drop (cond x 1 (suc (cut t))) (c ∷ t))
+    more : List ℕ
+    more = part ++ (c ∷ [])
+
+    go : (x : Bool) → cond x 1 (suc (cut t)) ≤ suc (length t) → (cut t ≤ length t → restFrom more t ≡ restFrom [] (drop (cut t) t))
+        → cond x (restFrom [] t) (restFrom more t) ≡ restFrom [] (drop (cond x 1 (suc (cut t))) (c ∷ t))
     go true h r = refl
     go false h r = r (omega arith)
 
@@ -60,10 +76,13 @@ first-rest (c ∷ t) part h = go (eqb c lf) h (first-rest t (part ++ (c ∷ []))
 pub no-line : (l part : List ℕ) → length l < cut l → (linesFrom part l ≡ []) × (restFrom part l ≡ part ++ l)
 unfolding cut linesFrom restFrom
 no-line [] part h = (refl, sym (append-nil part))
-no-line (c ∷ t) part h = go (eqb c lf) h (no-line t (part ++ (c ∷ [])))
+no-line (c ∷ t) part h = go (eqb c lf) h (no-line t more)
   where
-    go : (x : Bool) → suc (length t) < cond x 1 (suc (cut t)) → (length t < cut t → (linesFrom (part ++ (c ∷ [])) t ≡ []) × (restFrom (part ++ (c ∷ [])) t ≡ (part ++ (c ∷ [])) ++ t))
-        → (cond x ((part ++ (c ∷ [])) ∷ linesFrom [] t) (linesFrom (part ++ (c ∷ [])) t) ≡ []) × (cond x (restFrom [] t) (restFrom (part ++ (c ∷ [])) t) ≡ part ++ (c ∷ t))
+    more : List ℕ
+    more = part ++ (c ∷ [])
+
+    go : (x : Bool) → suc (length t) < cond x 1 (suc (cut t)) → (length t < cut t → (linesFrom more t ≡ []) × (restFrom more t ≡ more ++ t))
+        → (cond x (more ∷ linesFrom [] t) (linesFrom more t) ≡ []) × (cond x (restFrom [] t) (restFrom more t) ≡ part ++ (c ∷ t))
     go true h r = absurd (omega arith)
     go false h r = let w = r (omega arith) in (w .0, w .1 ∙ append-more part c t)
 
@@ -102,7 +121,8 @@ pub find-end : (l : List ℕ) (e : ℕ) → cut (between l e e) ≡ 1
 find-end l e = let n : e - e ≡ 0 = omega arith in ap (λ (m : ℕ). cut (take m (drop e l))) n ∙ cut-end
 
 -- ---- moving to the front, byte after byte
-pub front-step : (d : List ℕ) (at i : ℕ) → at + i < length d → set (paste d 0 (drop at d) i) i (getD (paste d 0 (drop at d) i) (at + i) 0) ≡ paste d 0 (drop at d) (i + 1)
+front-step : (d : List ℕ) (at i : ℕ) → at + i < length d
+    → set (paste d 0 (drop at d) i) i (getD (paste d 0 (drop at d) i) (at + i) 0) ≡ paste d 0 (drop at d) (i + 1)
 front-step d at i h =
     let m : length (drop at d) ≡ length d - at = length-drop at d in
     let p : length (take i (drop at d)) ≡ i = length-take-le i (drop at d) (omega arith) in
@@ -132,3 +152,17 @@ front-done d d′ at n h e =
 
 pub front-more : (d b : List ℕ) (at i : ℕ) → at + i < length d → b ≡ paste d 0 (drop at d) i → set b i (getD b (at + i) 0) ≡ paste d 0 (drop at d) (i + 1)
 front-more d b at i h e = ap (λ (x : List ℕ). set x i (getD x (at + i) 0)) e ∙ front-step d at i h
+
+-- ---- the first line is one line
+first-cut : (l : List ℕ) → cut l ≤ length l → cut (take (cut l) l) ≡ cut l
+unfolding cut
+first-cut [] h = absurd (omega arith)
+first-cut (c ∷ t) h = go (eqb c lf) refl h (first-cut t)
+  where
+    go : (x : Bool) → eqb c lf ≡ x → cond x 1 (suc (cut t)) ≤ suc (length t) → (cut t ≤ length t → cut (take (cut t) t) ≡ cut t)
+        → cut (take (cond x 1 (suc (cut t))) (c ∷ t)) ≡ cond x 1 (suc (cut t))
+    go true e h r = ap (λ (b : Bool). cond b 1 (suc (cut []))) e
+    go false e h r = ap (λ (b : Bool). cond b 1 (suc (cut (take (cut t) t)))) e ∙ ap suc (r (omega arith))
+
+pub first-whole : (l : List ℕ) → cut l ≤ length l → cut (take (cut l) l) ≡ length (take (cut l) l)
+first-whole l h = first-cut l h ∙ sym (length-take-le (cut l) l h)

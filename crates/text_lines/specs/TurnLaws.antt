@@ -35,7 +35,8 @@ module _ (b : List ℕ) (at end : ℕ) (window : at ≤ end) (inside : end ≤ l
             ∙ ap (λ (j : ℕ). drop k (take j l)) (sym parts);
       }
 
-  pub line-turned : (e : ℕ) → e ≡ at + cut (between b at end) → e ≤ end → at ≤ e → Turned b at end b (record { from = at; at = e; end = end; found = Found.Line })
+  pub line-turned : (e : ℕ) → e ≡ at + cut (between b at end) → e ≤ end → at ≤ e
+      → Turned b at end b (record { from = at; at = e; end = end; found = Found.Line })
   line-turned e is below above = record { start = above; window = below; inside = inside; same = refl; told = line-found e is below }
 
   -- a turn that read, or could not: the unread bytes are the first of b′, and of b″ behind the reading
@@ -57,7 +58,8 @@ module _ (b : List ℕ) (at end : ℕ) (window : at ≤ end) (inside : end ≤ l
       pub more-turned : n < came .n → Turned b at end b″ (record { from = 0; at = 0; end = came .n; found = Found.More })
       more-turned h =
           let m = came .n in
-          let long : length (take (m - 0) b″) ≡ m = ap (λ (j : ℕ). length (take j b″)) (sub-zero m) ∙ length-take-le m b″ (omega (arith, more .most, more .same)) in
+          let fits : m ≤ length b″ = omega (arith, more .most, more .same) in
+          let long : length (take (m - 0) b″) ≡ m = ap (λ (j : ℕ). length (take j b″)) (sub-zero m) ∙ length-take-le m b″ fits in
           let short : length (between b at end) ≡ n = between-length ∙ sym (front .count) in
           record {
             start = zero-le;
@@ -75,7 +77,8 @@ module _ (b : List ℕ) (at end : ℕ) (window : at ≤ end) (inside : end ≤ l
                 };
           }
 
-      none-turned : (f : Found) → Told f (length b) (between b at end) (between b″ 0 0) (between b″ 0 n) → Turned b at end b″ (record { from = 0; at = 0; end = n; found = f })
+      none-turned : (f : Found) → Told f (length b) (between b at end) (between b″ 0 0) (between b″ 0 n)
+          → Turned b at end b″ (record { from = 0; at = 0; end = n; found = f })
       none-turned f told =
           record {
             start = zero-le;
