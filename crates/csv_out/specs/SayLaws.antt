@@ -1,4 +1,4 @@
--- Laws of what is said: from what the writers of lines promise to the bytes that wait. Assumes nothing.
+-- LAWS. From what the writers of lines promise to the bytes that wait. Assumes nothing.
 use Prim.Native.Nat.{ℕ, zero, suc, _+_, _-_, _*_, _≤_, _<_, zero-le}
 use mathlib.Core.Path.{_≡_, refl, sym, ap, _∙_, subst}
 use mathlib.Core.Bool.{Bool, true, false, cond}
@@ -28,12 +28,17 @@ use Rattle.csv_out.specs.Said.{Adds, Noted, Said}
 -- ---- how long the lines are
 pub notice-short : (line number : ℕ) (refused : Bool) → length (noticeText line number refused) ≤ noticeRoom
 unfolding noticeText
-notice-short line number refused = go refused
+notice-short line number refused = go (cond refused (bytes ",refused") []) (short refused)
   where
-    go : (b : Bool) → length (wholeText line ++ ((44 ∷ wholeText number) ++ (cond b (bytes ",refused") [] ++ crlf))) ≤ 32
-    go true =
-        omega (arith, length-append (wholeText line) ((44 ∷ wholeText number) ++ (bytes ",refused" ++ crlf)), length-append (44 ∷ wholeText number) (bytes ",refused" ++ crlf), whole-length line, whole-length number, width-ten line, width-ten number)
-    go false = omega (arith, length-append (wholeText line) ((44 ∷ wholeText number) ++ crlf), length-append (44 ∷ wholeText number) crlf, whole-length line, whole-length number, width-ten line, width-ten number)
+    short : (b : Bool) → length (cond b (bytes ",refused") []) ≤ 8
+    short true = lib.Dec.lit≤ tt
+    short false = lib.Dec.lit≤ tt
+
+    go : (w : List ℕ) → length w ≤ 8 → length (wholeText line ++ ((44 ∷ wholeText number) ++ (w ++ crlf))) ≤ noticeRoom
+    go w h =
+        let a = length-append (wholeText line) ((44 ∷ wholeText number) ++ (w ++ crlf)) in
+        let b = length-append (44 ∷ wholeText number) (w ++ crlf) in
+        omega (arith, a, b, length-append w crlf, whole-length line, whole-length number, width-ten line, width-ten number)
 
 pub header-short : length (headerOut ++ crlf) ≤ headerRoom
 header-short = lib.Dec.lit≤ tt
@@ -43,12 +48,14 @@ unfolding upto flatten
 several f zero h = zero-le
 several f (suc n) h =
     let r = several f n (λ (i : ℕ) (l : i < n). h i (omega arith)) in
-    let e : length (flatten (upto f (suc n))) ≡ length (flatten (upto f n)) + length (f n) = ap length (flatten-more f n) ∙ length-append (flatten (upto f n)) (f n) in
-    omega (arith, h n (omega arith), mul-suc rowRoom n)
+    let e = ap length (flatten-more f n) ∙ length-append (flatten (upto f n)) (f n) in
+    omega (arith, e, h n (omega arith), mul-suc rowRoom n)
 
 pub rows-short : (rows : List ℕ) (k : ℕ) → rowsWritable rows k ≡ true → length (rowsText rows k) ≤ rowRoom * k
 unfolding rowsWritable rowsText
-rows-short rows k e = several (λ (i : ℕ). rowText (rowAt rows i)) k (λ (i : ℕ) (l : i < k). row-length (rowAt rows i) (all-at k (λ (i : ℕ). writable (rowAt rows i)) e i l))
+rows-short rows k e =
+    let shown = all-at k (λ (i : ℕ). writable (rowAt rows i)) e in
+    several (λ (i : ℕ). rowText (rowAt rows i)) k (λ (i : ℕ) (l : i < k). row-length (rowAt rows i) (shown i l))
 
 -- ---- bytes that are added
 pub adds-none : (o : List ℕ) (n : ℕ) → Adds [] o n o n
@@ -56,11 +63,10 @@ adds-none o n = record { count = sym (add-zero n); bytes = sym (append-nil (take
 
 pub adds-text : (t o o′ : List ℕ) (n r : ℕ) → n + length t ≤ length o → r ≡ n + length t → o′ ≡ sets o n t → Adds t o n o′ r
 adds-text t o o′ n r h e w =
+    let long : length (take n o ++ t) ≡ r = length-append (take n o) t ∙ ap (λ (k : ℕ). k + length t) (length-take-le n o (omega arith)) ∙ sym e in
     record {
       count = e;
-      bytes =
-          ap (λ (l : List ℕ). take r l) (w ∙ sets-eq t o n h)
-          ∙ take-at (take n o ++ t) (drop (n + length t) o) r (length-append (take n o) t ∙ ap (λ (k : ℕ). k + length t) (length-take-le n o (omega arith)) ∙ sym e);
+      bytes = ap (λ (l : List ℕ). take r l) (w ∙ sets-eq t o n h) ∙ take-at (take n o ++ t) (drop (n + length t) o) r long;
       same = ap length w ∙ length-sets o n t;
     }
 
@@ -83,11 +89,14 @@ noted-said {t} {e} {e′} {run} {r} b o o′ k l n =
     }
 
 -- ---- what is said, by cases
-pub heading-good : (physical : ℕ) (text : List ℕ) → same header text ≡ true → heading physical text ≡ record { refused = false; out = headerOut ++ crlf; err = [] }
+abbrev pub says : Bool → List ℕ → List ℕ → Say
+says b o e = record { refused = b; out = o; err = e }
+
+pub heading-good : (physical : ℕ) (text : List ℕ) → same header text ≡ true → heading physical text ≡ says false (headerOut ++ crlf) []
 unfolding heading
 heading-good physical text e = rw e
 
-pub heading-bad : (physical : ℕ) (text : List ℕ) → same header text ≡ false → heading physical text ≡ record { refused = true; out = []; err = noticeText physical badText true }
+pub heading-bad : (physical : ℕ) (text : List ℕ) → same header text ≡ false → heading physical text ≡ says true [] (noticeText physical badText true)
 unfolding heading refusal
 heading-bad physical text e = rw e
 
@@ -100,16 +109,16 @@ unfolding warningText
 warning-some source warning e = rw (ne-eqb warning 0 e)
 
 module _ (source code count warning : ℕ) (rows : List ℕ) where
-  pub answer-refused : (code ≡ 0 → ⊥) → answer source code count warning rows ≡ record { refused = true; out = []; err = noticeText source code true }
+  pub answer-refused : (code ≡ 0 → ⊥) → answer source code count warning rows ≡ says true [] (noticeText source code true)
   unfolding answer refusal
   answer-refused e = rw (ne-eqb code 0 e)
 
-  pub answer-bad : code ≡ 0 → rowsWritable rows count ≡ false → answer source code count warning rows ≡ record { refused = true; out = []; err = noticeText source badText true }
+  pub answer-bad : code ≡ 0 → rowsWritable rows count ≡ false → answer source code count warning rows ≡ says true [] (noticeText source badText true)
   unfolding answer refusal
   answer-bad e f = rw (eq-eqb code 0 e, f)
 
   pub answer-done : code ≡ 0 → rowsWritable rows count ≡ true
-      → answer source code count warning rows ≡ record { refused = false; out = rowsText rows count; err = warningText source warning }
+      → answer source code count warning rows ≡ says false (rowsText rows count) (warningText source warning)
   unfolding answer
   answer-done e f = rw (eq-eqb code 0 e, f)
 
@@ -134,37 +143,46 @@ tried-good {ok} {t} {o} {o′} {n} {m} {r} w e = go ok (sym e ∙ w .answer)
     go true q = (refl, same-place m (n + length t) q)
     go false q = absurd (no-place m q)
 
+-- ---- the answers of the proofs, in one step each
+-- the lines of a run stay, and so does what waits for standard error
+pub record SameRun (run mid : Run) : Type 0 where
+  pub err : mid .err ≡ run .err
+  pub physical : mid .physical ≡ run .physical
+  pub source : mid .source ≡ run .source
+
 -- a call's rows, and then its warning
-pub rows-said : (source warning count : ℕ) (rows o o′ e e′ : List ℕ) (run mid r : Run) {p : Placed} → Tried (rowsWritable rows count) (rowsText rows count) o (run .out) o′ p → p ≡ Placed.Upto (mid .out)
-    → run .out + rowRoom * count ≤ length o → mid .err ≡ run .err → mid .physical ≡ run .physical → mid .source ≡ run .source
-    → Noted false (warningText source warning) mid e r e′
-    → Said (record { refused = false; out = rowsText rows count; err = warningText source warning }) run o e r o′ e′
-rows-said source warning count rows o o′ e e′ run mid r {p} w q room me mp ms n =
+pub say-rows : {p : Say} (source warning count : ℕ) (rows : List ℕ) {o o′ e e′ : List ℕ} {run mid r : Run} {x : Placed}
+    → p ≡ says false (rowsText rows count) (warningText source warning)
+    → Tried (rowsWritable rows count) (rowsText rows count) o (run .out) o′ x → x ≡ Placed.Upto (mid .out)
+    → run .out + rowRoom * count ≤ length o → SameRun run mid → Noted false (warningText source warning) mid e r e′ → Said p run o e r o′ e′
+say-rows {p} source warning count rows {o} {o′} {e} {e′} {run} {mid} {r} {x} z w q room k n =
     let g = tried-good w q in
     let h : run .out + length (rowsText rows count) ≤ length o = omega (arith, rows-short rows count (g .0)) in
-    record {
-      physical = n .physical ∙ mp;
-      source = n .source ∙ ms;
+    rw z
+    (record {
+      physical = n .physical ∙ k .physical;
+      source = n .source ∙ k .source;
       refused = n .refused;
       out = adds-text (rowsText rows count) o o′ (run .out) (r .out) h (n .out ∙ g .1) (w .text (g .0));
-      err = subst (λ (k : ℕ). Adds (warningText source warning) e k e′ (r .err)) me (n .err);
-    }
+      err = subst (λ (k : ℕ). Adds (warningText source warning) e k e′ (r .err)) (k .err) (n .err);
+    })
 
--- ---- the answers of the proofs, in one step each
-pub note : {b : Bool} {s t e e′ : List ℕ} {run r : Run} → s ≡ t → r .out ≡ run .out → r .physical ≡ run .physical → r .source ≡ run .source → r .refused ≡ b → length t ≤ noticeRoom
+pub note : {b : Bool} {s t e e′ : List ℕ} {run r : Run} → s ≡ t → r .out ≡ run .out → r .physical ≡ run .physical
+    → r .source ≡ run .source → r .refused ≡ b → length t ≤ noticeRoom
     → run .err + noticeRoom ≤ length e → Wrote e (run .err) t e′ (r .err) → Noted b s run e r e′
 note {b} {s} {t} {e} {e′} {run} {r} z p q k f l h w =
-    subst (λ (x : List ℕ). Noted b x run e r e′) (sym z) (record { out = p; physical = q; source = k; refused = f; err = adds-wrote (omega arith) w })
+    rw z (record { out = p; physical = q; source = k; refused = f; err = adds-wrote (omega arith) w })
 
 pub no-note : {t e : List ℕ} {run : Run} → t ≡ [] → Noted (run .refused) t run e run e
-no-note {t} {e} {run} z = record { out = refl; physical = refl; source = refl; refused = refl; err = subst (λ (s : List ℕ). Adds s e (run .err) e (run .err)) (sym z) (adds-none e (run .err)) }
+no-note {t} {e} {run} z = rw z (record { out = refl; physical = refl; source = refl; refused = refl; err = adds-none e (run .err) })
 
-pub say-noted : {p : Say} {t e e′ o o′ : List ℕ} {run r : Run} → p ≡ record { refused = true; out = []; err = t } → take (run .out) o′ ≡ take (run .out) o → length o′ ≡ length o
-    → Noted true t run e r e′ → Said p run o e r o′ e′
+pub say-noted : {p : Say} {t e e′ o o′ : List ℕ} {run r : Run} → p ≡ says true [] t
+    → take (run .out) o′ ≡ take (run .out) o → length o′ ≡ length o → Noted true t run e r e′ → Said p run o e r o′ e′
 say-noted {p} {t} {e} {e′} {o} {o′} {run} {r} z k l n = subst (λ (s : Say). Said s run o e r o′ e′) (sym z) (noted-said true o o′ k l n)
 
-pub say-header : {p : Say} {o o′ e : List ℕ} {run r : Run} → p ≡ record { refused = false; out = headerOut ++ crlf; err = [] } → r .physical ≡ run .physical → r .source ≡ run .source → r .refused ≡ false
-    → r .err ≡ run .err → run .out + headerRoom ≤ length o → Wrote o (run .out) (headerOut ++ crlf) o′ (r .out) → Said p run o e r o′ e
+pub say-header : {p : Say} {o o′ e : List ℕ} {run r : Run} → p ≡ says false (headerOut ++ crlf) [] → r .physical ≡ run .physical
+    → r .source ≡ run .source → r .refused ≡ false → r .err ≡ run .err → run .out + headerRoom ≤ length o
+    → Wrote o (run .out) (headerOut ++ crlf) o′ (r .out) → Said p run o e r o′ e
 say-header {p} {o} {o′} {e} {run} {r} z q s f d h w =
     subst (λ (x : Say). Said x run o e r o′ e) (sym z)
     (record {
@@ -175,13 +193,6 @@ say-header {p} {o} {o′} {e} {run} {r} z q s f d h w =
       err = subst (λ (m : ℕ). Adds [] e (run .err) e m) (sym d) (adds-none e (run .err));
     })
 
-pub say-rows : {p : Say} (source warning count : ℕ) (rows : List ℕ) {o o′ e e′ : List ℕ} {run mid r : Run} {x : Placed} → p ≡ record { refused = false; out = rowsText rows count; err = warningText source warning }
-    → Tried (rowsWritable rows count) (rowsText rows count) o (run .out) o′ x → x ≡ Placed.Upto (mid .out)
-    → run .out + rowRoom * count ≤ length o → mid .err ≡ run .err → mid .physical ≡ run .physical → mid .source ≡ run .source
-    → Noted false (warningText source warning) mid e r e′ → Said p run o e r o′ e′
-say-rows {p} source warning count rows {o} {o′} {e} {e′} {run} {mid} {r} {x} z w q room me mp ms n =
-    subst (λ (s : Say). Said s run o e r o′ e′) (sym z) (rows-said source warning count rows o o′ e e′ run mid r w q room me mp ms n)
-
 -- what waits stays within the buffer
 take-short : (n : ℕ) (l : List ℕ) → length (take n l) ≤ length l
 take-short zero l = zero-le
@@ -190,5 +201,5 @@ take-short (suc n) (c ∷ l) = let h = take-short n l in omega arith
 
 pub adds-within : {t o o′ : List ℕ} {n r : ℕ} → n ≤ length o → Adds t o n o′ r → r ≤ length o′
 adds-within {t} {o} {o′} {n} {r} h w =
-    let e : length (take r o′) ≡ n + length t = ap length (w .bytes) ∙ length-append (take n o) t ∙ ap (λ (k : ℕ). k + length t) (length-take-le n o h) in
-    omega (arith, take-short r o′, w .count)
+    let e = ap length (w .bytes) ∙ length-append (take n o) t ∙ ap (λ (k : ℕ). k + length t) (length-take-le n o h) in
+    omega (arith, e, take-short r o′, w .count)

@@ -33,10 +33,10 @@ finish-then d e n = go (e .stand .refused)
 
 -- ---- u has been read and not yet used, `later` is still to come, and the first line stands whole in u
 module _ (u later : List ℕ) (h : cut u ≤ length u) where
-  first : List ℕ
+  abbrev first : List ℕ
   first = take (cut u) u
 
-  behind : List ℕ
+  abbrev behind : List ℕ
   behind = drop (cut u) u ++ later
 
   whole-first : linesFrom [] (u ++ later) ≡ first ∷ linesFrom [] behind

@@ -31,7 +31,7 @@ use Rattle.csv_step.specs.Steps.{Slices, slices, standing, Stepped, Room
 
 -- ---- a call that is done has no more rows than it was lent
 module _ (k n p : ℕ) (done few bad : After) where
-  answered : Bool → Bool → After
+  abbrev answered : Bool → Bool → After
   answered x y = cond x (cond y done few) bad
 
   fits-by : done .reply .count ≡ n → few .reply .code ≡ 7 → bad .reply .code ≡ k

@@ -48,7 +48,7 @@ pub record Within (s : Reading) : Type 0 where
   pub open : s .over ≡ goesOn → s .run .refused ≡ false
 
 -- the step d was done: of the bytes that waited and those that it said, `outs` and `errs` were handed over, and the others wait
-pub record Told (d : Step) (outs errs : List ℕ) (s : Reading) (m : Slices) (r : Reading) (m′ : Slices) : Type 0 where
+pub record Spoke (d : Step) (outs errs : List ℕ) (s : Reading) (m : Slices) (r : Reading) (m′ : Slices) : Type 0 where
   pub stand : standing (r .run) m′ ≡ d .stand
   pub out : outs ++ take (r .run .out) (m′ .out) ≡ take (s .run .out) (m .out) ++ d .out
   pub err : errs ++ take (r .run .err) (m′ .err) ≡ take (s .run .err) (m .err) ++ d .err
@@ -62,7 +62,7 @@ pub record Went (s : Reading) (b : List ℕ) (m : Slices) (r : Reading) (b′ : 
   pub step : Step
   pub bytes : unread s b ++ came ≡ line ++ unread r b′
   pub did : ((line ≡ []) × (step ≡ still (standing (s .run) m))) ⊎ ((cut line ≡ length line) × (step ≡ csvLine (standing (s .run) m) line))
-  pub told : Told step outs errs s m r m′
+  pub told : Spoke step outs errs s m r m′
   pub over : r .over ≡ goingOf (r .run .refused)
 
 -- the input has ended, and no line stands in what is unread
@@ -70,7 +70,7 @@ pub record Closed (s : Reading) (b : List ℕ) (m : Slices) (r : Reading) (m′ 
   pub outs : List ℕ
   pub errs : List ℕ
   pub none : length (unread s b) < cut (unread s b)
-  pub told : Told (csvEnd (standing (s .run) m) (length (unread s b))) outs errs s m r m′
+  pub told : Spoke (csvEnd (standing (s .run) m) (length (unread s b))) outs errs s m r m′
   pub over : r .over ≡ ended
 
 pub record TurnIs (s : Reading) (b : List ℕ) (m : Slices) (r : Reading) (b′ : List ℕ) (m′ : Slices) : Type 0 where

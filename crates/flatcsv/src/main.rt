@@ -113,7 +113,7 @@ fn step(
     out: &mut [u8; OUT_ROOM],
     err: &mut [u8; ERR_ROOM],
 ) -> Reading
-    requires { ⌜ Within s ⌝ }
+    requires { ⌜ Within s × (s .over ≡ goesOn) ⌝ }
     ensures { λ r.
       let was = slices (now (state .entry)) (now (store .entry)) (now (rows .entry)) (now (out .entry)) (now (err .entry)) in
       let is = slices (now (state .exit)) (now (store .exit)) (now (rows .exit)) (now (out .exit)) (now (err .exit)) in

@@ -65,7 +65,8 @@ returns-3 c =
     let placed = told .n .given .1 in
     let zero : start .args .code ≡ 0 = omega arith in
     let done = answer-done _ _ _ _ _ zero (tried-good wrote placed .0) in
-    say-rows _ _ _ _ done wrote placed (start .pre .outs (omega arith)) refl refl refl (c .before .before .warned .ensures)
+    let room = start .pre .outs (omega arith) in
+    say-rows _ _ _ _ done wrote placed room (record { err = refl; physical = refl; source = refl }) (c .before .before .warned .ensures)
 
 pub answered-spec : {M : Type 1} → statement M
 answered-spec =

@@ -36,8 +36,7 @@ returns : tie.Need-returns
 returns c =
     let said = c .before .before .before .before in
     let pushed = said .before .before .before .before .before .before .before .before .before .before .before in
-    let reads = record { source = refl; out = refl; err = refl; physical = refl } in
-    row-step _ (pushed .flat-push .ensures) reads (said .answered .ensures)
+    row-step _ (pushed .flat-push .ensures) (record { source = refl; out = refl; err = refl; physical = refl }) (said .answered .ensures)
 
 pub push-row-spec : {M : Type 1} → statement M
 push-row-spec =
