@@ -1,7 +1,7 @@
 -- LAWS. Turn after turn, what was said is what the definition says to what was read. Assumes nothing.
-use Prim.Native.Nat.{ℕ}
+use Prim.Native.Nat.{ℕ, _<_}
 use mathlib.Core.Logic.{_⊎_, inl, inr, ⊎-elim}
-use mathlib.Core.Path.{_≡_, refl, sym, ap, _∙_}
+use mathlib.Core.Path.{_≡_, refl, sym, ap, _∙_, subst}
 use mathlib.Core.Bool.{Bool, true, false}
 use mathlib.Core.List.{List, [], _++_, append-nil, append-assoc}
 use native.Mathlib.Omega.{arith}
@@ -13,8 +13,8 @@ use Rattle.csv_step.specs.Csv.{andThen, still, csvRest, begun, Whole, csvSpec}
 use Rattle.csv_step.specs.CsvLaws.{then-assoc, then-still, rest-whole, rest-end, rest-refused}
 use Rattle.csv_step.specs.Steps.{Slices, standing}
 use Rattle.flatcsv.specs.declared.Reading.{Reading}
-use Rattle.flatcsv.specs.Reading.{goingOf, unread}
-use Rattle.flatcsv.specs.Turns.{Within, Spoke, Went, Closed, TurnIs, First, All}
+use Rattle.flatcsv.specs.Reading.{goingOf, unread, firstReading}
+use Rattle.flatcsv.specs.Turns.{Within, Spoke, Went, Closed, TurnIs, All}
 
 -- what stands, and what was said so far: handed over, or waiting
 abbrev put : Stand → List ℕ → List ℕ → Step
@@ -28,7 +28,7 @@ pub record Far (s : Reading) (b : List ℕ) (m : Slices) : Type 0 where
   pub got : List ℕ
   pub outs : List ℕ
   pub errs : List ℕ
-  pub open : s .run .refused ≡ false
+  pub clear : s .run .refused ≡ false
   pub is : (later : List ℕ) → csvRest begun (got ++ later) ≡ andThen (soFar outs errs s m) (csvRest (standing (s .run) m) (unread s b ++ later))
 
 same-put : {a b : Stand} {o p e f : List ℕ} → a ≡ b → o ≡ p → e ≡ f → put a o e ≡ put b p f
@@ -56,7 +56,7 @@ module _ (s : Reading) (b : List ℕ) (m : Slices) (r : Reading) (b′ : List �
       none e = rw (e .0, e .1) refl
 
       one : (cut (w .line) ≡ length (w .line)) × (w .step ≡ csvLine (standing (s .run) m) (w .line)) → goal (w .line) (w .step)
-      one e = rw (e .1) (rest-whole (standing (s .run) m) (w .line) later (far .open) (e .0))
+      one e = rw (e .1) (rest-whole (standing (s .run) m) (w .line) later (far .clear) (e .0))
 
   further : (w : Went s b m r b′ m′) (later : List ℕ)
       → csvRest begun ((far .got ++ w .came) ++ later)
@@ -77,10 +77,10 @@ module _ (s : Reading) (b : List ℕ) (m : Slices) (r : Reading) (b′ : List �
       ∙ ap (λ (x : Stand). andThen (soFar (far .outs ++ w .outs) (far .errs ++ w .errs) r m′) (csvRest x v)) (sym (w .told .stand))
 
   went-on : Went s b m r b′ m′ → r .run .refused ≡ false → Far r b′ m′
-  went-on w e = record { got = far .got ++ w .came; outs = far .outs ++ w .outs; errs = far .errs ++ w .errs; open = e; is = further w }
+  went-on w e = record { got = far .got ++ w .came; outs = far .outs ++ w .outs; errs = far .errs ++ w .errs; clear = e; is = further w }
 
   -- a step that is all that the definition says
-  all-of : {d : Step} (got outs errs : List ℕ) → csvRest begun got ≡ soFar outs errs r m′ → All r m′
+  all-of : (got outs errs : List ℕ) → csvRest begun got ≡ soFar outs errs r m′ → All r m′
   unfolding csvSpec
   all-of got outs errs e = record { got = got; outs = outs; errs = errs; is = ap (λ (d : Step). whole d) e }
     where
@@ -104,7 +104,7 @@ module _ (s : Reading) (b : List ℕ) (m : Slices) (r : Reading) (b′ : List �
       (ap (csvRest begun) (sym (append-nil (far .got)))
       ∙ far .is []
       ∙ ap (λ (l : List ℕ). andThen so (csvRest S l)) (append-nil (unread s b))
-      ∙ ap (λ (x : Step). andThen so x) (rest-end S (unread s b) (far .open) (w .none))
+      ∙ ap (λ (x : Step). andThen so x) (rest-end S (unread s b) (far .clear) (w .none))
       ∙ grown (w .told))
 
   -- ---- one turn more
@@ -112,12 +112,12 @@ module _ (s : Reading) (b : List ℕ) (m : Slices) (r : Reading) (b′ : List �
   turn-far w e = ⊎-elim on (⊎-elim shut failed) (w .deed)
     where
       on : Went s b m r b′ m′ → Far r b′ m′
-      on x = went-on x (w .within .open e)
+      on x = went-on x (w .within .clear e)
 
       shut : Closed s b m r m′ → Far r b′ m′
       shut x = absurd (omega (arith, x .over))
 
-      failed : Prim.Native.Nat._<_ ended (r .over) → Far r b′ m′
+      failed : ended < r .over → Far r b′ m′
       failed x = absurd (omega arith)
 
   pub turn-all : TurnIs s b m r b′ m′ → r .over ≡ ended → All r m′
@@ -130,16 +130,30 @@ module _ (s : Reading) (b : List ℕ) (m : Slices) (r : Reading) (b′ : List �
       on : Went s b m r b′ m′ → All r m′
       on x = refused-all x (refusal (r .run .refused) (sym (x .over) ∙ e))
 
-      failed : Prim.Native.Nat._<_ ended (r .over) → All r m′
+      failed : ended < r .over → All r m′
       failed x = absurd (omega arith)
 
--- before the first line
-pub first-far : (s : Reading) (b : List ℕ) (m : Slices) → First s → standing (s .run) m ≡ begun → Far s b m
-first-far s b m f e =
-    record {
-      got = [];
-      outs = [];
-      errs = [];
-      open = ap (λ (x : Reading). x .run .refused) (f .is);
-      is = ?;
-    }
+-- ---- before the first line
+begins : (m : Slices) → m .state ≡ begun .state → m .store ≡ begun .store → m .rows ≡ begun .rows → standing (firstReading .run) m ≡ begun
+unfolding begun
+begins m p q r =
+    ap (λ (x : List ℕ). at x (m .store) (m .rows)) p
+    ∙ ap (λ (x : List ℕ). at (begun .state) x (m .rows)) q
+    ∙ ap (λ (x : List ℕ). at (begun .state) (begun .store) x) r
+  where
+    at : List ℕ → List ℕ → List ℕ → Stand
+    at st store rows = record { state = st; store = store; rows = rows; physical = 1; source = 0; refused = false }
+
+pub first-far : (s : Reading) (b : List ℕ) (m : Slices) → s ≡ firstReading
+    → (m .state ≡ begun .state) × ((m .store ≡ begun .store) × (m .rows ≡ begun .rows)) → Far s b m
+first-far s b m e p = subst (λ (x : Reading). Far x b m) (sym e) far
+  where
+    far : Far firstReading b m
+    far =
+        record {
+          got = [];
+          outs = [];
+          errs = [];
+          clear = refl;
+          is = λ (later : List ℕ). ap (λ (x : Stand). csvRest x later) (sym (begins m (p .0) (p .1 .0) (p .1 .1)));
+        }

@@ -14,7 +14,7 @@ use Rattle.text_lines.specs.CutLaws.{first-whole}
 use Rattle.text_lines.specs.Turns.{NoLine, Told, Turned}
 use Rattle.text_lines.specs.TurnLaws.{between-length}
 use Rattle.csv_out.specs.declared.Run.{Run}
-use Rattle.csv_out.specs.SayLaws.{adds-within}
+use Rattle.csv_out.specs.SayLaws.{adds-none, adds-within}
 use Rattle.csv_io.specs.declared.Left.{Left}
 use Rattle.csv_io.specs.Flush.{outRoom, errRoom, SameLines, Emptied}
 use Rattle.csv_io.specs.Status.{goesOn, ended}
@@ -22,7 +22,7 @@ use Rattle.csv_step.specs.Line.{Stand, Step, csvLine, csvEnd}
 use Rattle.csv_step.specs.Csv.{still}
 use Rattle.csv_step.specs.Steps.{Slices, standing, Stepped}
 use Rattle.flatcsv.specs.declared.Reading.{Reading}
-use Rattle.flatcsv.specs.Reading.{inRoom, goingOf, unread}
+use Rattle.flatcsv.specs.Reading.{inRoom, goingOf, unread, behind}
 use Rattle.flatcsv.specs.Turns.{Deed, Done, Within, Spoke, Went, Closed, TurnIs}
 
 -- a run with the same lines stands the same
@@ -44,18 +44,30 @@ spoke : {d : Step} {s r : Reading} {left : Left} {m m′ : Slices} → Emptied (
 spoke {d} {s} {r} {left} {m} {m′} f w =
     record {
       stand = w .stand;
-      out = chain _ (take (left .run .out) (m .out)) _ _ (d .out) (f .rows) (w .out .bytes);
-      err = chain _ (take (left .run .err) (m .err)) _ _ (d .err) (f .notices) (w .err .bytes);
+      out = chain (take (left .rows) (m .out)) (take (left .run .out) (m .out)) _ _ (d .out) (f .rows) (w .out .bytes);
+      err = chain (take (left .notices) (m .err)) (take (left .run .err) (m .err)) _ _ (d .err) (f .notices) (w .err .bytes);
     }
 
 on-refused : (b : Bool) → goingOf b ≡ goesOn → b ≡ false
 on-refused true e = absurd (omega arith)
 on-refused false e = refl
 
+-- ---- what was found is done
+pub done-by : {f : Found} {t : Turn} {run then : Run} {b : List ℕ} {m m′ : Slices} {r : Reading} (over : ℕ) → r ≡ behind t then over
+    → Deed f t run b m (behind t then over) m′ → Done f t run b m r m′
+done-by {f} {t} {run} {then} {b} {m} {m′} {r} over e d =
+    subst (λ (x : Reading). Done f t run b m x m′) (sym e) (record { from = refl; upto = refl; deed = d })
+
+pub nothing-done : (run : Run) (m : Slices) → Stepped (still (standing run m)) run m run m
+nothing-done run m = record { stand = refl; out = adds-none (m .out) (run .out); err = adds-none (m .err) (run .err) }
+
+pub done-as : {f g : Found} {t : Turn} {run : Run} {b : List ℕ} {m m′ : Slices} {r : Reading} → g ≡ f → Done f t run b m r m′ → Done g t run b m r m′
+done-as {f} {g} {t} {run} {b} {m} {m′} {r} e d = subst (λ (x : Found). Done x t run b m r m′) (sym e) d
+
 -- ---- a turn, from its parts
 module _ (s : Reading) (b : List ℕ) (m : Slices) (left : Left) (t : Turn) (b′ : List ℕ) (r : Reading) (m′ : Slices)
-    (emptied : Emptied (s .run) (m .out) (m .err) left) (turned : Turned b (s .at) (s .end) b′ t) (done : Done t (left .run) b′ m r m′)
-    (open : s .run .refused ≡ false) where
+    (emptied : Emptied (s .run) (m .out) (m .err) left) (turned : Turned b (s .at) (s .end) b′ t) (done : Done (t .found) t (left .run) b′ m r m′)
+    (clear : s .run .refused ≡ false) where
   here : unread r b′ ≡ between b′ (t .at) (t .end)
   here = ap (λ (j : ℕ). between b′ j (r .end)) (done .from) ∙ ap (λ (j : ℕ). between b′ (t .at) j) (done .upto)
 
@@ -64,19 +76,21 @@ module _ (s : Reading) (b : List ℕ) (m : Slices) (left : Left) (t : Turn) (b�
 
   -- where nothing was done the run has no refusal
   still-open : Stepped (still (standing (left .run) m)) (left .run) m (r .run) m′ → r .run .refused ≡ false
-  still-open w = ap (λ (x : Stand). x .refused) (w .stand) ∙ emptied .lines .refused ∙ open
+  still-open w = ap (λ (x : Stand). x .refused) (w .stand) ∙ emptied .lines .refused ∙ clear
+
+  abbrev ends : Stand → ℕ → Type 0
+  ends x k = Stepped (csvEnd x k) (left .run) m (r .run) m′
 
   closed : NoLine (unread s b) (between b′ (t .at) (t .end)) → r .over ≡ ended
-      → Stepped (csvEnd (standing (left .run) m) (t .end - t .at)) (left .run) m (r .run) m′ → Closed s b m r m′
+      → ends (standing (left .run) m) (t .end - t .at) → Closed s b m r m′
   closed n o w =
       let inside : t .end ≤ length b′ = omega (arith, turned .inside, turned .same) in
       let long : t .end - t .at ≡ length (unread s b) = sym (between-length b′ (t .at) (t .end) (turned .window) inside) ∙ ap length (n .stays) in
-      let ends = λ (x : Stand) (k : ℕ). Stepped (csvEnd x k) (left .run) m (r .run) m′ in
       record {
         outs = take (left .rows) (m .out);
         errs = take (left .notices) (m .err);
         none = n .none;
-        told = spoke emptied (subst (ends (standing (s .run) m)) long (subst (λ (x : Stand). ends x (t .end - t .at)) same w));
+        told = spoke emptied (subst (λ (k : ℕ). ends (standing (s .run) m) k) long (subst (λ (x : Stand). ends x (t .end - t .at)) same w));
         over = o;
       }
 
@@ -86,7 +100,8 @@ module _ (s : Reading) (b : List ℕ) (m : Slices) (left : Left) (t : Turn) (b�
       let u = unread s b in
       let l = between b′ (t .from) (t .at) in
       let rest : unread r b′ ≡ drop (cut u) u = here ∙ w .rest in
-      let parts : l ++ unread r b′ ≡ u = ap (λ (x : List ℕ). x ++ unread r b′) (w .line) ∙ ap (λ (x : List ℕ). take (cut u) u ++ x) rest ∙ take-append-drop (cut u) u in
+      let first : l ++ unread r b′ ≡ take (cut u) u ++ unread r b′ = ap (λ (x : List ℕ). x ++ unread r b′) (w .line) in
+      let parts : l ++ unread r b′ ≡ u = first ∙ ap (λ (x : List ℕ). take (cut u) u ++ x) rest ∙ take-append-drop (cut u) u in
       inl
       (record {
         came = [];
@@ -144,7 +159,7 @@ module _ (s : Reading) (b : List ℕ) (m : Slices) (left : Left) (t : Turn) (b�
               inside = omega (arith, turned .inside, done .upto);
               outs = w .0 .0;
               errs = w .0 .1;
-              open = w .1;
+              clear = w .1;
             };
         deed = deed-of (t .found) (turned .told) (done .deed);
       }

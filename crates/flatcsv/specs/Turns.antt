@@ -33,10 +33,17 @@ Deed Found.Ended t run b m r m′ = (r .over ≡ ended) × Stepped (csvEnd (stan
 Deed Found.Full t run b m r m′ = (r .over ≡ ended) × Stepped (csvEnd (standing run m) (t .end - t .at)) run m (r .run) m′
 Deed Found.Failed t run b m r m′ = (ended < r .over) × Stepped (still (standing run m)) run m (r .run) m′
 
-pub record Done (t : Turn) (run : Run) (b : List ℕ) (m : Slices) (r : Reading) (m′ : Slices) : Type 0 where
+pub record Done (f : Found) (t : Turn) (run : Run) (b : List ℕ) (m : Slices) (r : Reading) (m′ : Slices) : Type 0 where
   pub from : r .at ≡ t .at
   pub upto : r .end ≡ t .end
-  pub deed : Deed (t .found) t run b m r m′
+  pub deed : Deed f t run b m r m′
+
+abbrev pub LineDone : Turn → Run → List ℕ → Slices → Reading → Slices → Type 0
+LineDone t run b m r m′ = Done Found.Line t run b m r m′
+
+-- for the end of the input, and for a buffer that no line fits in
+abbrev pub EndDone : Turn → Run → Slices → Reading → Slices → Type 0
+EndDone t run m r m′ = (b : List ℕ) → Done Found.Ended t run b m r m′
 
 -- ---- a turn
 -- the unread bytes lie in the buffer, what waits fits, and a run that goes on has no refusal
@@ -45,7 +52,7 @@ pub record Within (s : Reading) : Type 0 where
   pub inside : s .end ≤ inRoom
   pub outs : s .run .out ≤ outRoom
   pub errs : s .run .err ≤ errRoom
-  pub open : s .over ≡ goesOn → s .run .refused ≡ false
+  pub clear : s .over ≡ goesOn → s .run .refused ≡ false
 
 -- the step d was done: of the bytes that waited and those that it said, `outs` and `errs` were handed over, and the others wait
 pub record Spoke (d : Step) (outs errs : List ℕ) (s : Reading) (m : Slices) (r : Reading) (m′ : Slices) : Type 0 where
@@ -78,9 +85,6 @@ pub record TurnIs (s : Reading) (b : List ℕ) (m : Slices) (r : Reading) (b′ 
   pub deed : Went s b m r b′ m′ ⊎ (Closed s b m r m′ ⊎ (ended < r .over))
 
 -- ---- all turns
-pub record First (r : Reading) : Type 0 where
-  pub is : r ≡ record { at = 0; end = 0; run = record { out = 0; err = 0; physical = 1; source = 0; refused = false }; over = goesOn }
-
 -- `got` was read, and all of what the definition says to it was handed over or waits
 pub record All (r : Reading) (m : Slices) : Type 0 where
   pub got : List ℕ

@@ -27,8 +27,8 @@ ghost use Rattle.call_start.specs.Start.{startSpec};
 ghost use Rattle.csv_io.specs.Status.{goesOn, ended};
 ghost use Rattle.csv_step.specs.Csv.{tolerance, axes, begun};
 ghost use Rattle.csv_step.specs.Steps.{Room, slices};
-ghost use Rattle.flatcsv.specs.Reading.{goingOf};
-ghost use Rattle.flatcsv.specs.Turns.{FoundIn, Within, Done, TurnIs, First, Finished};
+ghost use Rattle.flatcsv.specs.Reading.{goingOf, behind, firstReading};
+ghost use Rattle.flatcsv.specs.Turns.{FoundIn, Within, LineDone, EndDone, Done, TurnIs, Finished};
 
 // 0.1
 const TOLERANCE: u64 = 0x3fb9_9999_9999_999a;
@@ -56,7 +56,7 @@ fn going(run: Run) -> u64
 
 // The reading behind a turn.
 fn behind(t: Turn, run: Run, over: u64) -> Reading
-    ensures { λ r. ⌜ r ≡ record { at = t .at; end = t .end; run = run; over = over } ⌝ }
+    ensures { λ r. ⌜ r ≡ behind t run over ⌝ }
 {
     Reading {
         at: t.at,
@@ -66,8 +66,53 @@ fn behind(t: Turn, run: Run, over: u64) -> Reading
     }
 }
 
-// What a turn found is done: a line; the end of the input, or a line that fills the buffer, which is refused as one without
-// its end is; or nothing.
+// The line that a turn found is done.
+fn take_line(
+    t: Turn,
+    run: Run,
+    buf: &[u8],
+    state: &mut [u64],
+    store: &mut [u64],
+    rows: &mut [u64],
+    out: &mut [u8],
+    err: &mut [u8],
+) -> Reading
+    requires { ⌜ FoundIn t (length (now buf)) × Room run (length (now rows)) (length (now out)) (length (now err)) ⌝ }
+    ensures { λ r.
+      let was = slices (now (state .entry)) (now (store .entry)) (now (rows .entry)) (now (out .entry)) (now (err .entry)) in
+      let is = slices (now (state .exit)) (now (store .exit)) (now (rows .exit)) (now (out .exit)) (now (err .exit)) in
+      ⌜ LineDone t run (now (buf .entry)) was r is ⌝
+    }
+{
+    let from = t.from;
+    let at = t.at;
+    let then = csv_line(run, &buf[from..at], state, store, rows, out, err);
+    behind(t, then, going(then))
+}
+
+// The end of the input. A line that fills the buffer is refused as one without its end is.
+fn finish(
+    t: Turn,
+    run: Run,
+    state: &mut [u64],
+    store: &[u64],
+    rows: &mut [u64],
+    out: &mut [u8],
+    err: &mut [u8],
+) -> Reading
+    requires { ⌜ (t .at ≤ t .end) × Room run (length (now rows)) (length (now out)) (length (now err)) ⌝ }
+    ensures { λ r.
+      let was = slices (now (state .entry)) (now (store .entry)) (now (rows .entry)) (now (out .entry)) (now (err .entry)) in
+      let is = slices (now (state .exit)) (now (store .entry)) (now (rows .exit)) (now (out .exit)) (now (err .exit)) in
+      ⌜ EndDone t run was r is ⌝
+    }
+{
+    let left = t.end - t.at;
+    let then = csv_end(run, left, state, store, rows, out, err);
+    behind(t, then, ENDED)
+}
+
+// What a turn found is done.
 fn done(
     t: Turn,
     run: Run,
@@ -82,24 +127,16 @@ fn done(
     ensures { λ r.
       let was = slices (now (state .entry)) (now (store .entry)) (now (rows .entry)) (now (out .entry)) (now (err .entry)) in
       let is = slices (now (state .exit)) (now (store .exit)) (now (rows .exit)) (now (out .exit)) (now (err .exit)) in
-      ⌜ Done t run (now (buf .entry)) was r is ⌝
+      ⌜ Done (t .found) t run (now (buf .entry)) was r is ⌝
     }
 {
     let found = t.found;
     match found {
-        Found::Line => {
-            let from = t.from;
-            let at = t.at;
-            let then = csv_line(run, &buf[from..at], state, store, rows, out, err);
-            behind(t, then, going(then))
-        }
+        Found::Line => take_line(t, run, buf, state, store, rows, out, err),
         Found::More => behind(t, run, GOES_ON),
+        Found::Ended => finish(t, run, state, store, rows, out, err),
+        Found::Full => finish(t, run, state, store, rows, out, err),
         Found::Failed => behind(t, run, NO_INPUT),
-        _ => {
-            let left = t.end - t.at;
-            let then = csv_end(run, left, state, store, rows, out, err);
-            behind(t, then, ENDED)
-        }
     }
 }
 
@@ -121,16 +158,17 @@ fn step(
     }
 {
     let room = emptied(s.run, out, err);
+    let run = room.run;
     if room.over != GOES_ON {
         return Reading {
             at: s.at,
             end: s.end,
-            run: room.run,
+            run,
             over: room.over,
         };
     }
     let t = next_turn(buf, s.at, s.end);
-    done(t, room.run, buf, state, store, rows, out, err)
+    done(t, run, buf, state, store, rows, out, err)
 }
 
 // The turns that are left: none once the run is over.
@@ -143,7 +181,7 @@ fn turns_left(turns: u64, over: u64) -> u64
 
 // Before the first line.
 fn first() -> Reading
-    ensures { λ r. ⌜ First r ⌝ }
+    ensures { λ r. ⌜ r ≡ firstReading ⌝ }
 {
     Reading {
         at: 0,
@@ -198,7 +236,7 @@ fn last(s: Reading, out: &[u8; OUT_ROOM], err: &[u8; ERR_ROOM]) -> u64
 }
 
 fn start(state: &mut [u64; STATE_WORDS])
-    ensures { ⌜ now (state .exit) ≡ startSpec (now (state .entry)) tolerance axes .state ⌝ }
+    ensures { λ r. ⌜ now (state .exit) ≡ startSpec (now (state .entry)) tolerance axes .state ⌝ }
 {
     flattener::start::flat_start(state, TOLERANCE, &[0, 1, 2]);
 }

@@ -1,0 +1,32 @@
+use borrow.Author.Needs.{needs}
+use Rattle.flatcsv.proofs.step.Statement.{statement}
+use Rattle.flatcsv.proofs.step.Tie as tie
+use Rattle.flatcsv.proofs.step.Reads as reads
+use Rattle.flatcsv.proofs.step.Lts as lts
+use Rattle.csv_io.proofs.emptied.Reads as emptied-reads
+use Rattle.flatcsv.proofs.done.Reads as done-reads
+use Rattle.text_lines.proofs.next_turn.Reads as next-turn-reads
+
+-- src/main.rt:160:9
+emptied-requires : tie.Need-emptied-requires
+emptied-requires c κs = search needs
+
+-- src/main.rt:163:9
+returns : tie.Need-returns
+returns c = ?
+
+-- src/main.rt:170:9
+next-turn-requires : tie.Need-next-turn-requires
+next-turn-requires c κs = search needs
+
+-- src/main.rt:171:5
+done-requires : tie.Need-done-requires
+done-requires c κs = search needs
+
+-- src/main.rt:144:1
+returns-2 : tie.Need-returns-2
+returns-2 c = ?
+
+pub step-spec : {M : Type 1} → statement M
+step-spec =
+    tie.close (tie.spec emptied-requires returns next-turn-requires done-requires returns-2)
