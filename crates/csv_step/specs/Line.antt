@@ -9,7 +9,7 @@ use lib.ListN.{take}
 use Rattle.layout.specs.Layout.{rowWords}
 use Rattle.rows.specs.Row.{lineOf}
 use Rattle.call_reply.specs.Replies.{After}
-use Rattle.flattener.specs.Push.{pushSpec}
+use Rattle.call_push.specs.Push.{pushSpec}
 use Rattle.call_close.specs.Close.{closeSpec}
 use Rattle.csv_line.specs.declared.End.{End}
 use Rattle.csv_line.specs.declared.End.the-variants as End

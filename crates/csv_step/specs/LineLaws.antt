@@ -13,7 +13,7 @@ use Rattle.layout.specs.Layout.{rowWords}
 use Rattle.rows.specs.Row.{lineOf}
 use Rattle.call_reply.specs.declared.Reply.{Reply}
 use Rattle.call_reply.specs.Replies.{After, PushIs, tooFew}
-use Rattle.flattener.specs.Push.{pushSpec, pushRows, pushDone}
+use Rattle.call_push.specs.Push.{pushSpec, pushRows, pushDone}
 use Rattle.call_close.specs.Close.{closeSpec, closeRows, untouched}
 use Rattle.push_check.specs.Blocks.{pushCheck}
 use Rattle.saved_state.specs.State.{savedCheck}

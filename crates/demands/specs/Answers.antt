@@ -14,7 +14,7 @@ use Rattle.rows.specs.Row.{shapeOk, numbersOk, turnOk, rowCheck}
 use Rattle.saved_state.specs.State.{stateOk, storeOk, held, heldRowOk, savedCheck}
 use Rattle.call_reply.specs.Replies.{plain, After, AfterState, StateIs, tooFew, PushIs}
 use Rattle.push_check.specs.Blocks.{isFull, pushCheck}
-use Rattle.flattener.specs.Push.{pushRows, pushDone, pushSpec}
+use Rattle.call_push.specs.Push.{pushRows, pushDone, pushSpec}
 use Rattle.call_close.specs.Close.{untouched, closeRows, closeState, closeSpec}
 use Rattle.demands.specs.Laws.{cond-both}
 

@@ -11,7 +11,7 @@ use lib.Ieee.{Float, eq}
 use Rattle.floats.specs.Numbers.{num, bits, ofNat, _⊘_}
 use Rattle.floats.specs.Lists.{upto, member}
 use Rattle.layout.specs.Layout.{axisCodes}
-use Rattle.motion.specs.Motion.{gOne, kindOf, isSpline}
+use Rattle.motion.specs.Motion.{gOne, kindOf, splineKind, isSpline}
 use Rattle.motion.specs.declared.Kind.{Kind}
 use Rattle.motion.specs.declared.Kind.the-variants.{Same, Linear, Clockwise, Counter, Akima, Basis, Cubic, Other, Refused}
 use Rattle.rows.specs.Codes.{planeU, planeV}
@@ -137,20 +137,8 @@ module _ (gs r : List ℕ) (fine : Fine r) (small : (k : ℕ) → member k gs �
         (pass-shaped 0)
         (start-shaped (pos (planeU plane)) (pos (planeV plane)) refl refl)
 
--- no kind of a spline
-abbrev drawn : Kind → Bool
-drawn Same = false
-drawn Linear = false
-drawn Clockwise = false
-drawn Counter = false
-drawn Akima = true
-drawn Basis = true
-drawn Cubic = true
-drawn Other = false
-drawn Refused = false
-
 kind-shaped : (gs r : List ℕ) → Fine r → ((k : ℕ) → member k gs ≡ true → k < axisCodes) → (plane : ℕ) (pos : ℕ → Option ℕ) → ((k : ℕ) → member k gs ≡ false → pos k ≡ none)
-    → (tol : Float) (m : Kind) → drawn m ≡ false → {asks : Type 0} → Shaped gs r asks (answerAs m tol gs plane pos r .rows)
+    → (tol : Float) (m : Kind) → splineKind m ≡ false → {asks : Type 0} → Shaped gs r asks (answerAs m tol gs plane pos r .rows)
 unfolding answerAs
 kind-shaped gs r fine small plane pos off tol Same f = pass-shaped gs r fine small plane pos 0
 kind-shaped gs r fine small plane pos off tol Linear f = pass-shaped gs r fine small plane pos 0
@@ -162,19 +150,8 @@ kind-shaped gs r fine small plane pos off tol Cubic f = absurd (false≢true (sy
 kind-shaped gs r fine small plane pos off tol Other f = pass-shaped gs r fine small plane pos 0
 kind-shaped gs r fine small plane pos off tol Refused f = pass-shaped gs r fine small plane pos 0
 
-drawn-spline : (m : ℕ) → isSpline m ≡ false → drawn (kindOf m) ≡ false
-unfolding isSpline kindOf
-drawn-spline m f =
-    by-bit (eqb m 0) (λ a. rw a)
-    (λ a. rw a (by-bit (leb m 2) (λ b. rw b)
-    (λ b. rw b (by-bit (eqb m 3) (λ c. rw c)
-    (λ c. rw c (by-bit (eqb m 4) (λ d. rw d)
-    (λ d. rw d (by-bit (eqb m 5) (λ e. absurd (true≢false (sym (ap (λ (n : ℕ). leb 5 n && leb n 7) (eqb-true m 5 e)) ∙ f)))
-    (λ e. rw e (by-bit (eqb m 6) (λ g. absurd (true≢false (sym (ap (λ (n : ℕ). leb 5 n && leb n 7) (eqb-true m 6 g)) ∙ f)))
-    (λ g. rw g (by-bit (eqb m 7) (λ h. absurd (true≢false (sym (ap (λ (n : ℕ). leb 5 n && leb n 7) (eqb-true m 7 h)) ∙ f)))
-    (λ h. rw h (by-bit (leb m 31) (λ i. rw i) (λ i. rw i)))))))))))))))
-
 -- the group of a block of no spline
 pub own-shaped : (gs r : List ℕ) → Fine r → ((k : ℕ) → member k gs ≡ true → k < axisCodes) → (plane : ℕ) (pos : ℕ → Option ℕ) → ((k : ℕ) → member k gs ≡ false → pos k ≡ none)
     → (tol : Float) (m : ℕ) → isSpline m ≡ false → {asks : Type 0} → Shaped gs r asks (answerAs (kindOf m) tol gs plane pos r .rows)
-own-shaped gs r fine small plane pos off tol m f = kind-shaped gs r fine small plane pos off tol (kindOf m) (drawn-spline m f)
+unfolding isSpline
+own-shaped gs r fine small plane pos off tol m f = kind-shaped gs r fine small plane pos off tol (kindOf m) f

@@ -18,7 +18,7 @@ use Rattle.call_reply.specs.Replies.{plain, AfterState, tooFew}
 use Rattle.call_start.specs.Start.{freshWord, fresh, startSpec}
 use Rattle.call_start.specs.Seed.{seeded, seedSpec}
 use Rattle.push_check.specs.Blocks.{isFull, pushCheck}
-use Rattle.flattener.specs.Push.{pushRows, pushDone, pushSpec}
+use Rattle.call_push.specs.Push.{pushRows, pushDone, pushSpec}
 use Rattle.call_close.specs.Close.{untouched, fits, closeRows, closeState, closeSpec}
 use Rattle.demands.specs.Demands.{Turned, Safe, SafeState, Demand1}
 use Rattle.demands.specs.Laws.{cond-both}

@@ -17,7 +17,7 @@ use Rattle.call_reply.specs.Replies.{After, AfterState}
 use Rattle.call_start.specs.Start.{startSpec}
 use Rattle.call_start.specs.Seed.{seedSpec}
 use Rattle.spline_emission.specs.Emission.{weightOf}
-use Rattle.flattener.specs.Push.{pushSpec}
+use Rattle.call_push.specs.Push.{pushSpec}
 use Rattle.call_close.specs.Close.{closeSpec}
 use Rattle.demands.specs.Groups.{Event, seed, block, closed, blocksOf, Piece, pieces, groups}
 use Rattle.demands.specs.Laws.{Every}

@@ -6,7 +6,7 @@ use mathlib.Core.List.{List, [], _∷_, _++_}
 use borrow.Author.Tests.{eqb-false}
 use Rattle.floats.specs.Truth.{by-bit, cond-t, cond-f}
 use Rattle.call_reply.specs.Replies.{After}
-use Rattle.flattener.specs.Push.{pushSpec}
+use Rattle.call_push.specs.Push.{pushSpec}
 use Rattle.call_close.specs.Close.{closeSpec}
 use Rattle.demands.specs.Demands.{Call, pushing, seeding, closing, answer, accepts, wrote, taken, Ran, run, acceptedOf, NoTrace}
 use Rattle.demands.specs.Demand1.{demand1}

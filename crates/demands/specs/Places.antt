@@ -19,9 +19,9 @@ use Rattle.call_reply.specs.Replies.{After, plain}
 use Rattle.call_start.specs.Start.{fresh, startSpec}
 use Rattle.call_start.specs.Seed.{seeded, seedSpec}
 use Rattle.push_check.specs.Blocks.{pushCheck}
-use Rattle.flattener.specs.Push.{pushRows, pushDone, pushSpec}
+use Rattle.call_push.specs.Push.{pushRows, pushDone, pushSpec}
 use Rattle.call_close.specs.Close.{closeRows, closeState, closeSpec}
-use Rattle.flattener.specs.Keeps.{close-saved}
+use Rattle.demands.specs.Keeps.{close-saved}
 use Rattle.demands.specs.Laws.{Every, every-imp, length-flatten}
 use Rattle.demands.specs.RowLengths.{Long, pushRows-long, closeRows-long}
 use Rattle.demands.specs.Accepted.{Saved, saved}

@@ -1,7 +1,7 @@
 -- Every row that a call writes has a row's words, whatever motion it comes from. Assumes nothing.
 use Prim.Native.Nat.{ℕ, _+_}
-use mathlib.Core.Path.{_≡_, _∙_}
-use mathlib.Core.Bool.{Bool, true, false, cond}
+use mathlib.Core.Path.{_≡_, refl, _∙_}
+use mathlib.Core.Bool.{Bool, true, false, cond, false≢true}
 use mathlib.Core.List.{List, [], map}
 use mathlib.Core.Option.{Option, none, some, Option·getD}
 use native.Mathlib.Omega.{arith}
@@ -11,6 +11,7 @@ use lib.Ieee.{Float}
 use Rattle.floats.specs.Lists.{upto, flatten}
 use Rattle.floats.specs.Fill.{length-upto}
 use Rattle.layout.specs.Layout.{rowWords, cells}
+use Rattle.motion.specs.Motion.{splineKind}
 use Rattle.motion.specs.declared.Kind.{Kind}
 use Rattle.motion.specs.declared.Kind.the-variants.{Same, Linear, Clockwise, Counter, Akima, Basis, Cubic, Other, Refused}
 use Rattle.rows.specs.Row.{rowOf, outRow, madeRow, cell, withRiders, lineOf, motionOf, planeOf, carryOf, hasPoint}
@@ -20,7 +21,7 @@ use Rattle.saved_state.specs.State.{held}
 use Rattle.push_rows.specs.Answer.{answerAs, ownAnswer}
 use Rattle.push_check.specs.Blocks.{emits}
 use Rattle.call_close.specs.Held.{emission}
-use Rattle.flattener.specs.Push.{pushRows}
+use Rattle.call_push.specs.Push.{pushRows}
 use Rattle.call_close.specs.Close.{closeRows}
 use Rattle.demands.specs.Laws.{cond-both, Every, nil, more, every-append, every-upto, every-flatten}
 
@@ -103,3 +104,16 @@ pushRows-long st store r =
 pub closeRows-long : (st store : List ℕ) → Every Long (closeRows st store)
 unfolding closeRows
 closeRows-long st store = cond-both (Every Long) (eqb (held st) 0) nil (emission-long st store)
+
+-- ---- a block of a spline has no row of its own
+pub spline-as : (k : Kind) → splineKind k ≡ true → (tol : Float) (gs : List ℕ) (plane : ℕ) (pos : ℕ → Option ℕ) (r : List ℕ) → answerAs k tol gs plane pos r .rows ≡ []
+unfolding answerAs
+spline-as Same y tol gs plane pos r = absurd (false≢true y)
+spline-as Linear y tol gs plane pos r = absurd (false≢true y)
+spline-as Clockwise y tol gs plane pos r = absurd (false≢true y)
+spline-as Counter y tol gs plane pos r = absurd (false≢true y)
+spline-as Akima y tol gs plane pos r = refl
+spline-as Basis y tol gs plane pos r = refl
+spline-as Cubic y tol gs plane pos r = refl
+spline-as Other y tol gs plane pos r = absurd (false≢true y)
+spline-as Refused y tol gs plane pos r = absurd (false≢true y)

@@ -6,6 +6,7 @@ use native.Mathlib.Omega.{arith}
 use lib.ListN.{length, getD, replicate}
 use Rattle.floats.specs.Lists as Lists
 use Rattle.floats.specs.Lists.{spliced}
+use Rattle.motion.specs.Motion as Motion
 use Rattle.rows.specs.Codes as Codes
 use Rattle.rows.specs.Row as Row
 use Rattle.arc_rows.specs.Arc.{passed}
@@ -13,11 +14,11 @@ use Rattle.saved_state.specs.State as State
 use Rattle.call_start.specs.Start as Start
 use Rattle.call_reply.specs.Replies.{After}
 use Rattle.call_start.specs.Start.{fresh}
-use Rattle.flattener.specs.Push as Push
+use Rattle.call_push.specs.Push as Push
 use Rattle.push_check.specs.Blocks as Blocks
 use Rattle.push_state.specs.Pushed as Pushed
 use Rattle.push_rows.specs.Answer as Own
-use Rattle.flattener.specs.Push.{pushRows, pushSpec}
+use Rattle.call_push.specs.Push.{pushRows, pushSpec}
 use Rattle.demands.specs.Answers.{push-count}
 
 -- a program's push
@@ -46,7 +47,7 @@ pushedNext = pushSpec (pushedLine 1 .state) (pushedLine 1 .store) room (line 2)
 -- each of them is accepted, and writes itself
 computed : (pushedLine 1 .reply .code ∷ []) ∷ pushedLine 1 .rows ∷ pushedLine 2 .rows ∷ pushedNext .rows ∷ (pushedLine 2 .reply .code ∷ []) ∷ []
     ≡ (0 ∷ []) ∷ line 1 ∷ line 2 ∷ line 2 ∷ (0 ∷ []) ∷ []
-unfolding fresh Start.freshWord Lists.upto Lists.keep Lists.member Lists.flatten Lists.spliced Codes.kindOf Codes.isSpline Codes.planeOk Codes.geometricOf Row.has Row.all Row.cell Row.maskOf Row.rowOf Row.outRow Row.shapeOk Row.within Row.cellOk Row.numbersOk Row.above1000 Row.turnOk Row.rowCheck passed State.geometric State.pointWord State.tolOk State.codeOk State.codesOk State.axesOk State.pointAtOk State.pointOk State.heldOk State.stateOk State.storeOk State.heldRows State.heldRowOk State.savedCheck State.withBit State.placed Blocks.orNow Blocks.emits Blocks.kept Own.answerAs Own.ownAnswer Blocks.news Pushed.trackTo Pushed.pushState Pushed.pushStore Push.pushRows Blocks.isFull Blocks.pushCheck Push.pushDone Push.pushSpec
+unfolding fresh Start.freshWord Lists.upto Lists.keep Lists.member Lists.flatten Lists.spliced Motion.kindOf Motion.isSpline Motion.isOther Motion.isBasis Motion.isCubic Codes.planeOk Codes.geometricOf Row.has Lists.all Row.cell Row.maskOf Row.rowOf Row.outRow Row.shapeOk Row.within Row.cellOk Row.numbersOk Row.above1000 Row.turnOk Row.rowCheck passed State.geometric State.pointWord State.tolOk State.codeOk State.codesOk State.axesOk State.pointAtOk State.pointOk State.heldOk State.stateOk State.storeOk State.heldRows State.heldRowOk State.savedCheck State.withBit State.placed Blocks.orNow Blocks.emits Blocks.kept Own.answerAs Own.ownAnswer Blocks.news Pushed.trackTo Pushed.pushState Pushed.pushStore Push.pushRows Blocks.isFull Blocks.pushCheck Push.pushDone Push.pushSpec
 computed = refl
 
 -- the first word of answer i

@@ -8,6 +8,7 @@ use Rattle.floats.specs.Lists as Lists
 use Rattle.root.specs.Root as Root
 use Rattle.whole.specs.Whole as Whole
 use Rattle.trig.specs.Trig as Trig
+use Rattle.motion.specs.Motion as Motion
 use Rattle.rows.specs.Codes as Codes
 use Rattle.rows.specs.Row as Row
 use Rattle.arc_rows.specs.Arc as Arc
@@ -20,7 +21,7 @@ use Rattle.saved_state.specs.State as State
 use Rattle.call_start.specs.Start as Start
 use Rattle.call_close.specs.Held as Held
 use Rattle.call_reply.specs.Replies as Replies
-use Rattle.flattener.specs.Push as Push
+use Rattle.call_push.specs.Push as Push
 use Rattle.push_check.specs.Blocks as Blocks
 use Rattle.push_state.specs.Pushed as Pushed
 use Rattle.push_rows.specs.Answer as Own
@@ -67,7 +68,7 @@ xyz = 0 ∷ 1 ∷ 2 ∷ []
 
 -- from a start with X Y Z and tolerance t, four store blocks lent; it computes
 unfoldable pub asked : ℕ → List Call → List ℕ
-unfolding Lists.upto Lists.keep Lists.member Lists.anyOf Lists.flatten Lists.rowsOf Lists.spliced Lists.Agrees Root.floorRoot Root.rootUnits Root.sqrt Whole.ceilCount Whole.halfUpCount Whole.truncCount Trig.sinSteps Trig.cosSteps Trig.atanFrom Trig.atanRight Trig.atanLeft Trig.atanUp Trig.atan2Steps Trig.acosSteps Codes.kindOf Codes.isSpline Codes.planeU Codes.planeV Codes.planeOk Codes.geometricOf Row.has Row.all Row.cell Row.number Row.shown Row.axesOf Row.maskOf Row.rowOf Row.outRow Row.hasPoint Row.rides Row.withRiders Row.madeRow Row.shapeOk Row.within Row.cellOk Row.numbersOk Row.above1000 Row.turnOk Row.rowCheck Arc.passed Arc.silent Arc.sideOf Arc.crCentre Arc.centreOf Arc.radius Arc.wideCentre Arc.agree Arc.sweepLeft Arc.sweepOf Arc.turned Arc.arcOf Arc.stepOf Arc.wantedOf Arc.countOf Arc.ramp Arc.lastCell Arc.midCell Arc.arcRow Arc.heldAxes Arc.arcRows Arc.fromCentre Arc.fromStart Arc.arcAnswer Metric.dotTo Metric.lenTo Metric.along Metric.distTo Metric.deviationOf Metric.chordTo Metric.chords Walk.near Walk.flat Walk.samples Basis.degreeOf Basis.knots Basis.share Basis.raisedAt Basis.levels Basis.basisOf Basis.spanOf Basis.topOf Basis.evalBasis Basis.basisSamples Basis.knotSum Basis.greville Basis.ownerFrom Basis.owned Basis.runOf Basis.basisRuns Runs.curveRuns Emission.pointRows Emission.channelsFrom Emission.channels Emission.firstCell Emission.startPoint Emission.nextPoint Emission.pointsFrom Emission.metricOf Emission.weightOf Emission.runsOf Emission.placeOf Emission.sampleCell Emission.ownCell Emission.isMarked Emission.pointGroup Emission.heldGroup Emission.splineGroups State.geometric State.pointWord State.tolOk State.codeOk State.codesOk State.axesOk State.pointAtOk State.pointOk State.heldOk State.stateOk State.storeOk State.heldRows State.heldRowOk State.savedCheck State.withBit State.placed Start.freshWord Start.fresh Start.startSpec Held.heldSpline Blocks.orNow Blocks.emits Blocks.kept Held.emission Own.answerAs Own.ownAnswer Blocks.news Pushed.trackTo Pushed.forgotten Pushed.opened Pushed.degreeWith Pushed.buffered Pushed.pushState Pushed.pushStore Push.pushRows Blocks.isFull Blocks.pushCheck Close.untouched Replies.tooFew Push.pushDone Push.pushSpec Close.closeRows Close.closeState Close.closeSpec Demands.answer Demands.wrote Ieee.add Ieee.sub Ieee.mul Ieee.div Ieee.rem Ieee.neg Ieee.lt Ieee.le Ieee.eq Ieee.ofBits Ieee.toBits Ieee.ofInt lastOf
+unfolding Lists.upto Lists.keep Lists.member Lists.anyOf Lists.flatten Lists.rowsOf Lists.spliced Lists.Agrees Root.floorRoot Root.rootUnits Root.sqrt Whole.ceilCount Whole.halfUpCount Whole.truncCount Trig.sinSteps Trig.cosSteps Trig.atanFrom Trig.atanRight Trig.atanLeft Trig.atanUp Trig.atan2Steps Trig.acosSteps Motion.kindOf Motion.isSpline Motion.isOther Motion.isBasis Motion.isCubic Codes.planeU Codes.planeV Codes.planeOk Codes.geometricOf Row.has Lists.all Row.cell Row.number Row.shown Row.axesOf Row.maskOf Row.rowOf Row.outRow Row.hasPoint Row.rides Row.withRiders Row.madeRow Row.shapeOk Row.within Row.cellOk Row.numbersOk Row.above1000 Row.turnOk Row.rowCheck Arc.passed Arc.silent Arc.sideOf Arc.crCentre Arc.centreOf Arc.radius Arc.wideCentre Arc.agree Arc.sweepLeft Arc.sweepOf Arc.turned Arc.arcOf Arc.stepOf Arc.wantedOf Arc.countOf Arc.ramp Arc.lastCell Arc.midCell Arc.arcRow Arc.heldAxes Arc.arcRows Arc.fromCentre Arc.fromStart Arc.arcAnswer Metric.dotTo Metric.lenTo Metric.along Metric.distTo Metric.deviationOf Metric.chordTo Metric.chords Walk.near Walk.flat Walk.samples Basis.degreeOf Basis.knots Basis.share Basis.raisedAt Basis.levels Basis.basisOf Basis.spanOf Basis.topOf Basis.evalBasis Basis.basisSamples Basis.knotSum Basis.greville Basis.ownerFrom Basis.owned Basis.runOf Basis.basisRuns Runs.curveRuns Emission.pointRows Emission.channelsFrom Emission.channels Emission.firstCell Emission.startPoint Emission.nextPoint Emission.pointsFrom Emission.metricOf Emission.weightOf Emission.runsOf Emission.placeOf Emission.sampleCell Emission.ownCell Emission.isMarked Emission.pointGroup Emission.heldGroup Emission.splineGroups State.geometric State.pointWord State.tolOk State.codeOk State.codesOk State.axesOk State.pointAtOk State.pointOk State.heldOk State.stateOk State.storeOk State.heldRows State.heldRowOk State.savedCheck State.withBit State.placed Start.freshWord Start.fresh Start.startSpec Held.heldSpline Blocks.orNow Blocks.emits Blocks.kept Held.emission Own.answerAs Own.ownAnswer Blocks.news Pushed.trackTo Pushed.forgotten Pushed.opened Pushed.degreeWith Pushed.buffered Pushed.pushState Pushed.pushStore Push.pushRows Blocks.isFull Blocks.pushCheck Close.untouched Replies.tooFew Push.pushDone Push.pushSpec Close.closeRows Close.closeState Close.closeSpec Demands.answer Demands.wrote Ieee.add Ieee.sub Ieee.mul Ieee.div Ieee.rem Ieee.neg Ieee.lt Ieee.le Ieee.eq Ieee.ofBits Ieee.toBits Ieee.ofInt lastOf
 asked t cs = lastOf (Start.startSpec (replicate 44 7) t xyz .state) (replicate 116 0) cs
 
 -- X and Y programmed on a line, with room for one row

@@ -14,12 +14,12 @@ use Rattle.rows.specs.Row.{within, rowCheck, motionOf}
 use Rattle.floats.specs.Truth.{by-bit, cond-t, cond-f, and-i, all-ext}
 use Rattle.saved_state.specs.State.{tolOk, codesOk, axesOk, axisCount, motionNow, held, geometric, heldRow, heldRowOk, stateOk, storeOk, savedCheck, placed}
 use Rattle.saved_state.specs.StateLaws.{Good, good-ok, geometric-small}
-use Rattle.flattener.specs.Keeps.{no-point, none-held, seeded-ok, close-saved, push-saved}
+use Rattle.demands.specs.Keeps.{no-point, none-held, seeded-ok, close-saved, push-saved}
 use Rattle.call_reply.specs.Replies.{After, AfterState, plain}
 use Rattle.call_start.specs.Start.{fresh, freshWord}
 use Rattle.call_start.specs.Seed.{seeded, seedSpec}
 use Rattle.push_check.specs.Blocks.{pushCheck}
-use Rattle.flattener.specs.Push.{pushRows, pushDone}
+use Rattle.call_push.specs.Push.{pushRows, pushDone}
 use Rattle.call_close.specs.Close.{closeRows, closeSpec}
 use Rattle.demands.specs.Accepted.{Saved, saved, Pushed, pushed, fine-check}
 use Rattle.demands.specs.Answers.{places, push-done, push-accepted, closeDone, close-done, close-accepted}

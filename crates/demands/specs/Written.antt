@@ -25,13 +25,13 @@ use Rattle.call_reply.specs.Replies.{After, AfterState, plain}
 use Rattle.call_start.specs.Seed.{seeded, seedSpec}
 use Rattle.push_check.specs.Blocks.{orNow, motionThen, emits, pushCheck}
 use Rattle.push_rows.specs.Answer.{answerAs, ownAnswer}
-use Rattle.flattener.specs.Push.{pushRows, pushDone, pushSpec}
+use Rattle.call_push.specs.Push.{pushRows, pushDone, pushSpec}
 use Rattle.call_close.specs.Close.{closeRows, closeState, closeSpec}
 use Rattle.demands.specs.Laws.{Every, every-imp, flatten-append, length-flatten}
 use Rattle.demands.specs.Groups.{Event, seed, block, closed, Standing, motionWith, withBlock, withSeed, withClose, splineWith}
 use Rattle.demands.specs.Demands.{Call, pushing, seeding, closing, answer, accepts, wrote, eventOf, taken, Ran, run}
 use Rattle.demands.specs.Demand1.{demand1}
-use Rattle.demands.specs.RowLengths.{Long, pushRows-long, closeRows-long}
+use Rattle.demands.specs.RowLengths.{Long, spline-as, pushRows-long, closeRows-long}
 use Rattle.demands.specs.Accepted.{Saved, saved, Pushed, pushed, few-axes, past-place, past-start, state-words}
 use Rattle.demands.specs.Answers.{places, push-done, push-accepted, closeDone, close-done, close-accepted}
 use Rattle.demands.specs.Stands.{Stands, some-length, Same, Changed, same, changed, motion-is, none-kept, push-stands, seed-stands, close-stands}
@@ -96,15 +96,8 @@ module _ {tol : ℕ} {gs : List ℕ} {s : Standing} {st store : List ℕ} (t : S
 
 -- ---- a block of a spline has no row of its own
 spline-rows : (m : ℕ) → isSpline m ≡ true → (tol : Float) (gs : List ℕ) (plane : ℕ) (pos : ℕ → Option ℕ) (r : List ℕ) → answerAs (kindOf m) tol gs plane pos r .rows ≡ []
-unfolding isSpline kindOf answerAs
-spline-rows m y tol gs plane pos r =
-    let a : 5 ≤ m = leb-true 5 m (and-left (leb 5 m) (leb m 7) y) in
-    let b : m ≤ 7 = leb-true m 7 (and-right (leb 5 m) (leb m 7) y) in
-    by-bit (eqb m 5)
-    (λ e. rw (eqb-true m 5 e))
-    (λ e. by-bit (eqb m 6)
-    (λ f. rw (eqb-true m 6 f))
-    (λ f. let z : m ≡ 7 = omega (arith, eqb-false m 5 e, eqb-false m 6 f) in rw z))
+unfolding isSpline
+spline-rows m y tol gs plane pos r = spline-as (kindOf m) y tol gs plane pos r
 
 -- ---- the rows of a push
 module _ {tol : ℕ} {gs : List ℕ} {s : Standing} {st store : List ℕ} (r : List ℕ) (t : Stands tol gs s st store) (p : Pushed st store r) where

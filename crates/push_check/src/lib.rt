@@ -1,4 +1,4 @@
-// A block at a state: its motion and plane, the spline that it ends, and what it is refused for.
+// A block at a state: what it comes to, resolved once, and what it is refused for.
 use layout::MOST_HELD;
 use layout::R_MOTION;
 use layout::R_PLANE;
@@ -7,18 +7,43 @@ use layout::W_HELD;
 use layout::W_MOTION;
 use layout::W_PLANE;
 use layout::W_WARNED;
+use motion::Kind;
 use motion::is_other;
 use motion::is_spline;
+use motion::kind_of;
 use rows::check_row;
 use rows::has_bit;
+use saved_state::state::geometric_mask;
 use saved_state::state::saved_check;
 ghost use mathlib.Core.Path.{_≡_};
-ghost use Prim.Native.Nat.{_/_, min};
+ghost use mathlib.Core.Bool.{_&&_, not, cond};
+ghost use Prim.Native.Nat.{_/_, _≤_, min};
+ghost use lib.Dec.{leb, eqb};
 ghost use lib.ListN.{length};
 ghost use Rattle.layout.specs.Layout.{rowWords, mostHeld};
-ghost use Rattle.push_check.specs.Blocks as Blocks;
-ghost use Rattle.push_check.specs.Blocks.{orNow, motionThen, planeThen, isFull, pushCheck, news};
+ghost use Rattle.motion.specs.Motion.{splineKind, isOther, lastMotion};
+ghost use Rattle.rows.specs.Row.{has};
+ghost use Rattle.push_check.specs.Blocks.{orNow};
 ghost use Rattle.push_check.specs.BlockLaws.{Block};
+ghost use Rattle.push_check.specs.Resolved.{resolved, due};
+
+// What a block comes to at a state: the motion then in force, its kind, the plane; whether the held spline goes out first
+// and how many blocks stay held; whether its word is to be warned of; the mask of the geometric axes.
+pub struct Resolved {
+    pub kind: Kind,
+    pub motion: u64,
+    pub plane: u64,
+    pub emits: bool,
+    pub kept: u64,
+    pub news: bool,
+    pub axes: u64,
+}
+
+// What a push is due: the number of its refusal, or its block.
+pub enum Due {
+    Refused(u64),
+    Push(Resolved),
+}
 
 // A motion or plane cell, or what is in force where there is none.
 fn or_now(v: u64, now: u64) -> u64
@@ -30,43 +55,54 @@ fn or_now(v: u64, now: u64) -> u64
     v
 }
 
-pub fn motion_then(state: &[u64], row: &[u64]) -> u64
-    requires { ⌜ Block (now state) (now row) ⌝ }
-    ensures { λ r. ⌜ r ≡ motionThen (now (state .entry)) (now (row .entry)) ⌝ }
+// Whether a block ends the spline that is held.
+fn ends_spline(held: u64, then: u64, now: u64) -> bool
+    ensures { λ r. ⌜ r ≡ (not (eqb held 0) && not (eqb then now)) ⌝ }
 {
-    or_now(row[R_MOTION], state[W_MOTION])
-}
-
-pub fn plane_then(state: &[u64], row: &[u64]) -> u64
-    requires { ⌜ Block (now state) (now row) ⌝ }
-    ensures { λ r. ⌜ r ≡ planeThen (now (state .entry)) (now (row .entry)) ⌝ }
-{
-    or_now(row[R_PLANE], state[W_PLANE])
-}
-
-// Whether the held spline is emitted before the block.
-pub fn emits(state: &[u64], row: &[u64]) -> bool
-    requires { ⌜ Block (now state) (now row) ⌝ }
-    ensures { λ r. ⌜ r ≡ Blocks.emits (now (state .entry)) (now (row .entry)) ⌝ }
-{
-    if state[W_HELD] == 0 {
+    if held == 0 {
         return false;
     }
-    if motion_then(state, row) == state[W_MOTION] {
-        return false;
-    }
-    true
+    then != now
 }
 
 // The blocks still held before this one.
-pub fn kept(state: &[u64], row: &[u64]) -> u64
-    requires { ⌜ Block (now state) (now row) ⌝ }
-    ensures { λ r. ⌜ r ≡ Blocks.kept (now (state .entry)) (now (row .entry)) ⌝ }
+fn still_held(emits: bool, held: u64) -> u64
+    ensures { λ r. ⌜ r ≡ cond emits 0 held ⌝ }
 {
-    if emits(state, row) {
-        return 0;
+    if emits { 0 } else { held }
+}
+
+// Whether a motion cell has another curve's word that was not warned of yet.
+fn is_news(warned: u64, word: u64) -> bool
+    requires { ⌜ word ≤ lastMotion ⌝ }
+    ensures { λ r. ⌜ r ≡ (isOther word && not (has warned word)) ⌝ }
+{
+    if is_other(kind_of(word)) {
+        return !has_bit(warned, word);
     }
-    state[W_HELD]
+    false
+}
+
+fn resolve(state: &[u64], row: &[u64]) -> Resolved
+    requires { ⌜ Block (now state) (now row) ⌝ }
+    ensures { λ r. ⌜ r ≡ resolved (now (state .entry)) (now (row .entry)) ⌝ }
+{
+    let held = state[W_HELD];
+    let motion = or_now(row[R_MOTION], state[W_MOTION]);
+    let plane = or_now(row[R_PLANE], state[W_PLANE]);
+    let emits = ends_spline(held, motion, state[W_MOTION]);
+    let kept = still_held(emits, held);
+    let news = is_news(state[W_WARNED], row[R_MOTION]);
+    let axes = geometric_mask(state);
+    Resolved {
+        kind: kind_of(motion),
+        motion,
+        plane,
+        emits,
+        kept,
+        news,
+        axes,
+    }
 }
 
 // How many blocks a store takes.
@@ -80,41 +116,32 @@ fn block_room(store: &[u64]) -> u64
     MOST_HELD
 }
 
-pub fn is_full(state: &[u64], store: &[u64], row: &[u64]) -> bool
-    requires { ⌜ Block (now state) (now row) ⌝ }
-    ensures { λ r. ⌜ r ≡ isFull (now (state .entry)) (now (store .entry)) (now (row .entry)) ⌝ }
+// Whether the block would be buffered and has no room.
+fn is_full(store: &[u64], b: Resolved) -> bool
+    ensures { λ r. ⌜ r ≡ (splineKind (b .kind) && leb (min mostHeld (length (now (store .entry)) / rowWords)) (b .kept)) ⌝ }
 {
-    if !is_spline(motion_then(state, row)) {
-        return false;
+    let kind = b.kind;
+    if is_spline(kind) {
+        return block_room(store) <= b.kept;
     }
-    block_room(store) <= kept(state, row)
+    false
 }
 
-// 0, or the number of the refusal that a push is due, room for rows apart.
-pub fn push_check(state: &[u64], store: &[u64], row: &[u64]) -> u64
-    ensures { λ r. ⌜ r ≡ pushCheck (now (state .entry)) (now (store .entry)) (now (row .entry)) ⌝ }
+// The refusal that a push is due, room for rows apart, or its block.
+pub fn check_push(state: &[u64], store: &[u64], row: &[u64]) -> Due
+    ensures { λ r. ⌜ r ≡ due (now (state .entry)) (now (store .entry)) (now (row .entry)) ⌝ }
 {
     let saved = saved_check(state, store);
     if saved != 0 {
-        return saved;
+        return Due::Refused(saved);
     }
     let code = check_row(row);
     if code != 0 {
-        return code;
+        return Due::Refused(code);
     }
-    if is_full(state, store, row) {
-        return 6;
+    let b = resolve(state, row);
+    if is_full(store, b) {
+        return Due::Refused(6);
     }
-    0
-}
-
-// Whether the block has another word that was not warned of yet.
-pub fn is_news(state: &[u64], row: &[u64]) -> bool
-    requires { ⌜ Block (now state) (now row) ⌝ }
-    ensures { λ r. ⌜ r ≡ news (now (state .entry)) (now (row .entry)) ⌝ }
-{
-    if is_other(row[R_MOTION]) {
-        return !has_bit(state[W_WARNED], row[R_MOTION]);
-    }
-    false
+    Due::Push(b)
 }

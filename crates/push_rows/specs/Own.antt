@@ -10,8 +10,9 @@ use lib.Seq.{getD-take, getD-drop}
 use lib.Dec.{eqb, ltb}
 use lib.Ieee.{Float}
 use borrow.Author.Tests.{ltb-true, ltb-false, eq-eqb, ne-eqb}
-use Rattle.layout.specs.Layout.{axisCodes, rowWords, wKnown}
+use Rattle.layout.specs.Layout.{axisCodes, axisMasks, rowWords, wKnown}
 use Rattle.motion.specs.Motion.{kindOf}
+use Rattle.motion.specs.declared.Kind.{Kind}
 use Rattle.motion.specs.declared.Kind.the-variants.{Same, Linear, Clockwise, Counter, Akima, Basis, Cubic, Other, Refused}
 use Rattle.rows.specs.Row.{has, shown, axesOf, rowCheck}
 use Rattle.floats.specs.Truth.{by-bit, cond-t, cond-f}
@@ -22,10 +23,12 @@ use Rattle.arc_rows.specs.declared.Plan.{Plan}
 use Rattle.arc_rows.specs.Plan.{passPlan, planRows, wayRows, Planned, WriteOf}
 use Rattle.saved_state.specs.State.{geometric, tolerance, stateOk, pointWord, position}
 use Rattle.saved_state.specs.StateLaws.{good, point-small}
-use Rattle.saved_state.specs.Axes.{geometricMask, mask-members}
+use Rattle.saved_state.specs.Axes.{geometricMask, geometric-mask-small, mask-members}
 use Rattle.push_check.specs.Blocks.{motionThen, planeThen}
 use Rattle.push_rows.specs.Answer.{answerAs, ownAnswer}
 use Rattle.push_check.specs.BlockLaws.{Block, block}
+use Rattle.push_check.specs.declared.Resolved.{Resolved}
+use Rattle.push_check.specs.Resolved.{resolved}
 use Rattle.push_rows.specs.ArcSame.{arc-same}
 
 -- the positions, as a mask and the ten words after it
@@ -38,12 +41,26 @@ place-is st h =
     (λ b. rw (has-past (getD st wKnown 0) axisCodes k h (ltb-false k axisCodes b))))
 
 -- ---- a block's own plan
-pub record Ready (st r : List ℕ) : Type 0 where
+pub record Ready (st r : List ℕ) (b : Resolved) : Type 0 where
   pub block : Block st r
-  pub known : getD st wKnown 0 < 2 ^ axisCodes
+  pub told : b ≡ resolved st r
+  pub known : getD st wKnown 0 < axisMasks
 
-pub ready : (st r : List ℕ) → stateOk st ≡ true → rowCheck r ≡ 0 → Ready st r
-ready st r ok pass = record { block = block st r ok pass; known = point-small st wKnown (good st ok .known) }
+pub ready : (st r : List ℕ) (b : Resolved) → stateOk st ≡ true → rowCheck r ≡ 0 → b ≡ resolved st r → Ready st r b
+ready st r b ok pass e = record { block = block st r ok pass; told = e; known = point-small st wKnown (good st ok .known) }
+
+module _ {st r : List ℕ} {b : Resolved} (y : Ready st r b) where
+  pub ready-axes : b .axes ≡ geometricMask st
+  ready-axes = ap (λ (x : Resolved). x .axes) (y .told)
+
+  pub ready-plane : b .plane ≡ planeThen st r
+  ready-plane = ap (λ (x : Resolved). x .plane) (y .told)
+
+  pub ready-kind : {k : Kind} → b .kind ≡ k → kindOf (motionThen st r) ≡ k
+  ready-kind e = sym (ap (λ (x : Resolved). x .kind) (y .told)) ∙ e
+
+  pub ready-small : b .axes < axisMasks
+  ready-small = rw ready-axes (geometric-mask-small st)
 
 -- no row
 abbrev pub nonePlan : Plan
@@ -59,6 +76,12 @@ pub record OwnPlanned (st r : List ℕ) (p : Plan) : Type 0 where
   pub warning : p .warning ≡ ownAnswer st r .warning
   pub wanted : p .wanted ≡ ownAnswer st r .wanted
   pub held : p .held ≡ ownAnswer st r .held
+
+-- a planned block's rows have room from word `from` on
+pub record Writes (st r : List ℕ) (b : Resolved) (p : Plan) (rows : List ℕ) (from : ℕ) : Type 0 where
+  pub ready : Ready st r b
+  pub planned : OwnPlanned st r p
+  pub room : from + p .count * rowWords ≤ length rows
 
 -- an arc's plan, of this state
 abbrev pub TurnPlanned : List ℕ → List ℕ → Bool → Plan → Type 0

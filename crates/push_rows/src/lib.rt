@@ -8,18 +8,15 @@ use layout::AXIS_CODES;
 use layout::W_KNOWN;
 use layout::W_TOLERANCE;
 use motion::Kind;
-use motion::kind_of;
-use push_check::motion_then;
-use push_check::plane_then;
+use push_check::Resolved;
 use rows::put_row;
-use saved_state::state::geometric_mask;
 ghost use mathlib.Core.Path.{_≡_};
 ghost use Prim.Native.Nat.{_+_, _*_, _<_, _≤_};
 ghost use lib.ListN.{length};
 ghost use Rattle.floats.specs.Lists.{flatten, spliced};
 ghost use Rattle.layout.specs.Layout.{rowWords};
 ghost use Rattle.arc_rows.specs.Plan.{passPlan};
-ghost use Rattle.push_rows.specs.Own.{Ready, nonePlan, ownRows, OwnPlanned, TurnPlanned};
+ghost use Rattle.push_rows.specs.Own.{Ready, Writes, nonePlan, ownRows, OwnPlanned, TurnPlanned};
 
 // The words of the positions.
 const POSITIONS: usize = W_KNOWN + 1;
@@ -50,17 +47,15 @@ fn none_plan() -> Plan
     }
 }
 
-fn plan_turn(state: &[u64], row: &[u64], cw: bool) -> Plan
-    requires { ⌜ Ready (now state) (now row) ⌝ }
+fn plan_turn(state: &[u64], row: &[u64], b: Resolved, cw: bool) -> Plan
+    requires { ⌜ Ready (now state) (now row) b ⌝ }
     ensures { λ p. ⌜ TurnPlanned (now (state .entry)) (now (row .entry)) cw p ⌝ }
 {
-    let gs = geometric_mask(state);
-    let plane = plane_then(state, row);
     let tol = of_bits(state[W_TOLERANCE]);
     plan_arc(
         row,
-        gs,
-        plane,
+        b.axes,
+        b.plane,
         cw,
         state[W_KNOWN],
         &state[POSITIONS..POSITIONS_END],
@@ -69,16 +64,16 @@ fn plan_turn(state: &[u64], row: &[u64], cw: bool) -> Plan
 }
 
 // What a block itself comes to: a block of a spline has no row yet.
-pub fn plan_own(state: &[u64], row: &[u64]) -> Plan
-    requires { ⌜ Ready (now state) (now row) ⌝ }
+pub fn plan_own(state: &[u64], row: &[u64], b: Resolved) -> Plan
+    requires { ⌜ Ready (now state) (now row) b ⌝ }
     ensures { λ p. ⌜ OwnPlanned (now (state .entry)) (now (row .entry)) p ⌝ }
 {
-    let kind = kind_of(motion_then(state, row));
+    let kind = b.kind;
     match kind {
         Kind::Same => pass_plan(),
         Kind::Linear => pass_plan(),
-        Kind::Clockwise => plan_turn(state, row, true),
-        Kind::Counter => plan_turn(state, row, false),
+        Kind::Clockwise => plan_turn(state, row, b, true),
+        Kind::Counter => plan_turn(state, row, b, false),
         Kind::Akima => none_plan(),
         Kind::Basis => none_plan(),
         Kind::Cubic => none_plan(),
@@ -87,18 +82,16 @@ pub fn plan_own(state: &[u64], row: &[u64]) -> Plan
     }
 }
 
-fn write_turn(rows: &mut [u64], from: usize, state: &[u64], row: &[u64], plan: Plan)
-    requires { ⌜ (Ready (now state) (now row)) × ((OwnPlanned (now state) (now row) plan) × ((0 < plan .count) × (from + plan .count * rowWords ≤ length (now rows)))) ⌝ }
+fn write_turn(rows: &mut [u64], from: usize, state: &[u64], row: &[u64], b: Resolved, plan: Plan)
+    requires { ⌜ (Writes (now state) (now row) b plan (now rows) from) × (0 < plan .count) ⌝ }
     ensures { λ _. ⌜ now (rows .exit) ≡ spliced (now (rows .entry)) from (flatten (ownRows (now (state .entry)) (now (row .entry)) plan)) ⌝ }
 {
-    let gs = geometric_mask(state);
-    let plane = plane_then(state, row);
     write_arc(
         rows,
         from,
         row,
-        gs,
-        plane,
+        b.axes,
+        b.plane,
         state[W_KNOWN],
         &state[POSITIONS..POSITIONS_END],
         plan,
@@ -106,23 +99,23 @@ fn write_turn(rows: &mut [u64], from: usize, state: &[u64], row: &[u64], plan: P
 }
 
 // A row that passes is written without asking what an arc needs.
-fn write_some(rows: &mut [u64], from: usize, state: &[u64], row: &[u64], plan: Plan)
-    requires { ⌜ (Ready (now state) (now row)) × ((OwnPlanned (now state) (now row) plan) × ((0 < plan .count) × (from + plan .count * rowWords ≤ length (now rows)))) ⌝ }
+fn write_some(rows: &mut [u64], from: usize, state: &[u64], row: &[u64], b: Resolved, plan: Plan)
+    requires { ⌜ (Writes (now state) (now row) b plan (now rows) from) × (0 < plan .count) ⌝ }
     ensures { λ _. ⌜ now (rows .exit) ≡ spliced (now (rows .entry)) from (flatten (ownRows (now (state .entry)) (now (row .entry)) plan)) ⌝ }
 {
     let way = plan.way;
     match way {
         Way::Pass => put_row(rows, from, row),
-        Way::Along(_, _) => write_turn(rows, from, state, row, plan),
+        Way::Along(_, _) => write_turn(rows, from, state, row, b, plan),
     }
 }
 
 // Writes a planned block's rows from word `from` on.
-pub fn write_own(rows: &mut [u64], from: usize, state: &[u64], row: &[u64], plan: Plan)
-    requires { ⌜ (Ready (now state) (now row)) × ((OwnPlanned (now state) (now row) plan) × (from + plan .count * rowWords ≤ length (now rows))) ⌝ }
+pub fn write_own(rows: &mut [u64], from: usize, state: &[u64], row: &[u64], b: Resolved, plan: Plan)
+    requires { ⌜ Writes (now state) (now row) b plan (now rows) from ⌝ }
     ensures { λ _. ⌜ now (rows .exit) ≡ spliced (now (rows .entry)) from (flatten (ownRows (now (state .entry)) (now (row .entry)) plan)) ⌝ }
 {
     if plan.count > 0 {
-        write_some(rows, from, state, row, plan);
+        write_some(rows, from, state, row, b, plan);
     }
 }

@@ -15,21 +15,16 @@ use layout::W_PLANE;
 use layout::W_START;
 use layout::W_WARNED;
 use motion::is_spline;
-use push_check::emits;
-use push_check::is_news;
-use push_check::kept;
-use push_check::motion_then;
-use push_check::plane_then;
+use push_check::Resolved;
 use rows::has_bit;
 use rows::lowest_bit;
 use rows::other_bits;
 use rows::put_row;
-use saved_state::state::geometric_mask;
 use saved_state::state::place;
 use saved_state::state::set_bit;
 use whole::trunc_count;
 ghost use mathlib.Core.Path.{_≡_};
-ghost use mathlib.Core.Bool.{false, cond};
+ghost use mathlib.Core.Bool.{cond};
 ghost use mathlib.Core.Option.{Option·getD};
 ghost use Prim.Native.Nat.{ℕ, _+_, _<_, _≤_, min, max};
 ghost use lib.ListN.{length, set, getD};
@@ -40,9 +35,11 @@ ghost use Rattle.whole.specs.Whole.{truncCount};
 ghost use Rattle.layout.specs.Layout.{axisCodes, rowWords, wMotion, wPlane, wWarned, wStart, stateWords, mostHeld, mostDegree, cSD};
 ghost use Rattle.rows.specs.Row.{number};
 ghost use Rattle.saved_state.specs.State.{held, position, withBit};
-ghost use Rattle.push_check.specs.Blocks.{isFull};
+ghost use Rattle.saved_state.specs.Axes.{geometricMask};
 ghost use Rattle.push_check.specs.BlockLaws.{Block};
-ghost use Rattle.push_state.specs.Pushed.{forgotten, opened, degreeWith, buffered, pushState, pushStore, trackTo};
+ghost use Rattle.push_check.specs.Resolved.{resolved};
+ghost use Rattle.push_state.specs.Pushed.{forgotten, opened, degreeWith, buffered, pushState, trackTo};
+ghost use Rattle.push_state.specs.Stored.{Stores, storeWith};
 
 fn zero_start(state: &mut [u64])
     requires { ⌜ length (now state) ≡ stateWords ⌝ }
@@ -169,12 +166,12 @@ fn warn_if(state: &mut [u64], word: u64, new: bool)
     }
 }
 
-// The geometric axes take their cells that are there.
-fn track(state: &mut [u64], row: &[u64])
-    requires { ⌜ Block (now state) (now row) ⌝ }
+// The axes of a mask, which are the geometric ones, take their cells that are there.
+fn track(state: &mut [u64], row: &[u64], axes: u64)
+    requires { ⌜ (Block (now state) (now row)) × (axes ≡ geometricMask (now state)) ⌝ }
     ensures { λ _. ⌜ now (state .exit) ≡ trackTo axisCodes (now (state .entry)) (now (row .entry)) ⌝ }
 {
-    let mut rest = row[R_PRESENT] & geometric_mask(state);
+    let mut rest = row[R_PRESENT] & axes;
     while rest != 0 {
         let k = lowest_bit(rest);
         place(state, k, row[R_CELLS + k]);
@@ -191,28 +188,26 @@ fn set_modal(state: &mut [u64], motion: u64, plane: u64)
 }
 
 // The state after the block.
-pub fn push_state(state: &mut [u64], row: &[u64])
-    requires { ⌜ (Block (now state) (now row)) × (held (now state) ≤ mostHeld) ⌝ }
+pub fn push_state(state: &mut [u64], row: &[u64], b: Resolved)
+    requires { ⌜ (Block (now state) (now row)) × ((b ≡ resolved (now state) (now row)) × (held (now state) ≤ mostHeld)) ⌝ }
     ensures { λ _. ⌜ now (state .exit) ≡ pushState (now (state .entry)) (now (row .entry)) ⌝ }
 {
-    let motion = motion_then(state, row);
-    let plane = plane_then(state, row);
-    let new = is_news(state, row);
-    let emitted = emits(state, row);
-    forget_if(state, emitted);
-    set_modal(state, motion, plane);
-    buffer_if(state, row, is_spline(motion));
-    warn_if(state, row[R_MOTION], new);
-    track(state, row);
+    let kind = b.kind;
+    forget_if(state, b.emits);
+    set_modal(state, b.motion, b.plane);
+    buffer_if(state, row, is_spline(kind));
+    warn_if(state, row[R_MOTION], b.news);
+    track(state, row, b.axes);
 }
 
 // The store after the block.
-pub fn push_store(state: &[u64], store: &mut [u64], row: &[u64])
-    requires { ⌜ (Block (now state) (now row)) × (isFull (now state) (now store) (now row) ≡ false) ⌝ }
-    ensures { λ _. ⌜ now (store .exit) ≡ pushStore (now (state .entry)) (now (store .entry)) (now (row .entry)) ⌝ }
+pub fn push_store(store: &mut [u64], row: &[u64], b: Resolved)
+    requires { ⌜ Stores b (now store) (now row) ⌝ }
+    ensures { λ _. ⌜ now (store .exit) ≡ storeWith b (now (store .entry)) (now (row .entry)) ⌝ }
 {
-    if is_spline(motion_then(state, row)) {
-        let at = kept(state, row) as usize * ROW_WORDS;
+    let kind = b.kind;
+    if is_spline(kind) {
+        let at = b.kept as usize * ROW_WORDS;
         put_row(store, at, row);
     }
 }

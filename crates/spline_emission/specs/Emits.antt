@@ -32,7 +32,7 @@ use Rattle.spline_points.specs.Flat.{Sized, sized-cons, flat-row, flatten-appen
 use Rattle.spline_points.specs.Channels.{Once, Good, channels-good, channels-few, geometric-few, once-distinct, distinct-keep, none-good}
 use Rattle.spline_points.specs.Curve.{Codes, PointsAre, points-sized, points-length}
 use Rattle.spline_points.specs.Keeps.{keep-upto-most, keep-most, member-at}
-use Rattle.spline_places.specs.declared.layout.Layout.{Layout}
+use Rattle.spline_places.specs.declared.frame.Frame.{Frame}
 use Rattle.spline_places.specs.declared.place.Place.{Place}
 use Rattle.spline_places.specs.Groups.{placeOf, isBasis}
 use Rattle.spline_places.specs.Sizes.{Few, placeTo, place-few, place-points}
@@ -82,7 +82,7 @@ pub record Curved (n ch : ℕ) (ms : List ℕ) (pts ws : List Float) : Type 0 wh
 abbrev pub placesOf : List ℕ → List ℕ
 placesOf chans = filled (λ (k : ℕ). placeOf k chans) 10 (replicate 10 0)
 
-abbrev pub layoutOf : List ℕ → List ℕ → Bool → ℕ → Layout
+abbrev pub layoutOf : List ℕ → List ℕ → Bool → ℕ → Frame
 layoutOf axes chans basis points = record {
   axes = maskSum (λ (k : ℕ). member k axes) 10;
   mask = maskSum (λ (k : ℕ). member k chans) 10;
@@ -299,7 +299,7 @@ mask-codes cs h k = ⊎-elim
 
 module _ (s : Spline) (axes chans : List ℕ) (basis : Bool) (points : ℕ)
     (ea : s .axes ≡ geometricOf axes) (ec : chans ≡ channels s) (below : (k : ℕ) → member k (channels s) ≡ true → k < 10) where
-  laid : Layout
+  laid : Frame
   laid = layoutOf axes chans basis points
 
   mask-small : laid .mask < 1024
@@ -372,7 +372,7 @@ module _ (motion degree : ℕ) (tol : Float) (axes : List ℕ) (start : ℕ) (wo
   unfolding splineGroups
   counted-is counts total k ej ep =
       let s : Spline = splineOf motion degree tol axes start words store held in
-      let o : Layout = layoutOf axes (channels s) (eqb motion 6) (length (runsOf s)) in
+      let o : Frame = layoutOf axes (channels s) (eqb motion 6) (length (runsOf s)) in
       let lies : Lies s (runsOf s) o (placesOf (channels s)) counts = laid-lies s axes (channels s) (eqb motion 6) (length (runsOf s)) refl refl chans-below counts refl refl ej in
       record {
         known = k;
@@ -407,7 +407,7 @@ spliced-over l a b h =
     ap (λ (x : List ℕ). b ++ x)
     (ap (λ (k : ℕ). drop k (a ++ drop (0 + length a) l)) e ∙ drop-append-add a (drop (0 + length a) l) d ∙ ap (λ (k : ℕ). drop d (drop k l)) z ∙ drop-drop d (length a) l ∙ ap (λ (k : ℕ). drop k l) (sym e))
 
-words-long : (o : Layout) (gs places counts : List ℕ) (f : ℕ → List ℕ) (l : List ℕ) (i : ℕ) → length (flatten (upto (heldWords o gs places counts f l) i)) ≡ placeTo gs counts f i .rows * 29
+words-long : (o : Frame) (gs places counts : List ℕ) (f : ℕ → List ℕ) (l : List ℕ) (i : ℕ) → length (flatten (upto (heldWords o gs places counts f l) i)) ≡ placeTo gs counts f i .rows * 29
 unfolding upto flatten placeTo heldWords rawHeld
 words-long o gs places counts f l zero = refl
 words-long o gs places counts f l (suc i) =
@@ -450,7 +450,7 @@ module _ (motion degree : ℕ) (tol : Float) (axes : List ℕ) (start : ℕ) (wo
     unfolding splineGroups heldWords
     emitted-is rows rows1 rows2 e1 e2 =
         let s : Spline = splineOf motion degree tol axes start words store held in
-        let o : Layout = layoutOf axes chans (eqb motion 6) points in
+        let o : Frame = layoutOf axes chans (eqb motion 6) points in
         let W : List ℕ = flatten (upto (heldWords o (geometricOf axes) (placesOf chans) counts (blockAt store) rows1) held) in
         let lies : Lies s (runsOf s) o (placesOf chans) counts = laid-lies s axes chans (eqb motion 6) points refl ec (chans-below motion degree tol axes start words store held h) counts refl ep (c .counted) in
         let raw : (q : ℕ) → q < length (flatten (runsOf s)) → rawAt (o .ch) rows1 q ≡ map bits (getD (flatten (runsOf s)) q []) =

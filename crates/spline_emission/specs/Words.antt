@@ -20,7 +20,7 @@ use Rattle.rows.specs.RowLaws.{made-same}
 use Rattle.rows.specs.Masks.{member-small}
 use Rattle.spline_points.specs.Flat.{Sized, flatten-append}
 use Rattle.spline_points.specs.Points.{Spline, channels}
-use Rattle.spline_places.specs.declared.layout.Layout.{Layout}
+use Rattle.spline_places.specs.declared.frame.Frame.{Frame}
 use Rattle.spline_places.specs.declared.place.Place.{Place}
 use Rattle.spline_places.specs.Groups.{isBasis, placeOf, sampleCell, ownCell, isMarked, pointGroup, heldGroup}
 use Rattle.spline_places.specs.Sizes.{sizeOf, moved, placeTo, place-next, place-points}
@@ -78,7 +78,7 @@ place-below k (c ∷ cs) m = one (eqb c k) m (place-below k cs)
     one false e h = omega (arith, h e)
 
 -- ---- the masks, places and counts are the spline's
-pub record Lies (s : Spline) (runs : List (List (List Float))) (o : Layout) (places counts : List ℕ) : Type 0 where
+pub record Lies (s : Spline) (runs : List (List (List Float))) (o : Frame) (places counts : List ℕ) : Type 0 where
   pub small : o .axes < 1024
   pub axes : (k : ℕ) → has (o .axes) k ≡ member k (s .axes)
   pub mask : (k : ℕ) → has (o .mask) k ≡ member k (channels s)
@@ -87,7 +87,7 @@ pub record Lies (s : Spline) (runs : List (List (List Float))) (o : Layout) (pla
   pub points : o .points ≡ length runs
   pub counted : (j : ℕ) → j < length runs → getD counts j 0 ≡ length (getD runs j [])
 
-module _ (s : Spline) (runs : List (List (List Float))) (o : Layout) (places counts : List ℕ) (h : Lies s runs o places counts) where
+module _ (s : Spline) (runs : List (List (List Float))) (o : Frame) (places counts : List ℕ) (h : Lies s runs o places counts) where
   same-axes : (k : ℕ) → member k (s .axes) ≡ member k (axesOf (o .axes))
   same-axes k = sym (member-small (o .axes) k (h .small) ∙ h .axes k)
 
@@ -151,7 +151,7 @@ module _ (gs counts : List ℕ) (f : ℕ → List ℕ) (runs : List (List (List 
   place-sum n em (suc i) h = moved-sum (hasPoint gs (f i)) (placeTo gs counts f i) (λ e. point-known gs counts f n (length runs) i h e em) (place-sum n em i (omega arith))
 
 -- ---- of the held blocks f 0, f 1, ..
-module _ (s : Spline) (runs : List (List (List Float))) (o : Layout) (places counts : List ℕ) (h : Lies s runs o places counts)
+module _ (s : Spline) (runs : List (List (List Float))) (o : Frame) (places counts : List ℕ) (h : Lies s runs o places counts)
     (f : ℕ → List ℕ) (held : ℕ) (blocks : s .blocks ≡ upto f held) (many : length runs ≡ length (keep (hasPoint (s .axes)) (upto f held)))
     (wide : Sized (length (channels s)) (flatten runs)) (raw : ℕ → List ℕ) (is : (q : ℕ) → q < length (flatten runs) → raw q ≡ map bits (getD (flatten runs) q [])) where
   same-block : (i : ℕ) → i < held → (b : Bool) → hasPoint (s .axes) (f i) ≡ b → (j : ℕ) → j ≡ placeTo (s .axes) counts f i .points

@@ -8,9 +8,9 @@ use curve_walk::Shape;
 use layout::AXIS_CODES;
 use layout::MOST_POINTS;
 use layout::ROW_WORDS;
-use spline_places::layout::Layout;
-use spline_places::layout::mask_of;
-use spline_places::layout::places_of;
+use spline_places::frame::Frame;
+use spline_places::frame::mask_of;
+use spline_places::frame::places_of;
 use spline_places::place::Place;
 use spline_places::place::total;
 use spline_points::channels::channels_of;
@@ -212,7 +212,7 @@ fn spread_curve(
 {
     let mut places = [0usize; AXIS_CODES];
     places_of(chans, &mut places);
-    let layout = Layout {
+    let layout = Frame {
         axes: mask_of(axes),
         mask: mask_of(chans),
         ch: chans.len(),

@@ -19,14 +19,14 @@ use Rattle.rows.specs.Row.{has, presentOf, cell, shown, axesOf, hasPoint, outRo
 use Rattle.rows.specs.RowLaws.{made-same, length-made, length-out}
 use Rattle.rows.specs.Masks.{maskSum, has-mask, mask-lt, has-past, has-none}
 use Rattle.spline_points.specs.Flat.{Sized, sized-append, length-flatten}
-use Rattle.spline_places.specs.declared.layout.Layout.{Layout}
+use Rattle.spline_places.specs.declared.frame.Frame.{Frame}
 use Rattle.spline_places.specs.declared.place.Place.{Place}
 use Rattle.spline_places.specs.Sizes.{sizeOf, moved, unmoved, back, Behind, placeTo, place-next, place-known, size-most}
 use Rattle.spline_places.specs.Raw.{rawCell, rawOwn, rawWord, rawMark, rawMotion, rawAt, rawRow, bareRow, rawGroup, rawBlock, rawHeld}
 use Rattle.spline_places.specs.Splices.{spliced-before, part-spliced}
 
 -- masks and places that fit each other
-pub record Sound (o : Layout) (places : List ℕ) : Type 0 where
+pub record Sound (o : Frame) (places : List ℕ) : Type 0 where
   pub axes : o .axes < 1024
   pub mask : o .mask < 1024
   pub wide : 10 ≤ length places
@@ -39,14 +39,14 @@ pub record Sample (xs : List ℕ) (from mask : ℕ) (places : List ℕ) : Type 0
   pub inside : (k : ℕ) → has mask k ≡ true → from + getD places k 0 < length xs
 
 -- a block with c samples, its rows and samples from p on
-pub record Puts (o : Layout) (places : List ℕ) (p : Place) (c : ℕ) (row xs : List ℕ) : Type 0 where
+pub record Puts (o : Frame) (places : List ℕ) (p : Place) (c : ℕ) (row xs : List ℕ) : Type 0 where
   pub sound : Sound o places
   pub long : length row ≡ 29
   pub few : p .points < 256
   pub behind : p .samples ≤ p .rows
   pub room : (p .rows + sizeOf c) * 29 ≤ length xs
 
-pub record OwnMask (o : Layout) (row : List ℕ) (m : ℕ) : Type 0 where
+pub record OwnMask (o : Frame) (row : List ℕ) (m : ℕ) : Type 0 where
   pub small : m < 1024
   pub is : (k : ℕ) → k < 10 → has m k ≡ ((has (o .axes) k && has (presentOf row) k) && not (o .basis))
 
@@ -56,7 +56,7 @@ raw-before s w ch h l =
     let m : (s + 1) * ch ≤ (w + 1) * 29 = mul-le-mul {n₁ = s + 1} {m₁ = ch} {n₂ = w + 1} {m₂ = 29} (omega arith) (omega arith) in
     omega arith
 
-module _ {o : Layout} {places : List ℕ} {p : Place} {c : ℕ} {row xs : List ℕ} (h : Puts o places p c row xs) (t : ℕ) (l : t < c) where
+module _ {o : Frame} {places : List ℕ} {p : Place} {c : ℕ} {row xs : List ℕ} (h : Puts o places p c row xs) (t : ℕ) (l : t < c) where
   pub sample-rows : (p .rows + t) * 29 + 29 ≤ length xs
   sample-rows = omega (arith, h .room, size-most c .0)
 
@@ -85,14 +85,14 @@ sample-cells mask ch from places xs small inside k = one (has mask k) refl
         ∙ sym (getD-take ch (drop from xs) (getD places k 0) 0 (inside k e) ∙ getD-drop from xs (getD places k 0) 0))
 
 -- ---- the bare row's cells
-pub own-none : (o : Layout) (row : List ℕ) → o .basis ≡ true → OwnMask o row 0
+pub own-none : (o : Frame) (row : List ℕ) → o .basis ≡ true → OwnMask o row 0
 own-none o row e = record { small = omega arith; is = λ k h. has-none k ∙ rw e (sym (and-none (has (o .axes) k && has (presentOf row) k))) }
   where
     and-none : (a : Bool) → (a && false) ≡ false
     and-none true = refl
     and-none false = refl
 
-pub own-both : (o : Layout) (row : List ℕ) (m : ℕ) → o .basis ≡ false → m ≡ maskSum (λ (k : ℕ). has (o .axes) k && has (presentOf row) k) 10 → OwnMask o row m
+pub own-both : (o : Frame) (row : List ℕ) (m : ℕ) → o .basis ≡ false → m ≡ maskSum (λ (k : ℕ). has (o .axes) k && has (presentOf row) k) 10 → OwnMask o row m
 own-both o row m e q = record {
   small = rw q (mask-lt (λ (k : ℕ). has (o .axes) k && has (presentOf row) k) 10);
   is = λ k h. rw (q, e) (has-mask (λ (k : ℕ). has (o .axes) k && has (presentOf row) k) 10 k h ∙ sym (and-all (has (o .axes) k && has (presentOf row) k)));
@@ -102,7 +102,7 @@ own-both o row m e q = record {
     and-all true = refl
     and-all false = refl
 
-pub own-cells : (o : Layout) (row : List ℕ) (m : ℕ) → o .axes < 1024 → OwnMask o row m → (k : ℕ) → shown m (drop 6 row) k ≡ rawOwn o row k
+pub own-cells : (o : Frame) (row : List ℕ) (m : ℕ) → o .axes < 1024 → OwnMask o row m → (k : ℕ) → shown m (drop 6 row) k ≡ rawOwn o row k
 unfolding shown rawOwn cell
 own-cells o row m small q k = ⊎-elim (λ (l : k < 10). low l) (λ (g : 10 ≤ k). high g) (lt-or-le k 10)
   where
@@ -120,7 +120,7 @@ own-cells o row m small q k = ⊎-elim (λ (l : k < 10). low l) (λ (g : 10 ≤ 
     high g = rw (has-past m 10 k (q .small) g, has-past (o .axes) 10 k small g)
 
 -- ---- rows that equal the definition's
-pub sample-row : (o : Layout) (places : List ℕ) (j c : ℕ) (row xs : List ℕ) (s t motion : ℕ) (marked : Bool) → Sound o places → motion ≡ rawMotion j → marked ≡ rawMark o j c t
+pub sample-row : (o : Frame) (places : List ℕ) (j c : ℕ) (row xs : List ℕ) (s t motion : ℕ) (marked : Bool) → Sound o places → motion ≡ rawMotion j → marked ≡ rawMark o j c t
     → madeRow (axesOf (o .axes)) row (eqb t 0) motion marked (shown (o .mask) (filled (rawWord (o .mask) places xs ((s + t) * o .ch)) 10 (replicate 10 0)))
     ≡ rawRow o places j c row (λ (u : ℕ). rawAt (o .ch) xs (s + u)) t
 unfolding rawRow rawAt
@@ -128,17 +128,17 @@ sample-row o places j c row xs s t motion marked h em ek = rw (em, ek)
     (made-same (axesOf (o .axes)) (axesOf (o .axes)) row (eqb t 0) (rawMotion j) (rawMark o j c t) _ _ (λ k l. refl)
     (λ k l. sample-cells (o .mask) (o .ch) ((s + t) * o .ch) places xs (h .mask) (h .inside) k))
 
-pub bare-row : (o : Layout) (j : ℕ) (row words : List ℕ) (m motion : ℕ) → o .axes < 1024 → OwnMask o row m → motion ≡ rawMotion j → words ≡ drop 6 row
+pub bare-row : (o : Frame) (j : ℕ) (row words : List ℕ) (m motion : ℕ) → o .axes < 1024 → OwnMask o row m → motion ≡ rawMotion j → words ≡ drop 6 row
     → madeRow (axesOf (o .axes)) row true motion false (shown m words) ≡ bareRow o j row
 unfolding bareRow
 bare-row o j row words m motion small q em ew = rw (em, ew)
     (made-same (axesOf (o .axes)) (axesOf (o .axes)) row true (rawMotion j) false _ _ (λ k l. refl) (λ k l. own-cells o row m small q k))
 
-pub raw-length : (o : Layout) (places : List ℕ) (j c : ℕ) (row : List ℕ) (raw : ℕ → List ℕ) (t : ℕ) → length (rawRow o places j c row raw t) ≡ 29
+pub raw-length : (o : Frame) (places : List ℕ) (j c : ℕ) (row : List ℕ) (raw : ℕ → List ℕ) (t : ℕ) → length (rawRow o places j c row raw t) ≡ 29
 unfolding rawRow
 raw-length o places j c row raw t = length-made (axesOf (o .axes)) row (eqb t 0) (rawMotion j) (rawMark o j c t) (rawCell (o .mask) places (raw t))
 
-pub bare-length : (o : Layout) (j : ℕ) (row : List ℕ) → length (bareRow o j row) ≡ 29
+pub bare-length : (o : Frame) (j : ℕ) (row : List ℕ) → length (bareRow o j row) ≡ 29
 unfolding bareRow
 bare-length o j row = length-made (axesOf (o .axes)) row true (rawMotion j) false (rawOwn o row)
 
@@ -172,12 +172,12 @@ unfolding rawAt
 backward-raw f c t b l xs ch q r h g = rw (r .is) (part-spliced l b (q * ch) ch (flatten (drop t (upto f c))) h g)
 
 -- a row goes by its own sample alone
-pub raw-same : (o : Layout) (places : List ℕ) (j c : ℕ) (row : List ℕ) (raw raw′ : ℕ → List ℕ) (t : ℕ) → raw t ≡ raw′ t → rawRow o places j c row raw t ≡ rawRow o places j c row raw′ t
+pub raw-same : (o : Frame) (places : List ℕ) (j c : ℕ) (row : List ℕ) (raw raw′ : ℕ → List ℕ) (t : ℕ) → raw t ≡ raw′ t → rawRow o places j c row raw t ≡ rawRow o places j c row raw′ t
 unfolding rawRow
 raw-same o places j c row raw raw′ t e = rw e
 
 -- one row of a run
-module _ (o : Layout) (places : List ℕ) (p : Place) (c : ℕ) (row l : List ℕ) (h : Puts o places p c row l) where
+module _ (o : Frame) (places : List ℕ) (p : Place) (c : ℕ) (row l : List ℕ) (h : Puts o places p c row l) where
   pub run-step : (t : ℕ) (xs ys : List ℕ) → t < c → Backward (rawRow o places (p .points) c row (λ (u : ℕ). rawAt (o .ch) l (p .samples + u))) c (t + 1) ((p .rows + (t + 1)) * 29) l xs
       → length ys ≡ length xs → ys ≡ spliced xs ((p .rows + t) * 29) (rawRow o places (p .points) c row (λ (u : ℕ). rawAt (o .ch) xs (p .samples + u)) t)
       → Backward (rawRow o places (p .points) c row (λ (u : ℕ). rawAt (o .ch) l (p .samples + u))) c t ((p .rows + t) * 29) l ys
@@ -203,7 +203,7 @@ module _ (o : Layout) (places : List ℕ) (p : Place) (c : ℕ) (row l : List �
       → xs ≡ spliced l (p .rows * 29) (flatten (upto (rawRow o places (p .points) c row (λ (u : ℕ). rawAt (o .ch) l (p .samples + u))) c))
   run-end t xs z r = let e : p .rows + 0 ≡ p .rows = omega arith in r .is ∙ rw (z, e)
 
-pub puts-same : (o : Layout) (places : List ℕ) (p : Place) (c : ℕ) (row xs ys : List ℕ) → length ys ≡ length xs → Puts o places p c row xs → Puts o places p c row ys
+pub puts-same : (o : Frame) (places : List ℕ) (p : Place) (c : ℕ) (row xs ys : List ℕ) → length ys ≡ length xs → Puts o places p c row xs → Puts o places p c row ys
 puts-same o places p c row xs ys e h = record { sound = h .sound; long = h .long; few = h .few; behind = h .behind; room = rw e (h .room) }
 
 -- ---- a block: how many rows it has, and what it goes by
@@ -229,25 +229,25 @@ one-long : (r : List ℕ) (n : ℕ) → length r ≡ n → length (flatten (r �
 unfolding flatten
 one-long r n e = ap length (append-nil r) ∙ e
 
-group-long : (o : Layout) (places : List ℕ) (j c : ℕ) (r : List ℕ) (raw : ℕ → List ℕ) (b : Bool) → eqb c 0 ≡ b
+group-long : (o : Frame) (places : List ℕ) (j c : ℕ) (r : List ℕ) (raw : ℕ → List ℕ) (b : Bool) → eqb c 0 ≡ b
     → length (flatten (cond b (bareRow o j r ∷ []) (upto (rawRow o places j c r raw) c))) ≡ cond b 1 c * 29
 group-long o places j c r raw true e = one-long (bareRow o j r) 29 (bare-length o j r)
 group-long o places j c r raw false e =
     length-flatten 29 (upto (rawRow o places j c r raw) c) (sized-upto (rawRow o places j c r raw) 29 (raw-length o places j c r raw) c) ∙ ap (λ (k : ℕ). k * 29) (length-upto (rawRow o places j c r raw) c)
 
-pub block-long : (o : Layout) (places : List ℕ) (point : Bool) (counts : List ℕ) (j : ℕ) (r : List ℕ) (raw : ℕ → List ℕ)
+pub block-long : (o : Frame) (places : List ℕ) (point : Bool) (counts : List ℕ) (j : ℕ) (r : List ℕ) (raw : ℕ → List ℕ)
     → length (flatten (rawBlock o places point j (getD counts j 0) r raw)) ≡ sizeOf (samplesOf point counts j) * 29
 unfolding rawBlock rawGroup sizeOf samplesOf
 block-long o places false counts j r raw = one-long (outRow r) 29 (length-out r)
 block-long o places true counts j r raw = group-long o places j (getD counts j 0) r raw (eqb (getD counts j 0) 0) refl
 
-pub block-count : (o : Layout) (places : List ℕ) (point : Bool) (counts : List ℕ) (j : ℕ) (r : List ℕ) (raw : ℕ → List ℕ)
+pub block-count : (o : Frame) (places : List ℕ) (point : Bool) (counts : List ℕ) (j : ℕ) (r : List ℕ) (raw : ℕ → List ℕ)
     → rawBlock o places point j (samplesOf point counts j) r raw ≡ rawBlock o places point j (getD counts j 0) r raw
 unfolding rawBlock samplesOf
 block-count o places false counts j r raw = refl
 block-count o places true counts j r raw = refl
 
-pub block-same : (o : Layout) (places : List ℕ) (point : Bool) (counts : List ℕ) (j : ℕ) (r : List ℕ) (raw raw′ : ℕ → List ℕ) → ((t : ℕ) → t < samplesOf point counts j → raw t ≡ raw′ t)
+pub block-same : (o : Frame) (places : List ℕ) (point : Bool) (counts : List ℕ) (j : ℕ) (r : List ℕ) (raw raw′ : ℕ → List ℕ) → ((t : ℕ) → t < samplesOf point counts j → raw t ≡ raw′ t)
     → rawBlock o places point j (getD counts j 0) r raw ≡ rawBlock o places point j (getD counts j 0) r raw′
 unfolding rawBlock rawGroup samplesOf
 block-same o places false counts j r raw raw′ h = refl
@@ -256,7 +256,7 @@ block-same o places true counts j r raw raw′ h =
     (upto-below (rawRow o places j (getD counts j 0) r raw) (rawRow o places j (getD counts j 0) r raw′) (getD counts j 0) (λ t l. raw-same o places j (getD counts j 0) r raw raw′ t (h t l)))
 
 -- ---- a held block: what writing it asks, and leaves
-pub record Blocks (o : Layout) (gs places counts row : List ℕ) (place : Place) (xs : List ℕ) : Type 0 where
+pub record Blocks (o : Frame) (gs places counts row : List ℕ) (place : Place) (xs : List ℕ) : Type 0 where
   pub sound : Sound o places
   pub long : length row ≡ 29
   pub before : Behind (hasPoint gs row) counts place
@@ -264,11 +264,11 @@ pub record Blocks (o : Layout) (gs places counts row : List ℕ) (place : Place)
   pub order : before .before .samples ≤ before .before .rows
   pub room : place .rows * 29 ≤ length xs
 
-pub record BlockPut (o : Layout) (gs places counts row : List ℕ) (place : Place) (xs ys : List ℕ) (r : Place) : Type 0 where
+pub record BlockPut (o : Frame) (gs places counts row : List ℕ) (place : Place) (xs ys : List ℕ) (r : Place) : Type 0 where
   pub came : r ≡ unmoved (hasPoint gs row) counts place
   pub rows : ys ≡ spliced xs (r .rows * 29) (flatten (rawBlock o places (hasPoint gs row) (r .points) (getD counts (r .points) 0) row (λ (u : ℕ). rawAt (o .ch) xs (r .samples + u))))
 
-module _ (o : Layout) (gs places counts row : List ℕ) (place : Place) (xs : List ℕ) (b : Blocks o gs places counts row place xs) (point : Bool) (e : point ≡ hasPoint gs row) where
+module _ (o : Frame) (gs places counts row : List ℕ) (place : Place) (xs : List ℕ) (b : Blocks o gs places counts row place xs) (point : Bool) (e : point ≡ hasPoint gs row) where
   pub block-before : Behind point counts place
   block-before = rw e (b .before)
 
@@ -292,7 +292,7 @@ module _ (o : Layout) (gs places counts row : List ℕ) (place : Place) (xs : Li
   }
 
 -- ---- all held blocks
-pub record Spreads (o : Layout) (gs places counts : List ℕ) (f : ℕ → List ℕ) (held : ℕ) (total : Place) (xs : List ℕ) : Type 0 where
+pub record Spreads (o : Frame) (gs places counts : List ℕ) (f : ℕ → List ℕ) (held : ℕ) (total : Place) (xs : List ℕ) : Type 0 where
   pub sound : Sound o places
   pub known : held ≤ length counts
   pub many : held ≤ 256
@@ -319,10 +319,10 @@ place-mono gs counts f (suc n) i h = ⊎-elim
     (eq-or-lt-of-le h)
 
 -- the words of block i, of samples that stand in l
-unfoldable pub heldWords : Layout → List ℕ → List ℕ → List ℕ → (ℕ → List ℕ) → List ℕ → ℕ → List ℕ
+unfoldable pub heldWords : Frame → List ℕ → List ℕ → List ℕ → (ℕ → List ℕ) → List ℕ → ℕ → List ℕ
 heldWords o gs places counts f l i = flatten (rawHeld o places gs counts (rawAt (o .ch) l) f i)
 
-module _ (o : Layout) (gs places counts : List ℕ) (f : ℕ → List ℕ) (held : ℕ) (total : Place) (l : List ℕ) (h : Spreads o gs places counts f held total l) where
+module _ (o : Frame) (gs places counts : List ℕ) (f : ℕ → List ℕ) (held : ℕ) (total : Place) (l : List ℕ) (h : Spreads o gs places counts f held total l) where
   pub held-blocks : (i : ℕ) (row : List ℕ) (place : Place) (xs : List ℕ) → i < held → row ≡ f i → length row ≡ 29 → place ≡ placeTo gs counts f (i + 1) → length xs ≡ length l → Blocks o gs places counts row place xs
   held-blocks i row place xs k er lr ep s = record {
     sound = h .sound;
@@ -389,31 +389,31 @@ pub motion-later : (j : ℕ) → (j ≡ 0 → ⊥) → 0 ≡ rawMotion j
 unfolding rawMotion
 motion-later j e = rw (ne-eqb j 0 e)
 
-pub mark-inner : (o : Layout) (j c t : ℕ) → (t + 1 ≡ c → ⊥) → true ≡ rawMark o j c t
+pub mark-inner : (o : Frame) (j c t : ℕ) → (t + 1 ≡ c → ⊥) → true ≡ rawMark o j c t
 unfolding rawMark
 mark-inner o j c t e = rw (ne-eqb (t + 1) c e)
 
-pub mark-end : (o : Layout) (j c t : ℕ) → t + 1 ≡ c → o .basis ≡ false → false ≡ rawMark o j c t
+pub mark-end : (o : Frame) (j c t : ℕ) → t + 1 ≡ c → o .basis ≡ false → false ≡ rawMark o j c t
 unfolding rawMark
 mark-end o j c t e b = rw (eq-eqb (t + 1) c e, b)
 
-pub mark-basis : (o : Layout) (j c t : ℕ) → t + 1 ≡ c → o .basis ≡ true → not (eqb (j + 1) (o .points)) ≡ rawMark o j c t
+pub mark-basis : (o : Frame) (j c t : ℕ) → t + 1 ≡ c → o .basis ≡ true → not (eqb (j + 1) (o .points)) ≡ rawMark o j c t
 unfolding rawMark
 mark-basis o j c t e b = rw (eq-eqb (t + 1) c e, b)
 
-pub group-bare : (o : Layout) (places : List ℕ) (j c : ℕ) (r : List ℕ) (raw : ℕ → List ℕ) → c ≡ 0 → bareRow o j r ≡ flatten (rawGroup o places j c r raw)
+pub group-bare : (o : Frame) (places : List ℕ) (j c : ℕ) (r : List ℕ) (raw : ℕ → List ℕ) → c ≡ 0 → bareRow o j r ≡ flatten (rawGroup o places j c r raw)
 unfolding rawGroup flatten
 group-bare o places j c r raw e = rw (eq-eqb c 0 e) (sym (append-nil (bareRow o j r)))
 
-pub group-run : (o : Layout) (places : List ℕ) (j c : ℕ) (r : List ℕ) (raw : ℕ → List ℕ) → (c ≡ 0 → ⊥) → flatten (upto (rawRow o places j c r raw) c) ≡ flatten (rawGroup o places j c r raw)
+pub group-run : (o : Frame) (places : List ℕ) (j c : ℕ) (r : List ℕ) (raw : ℕ → List ℕ) → (c ≡ 0 → ⊥) → flatten (upto (rawRow o places j c r raw) c) ≡ flatten (rawGroup o places j c r raw)
 unfolding rawGroup
 group-run o places j c r raw e = rw (ne-eqb c 0 e)
 
-pub block-point : (o : Layout) (places : List ℕ) (point : Bool) (j c : ℕ) (r : List ℕ) (raw : ℕ → List ℕ) → point ≡ true → flatten (rawGroup o places j c r raw) ≡ flatten (rawBlock o places point j c r raw)
+pub block-point : (o : Frame) (places : List ℕ) (point : Bool) (j c : ℕ) (r : List ℕ) (raw : ℕ → List ℕ) → point ≡ true → flatten (rawGroup o places j c r raw) ≡ flatten (rawBlock o places point j c r raw)
 unfolding rawBlock
 block-point o places point j c r raw e = rw e
 
-pub block-out : (o : Layout) (places : List ℕ) (point : Bool) (j c : ℕ) (r : List ℕ) (raw : ℕ → List ℕ) → point ≡ false → outRow r ≡ flatten (rawBlock o places point j c r raw)
+pub block-out : (o : Frame) (places : List ℕ) (point : Bool) (j c : ℕ) (r : List ℕ) (raw : ℕ → List ℕ) → point ≡ false → outRow r ≡ flatten (rawBlock o places point j c r raw)
 unfolding rawBlock flatten
 block-out o places point j c r raw e = rw e (sym (append-nil (outRow r)))
 

@@ -8,7 +8,7 @@ use lib.ListN.{getD, take, drop}
 use Rattle.floats.specs.Lists.{upto}
 use Rattle.motion.specs.Motion.{gOne}
 use Rattle.rows.specs.Row.{has, cell, axesOf, hasPoint, outRow, madeRow}
-use Rattle.spline_places.specs.declared.layout.Layout.{Layout}
+use Rattle.spline_places.specs.declared.frame.Frame.{Frame}
 use Rattle.spline_places.specs.declared.place.Place.{Place}
 use Rattle.spline_places.specs.Sizes.{placeTo}
 
@@ -16,10 +16,10 @@ use Rattle.spline_places.specs.Sizes.{placeTo}
 unfoldable pub rawCell : ℕ → List ℕ → List ℕ → ℕ → Option ℕ
 rawCell mask places ws k = cond (has mask k) (some (getD ws (getD places k 0) 0)) none
 
-unfoldable pub rawOwn : Layout → List ℕ → ℕ → Option ℕ
+unfoldable pub rawOwn : Frame → List ℕ → ℕ → Option ℕ
 rawOwn o r k = cond (has (o .axes) k && not (o .basis)) (cell r k) none
 
-unfoldable pub rawMark : Layout → ℕ → ℕ → ℕ → Bool
+unfoldable pub rawMark : Frame → ℕ → ℕ → ℕ → Bool
 rawMark o j c t = not (eqb (t + 1) c) || (o .basis && not (eqb (j + 1) (o .points)))
 
 unfoldable pub rawMotion : ℕ → ℕ
@@ -29,20 +29,20 @@ rawMotion j = cond (eqb j 0) gOne 0
 unfoldable pub rawAt : ℕ → List ℕ → ℕ → List ℕ
 rawAt ch xs q = take ch (drop (q * ch) xs)
 
-unfoldable pub rawRow : Layout → List ℕ → ℕ → ℕ → List ℕ → (ℕ → List ℕ) → ℕ → List ℕ
+unfoldable pub rawRow : Frame → List ℕ → ℕ → ℕ → List ℕ → (ℕ → List ℕ) → ℕ → List ℕ
 rawRow o places j c r raw t = madeRow (axesOf (o .axes)) r (eqb t 0) (rawMotion j) (rawMark o j c t) (rawCell (o .mask) places (raw t))
 
-unfoldable pub bareRow : Layout → ℕ → List ℕ → List ℕ
+unfoldable pub bareRow : Frame → ℕ → List ℕ → List ℕ
 bareRow o j r = madeRow (axesOf (o .axes)) r true (rawMotion j) false (rawOwn o r)
 
-unfoldable pub rawGroup : Layout → List ℕ → ℕ → ℕ → List ℕ → (ℕ → List ℕ) → List (List ℕ)
+unfoldable pub rawGroup : Frame → List ℕ → ℕ → ℕ → List ℕ → (ℕ → List ℕ) → List (List ℕ)
 rawGroup o places j c r raw = cond (eqb c 0) (bareRow o j r ∷ []) (upto (rawRow o places j c r raw) c)
 
-unfoldable pub rawBlock : Layout → List ℕ → Bool → ℕ → ℕ → List ℕ → (ℕ → List ℕ) → List (List ℕ)
+unfoldable pub rawBlock : Frame → List ℕ → Bool → ℕ → ℕ → List ℕ → (ℕ → List ℕ) → List (List ℕ)
 rawBlock o places point j c r raw = cond point (rawGroup o places j c r raw) (outRow r ∷ [])
 
 -- of block i
-unfoldable pub rawHeld : Layout → List ℕ → List ℕ → List ℕ → (ℕ → List ℕ) → (ℕ → List ℕ) → ℕ → List (List ℕ)
+unfoldable pub rawHeld : Frame → List ℕ → List ℕ → List ℕ → (ℕ → List ℕ) → (ℕ → List ℕ) → ℕ → List (List ℕ)
 rawHeld o places gs counts raw f i =
     let p : Place = placeTo gs counts f i in
     rawBlock o places (hasPoint gs (f i)) (p .points) (getD counts (p .points) 0) (f i) (λ (t : ℕ). raw (p .samples + t))

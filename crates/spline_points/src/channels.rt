@@ -1,6 +1,6 @@
 // The channels of a spline, in order of first programming.
-use layout::R_PRESENT;
 use layout::AXIS_CODES;
+use layout::R_PRESENT;
 use layout::ROW_WORDS;
 use rows::has_bit;
 ghost use mathlib.Core.Path.{_≡_};

@@ -6,8 +6,8 @@ use layout::ROW_WORDS;
 use rows::has_bit;
 use rows::put_made;
 use rows::put_row;
-use spline_places::layout::Layout;
-use spline_places::layout::both_masks;
+use spline_places::frame::Frame;
+use spline_places::frame::both_masks;
 use spline_places::place::Place;
 use spline_places::place::before_block;
 use spline_points::channels::block;
@@ -58,7 +58,7 @@ fn motion_of(j: usize) -> u64
 }
 
 // Whether row t of c of point block j is a generated one.
-fn is_marked(o: Layout, j: usize, c: usize, t: usize) -> bool
+fn is_marked(o: Frame, j: usize, c: usize, t: usize) -> bool
     requires { ⌜ (t < c) × (j < 256) ⌝ }
     ensures { λ r. ⌜ r ≡ rawMark o j c t ⌝ }
 {
@@ -73,7 +73,7 @@ fn is_marked(o: Layout, j: usize, c: usize, t: usize) -> bool
 
 // Writes row t of the block at `place`, of its sample t.
 fn put_sample(
-    o: Layout,
+    o: Frame,
     places: &[usize],
     place: Place,
     c: usize,
@@ -101,7 +101,7 @@ fn put_sample(
 }
 
 // Writes the rows of the c samples of the block at `place`.
-fn put_run(o: Layout, places: &[usize], place: Place, c: usize, row: &[u64], rows: &mut [u64])
+fn put_run(o: Frame, places: &[usize], place: Place, c: usize, row: &[u64], rows: &mut [u64])
     requires { ⌜ Puts o (now places) place c (now row) (now rows) ⌝ }
     ensures { λ _. ⌜ now (rows .exit) ≡ spliced (now (rows .entry)) (place .rows * rowWords) (flatten (upto (rawRow o (now (places .entry)) (place .points) c (now (row .entry)) (λ (u : ℕ). rawAt (o .ch) (now (rows .entry)) (place .samples + u))) c)) ⌝ }
 {
@@ -113,7 +113,7 @@ fn put_run(o: Layout, places: &[usize], place: Place, c: usize, row: &[u64], row
 }
 
 // The mask of the axis cells that a block without samples keeps: its own, and a B-spline's block none.
-fn own_mask(o: Layout, row: &[u64]) -> u64
+fn own_mask(o: Frame, row: &[u64]) -> u64
     requires { ⌜ length (now row) ≡ rowWords ⌝ }
     ensures { λ r. ⌜ OwnMask o (now (row .entry)) r ⌝ }
 {
@@ -124,7 +124,7 @@ fn own_mask(o: Layout, row: &[u64]) -> u64
 }
 
 // Writes the one row of a block without samples.
-fn put_bare(o: Layout, place: Place, row: &[u64], rows: &mut [u64])
+fn put_bare(o: Frame, place: Place, row: &[u64], rows: &mut [u64])
     requires { ⌜ (o .axes < 1024) × (length (now row) ≡ rowWords) ⌝ }
     requires { ⌜ place .rows * rowWords + rowWords ≤ length (now rows) ⌝ }
     ensures { λ _. ⌜ now (rows .exit) ≡ spliced (now (rows .entry)) (place .rows * rowWords) (bareRow o (place .points) (now (row .entry))) ⌝ }
@@ -145,7 +145,7 @@ fn put_bare(o: Layout, place: Place, row: &[u64], rows: &mut [u64])
 }
 
 // Writes the group of a point block with c samples.
-fn put_point(o: Layout, places: &[usize], place: Place, c: usize, row: &[u64], rows: &mut [u64])
+fn put_point(o: Frame, places: &[usize], place: Place, c: usize, row: &[u64], rows: &mut [u64])
     requires { ⌜ Puts o (now places) place c (now row) (now rows) ⌝ }
     ensures { λ _. ⌜ now (rows .exit) ≡ spliced (now (rows .entry)) (place .rows * rowWords) (flatten (rawGroup o (now (places .entry)) (place .points) c (now (row .entry)) (λ (u : ℕ). rawAt (o .ch) (now (rows .entry)) (place .samples + u)))) ⌝ }
 {
@@ -158,7 +158,7 @@ fn put_point(o: Layout, places: &[usize], place: Place, c: usize, row: &[u64], r
 
 // Writes the group of a block.
 fn put_block(
-    o: Layout,
+    o: Frame,
     places: &[usize],
     place: Place,
     c: usize,
@@ -186,7 +186,7 @@ fn samples_of(point: bool, counts: &[usize], j: usize) -> usize
 
 // Writes the group of a block before `place`, and says where it begins.
 fn spread_block(
-    o: Layout,
+    o: Frame,
     axes: &[u64],
     places: &[usize],
     counts: &[usize],
@@ -206,7 +206,7 @@ fn spread_block(
 
 // Writes the groups of all held blocks over the samples, which stand from the first word of `rows` on.
 pub fn spread(
-    o: Layout,
+    o: Frame,
     axes: &[u64],
     places: &[usize],
     counts: &[usize],

@@ -27,7 +27,10 @@ same-length c = search needs
 
 returns : tie.Need-returns
 unfolding untouched
-returns c = answers (close-turned-is _ _ _ (λ e. (c .before .if1 .taken) ((c .before .before .saved-check .ensures) ∙ e))) ((c .plain-reply .ensures) ∙ ap plain (c .before .before .saved-check .ensures)) refl refl refl
+returns c =
+    let b2 = c .before .before in
+    answers (close-turned-is _ _ _ (λ e. (c .before .if1 .taken) ((b2 .saved-check .ensures) ∙ e)))
+    ((c .plain-reply .ensures) ∙ ap plain (b2 .saved-check .ensures)) refl refl refl
 
 slice-read-if2 : tie.Need-slice-read-if2
 slice-read-if2 c = omega (arith, good _ (saved-ok _ _ (sym (c .before .before .saved-check .ensures) ∙ (c .before .if1 .left))) .long)
@@ -40,10 +43,17 @@ same-length-2 c = search needs
 
 returns-2 : tie.Need-returns-2
 unfolding closeState
-returns-2 c = answers (close-none-is _ _ _ (sym (c .before .before .before .before .saved-check .ensures) ∙ (c .before .before .before .if1 .left)) (c .before .if2 .taken)) (c .plain-reply2 .ensures) (sym (cond-t _ _ (eq-eqb _ _ (c .before .if2 .taken)))) refl (no-rows _)
+returns-2 c =
+    let b3 = c .before .before .before in
+    let b4 = b3 .before in
+    answers (close-none-is _ _ _ (sym (b4 .saved-check .ensures) ∙ (b3 .if1 .left)) (c .before .if2 .taken)) (c .plain-reply2 .ensures)
+    (sym (cond-t _ _ (eq-eqb _ _ (c .before .if2 .taken)))) refl (no-rows _)
 
 put-emission-requires : tie.Need-put-emission-requires
-put-emission-requires c κs = ((sym (c .before .before .before .before .before .saved-check .ensures) ∙ (c .before .before .before .before .if1 .left)), omega arith)
+put-emission-requires c κs =
+    let b4 = c .before .before .before .before in
+    let b5 = b4 .before in
+    ((sym (b5 .saved-check .ensures) ∙ (b4 .if1 .left)), omega arith)
 
 too-few-requires : tie.Need-too-few-requires
 too-few-requires c κs = search needs
@@ -56,10 +66,22 @@ same-length-4 c = search needs
 
 returns-3 : tie.Need-returns-3
 unfolding untouched
-returns-3 c = answers (close-few-is _ _ _ (sym (c .before .before .before .before .before .before .before .before .before .before .saved-check .ensures) ∙ (c .before .before .before .before .before .before .before .before .before .if1 .left)) (c .before .before .before .before .before .before .before .if2 .left) (subst (λ (n : ℕ). length ((c .before .before .before .before .before .before .before .before .before .before .before .before .before .before .before .args .rows .now)) / rowWords < n) ((c .before .before .before .before .put-emission .ensures) .count) (room-short _ _ _ _ _ (c .before .before .before .before .put-emission .ensures) (c .before .before .before .before .put-emission .kept .1 .1 .0) _ (let z : (c .before .before .before .before .put-emission .result) ≡ (c .before .before .before .before .put-emission .result) + 0 = omega arith in z) (c .before .if3 .taken)))) ((c .too-few .ensures) ∙ ap tooFew ((c .before .before .before .before .put-emission .ensures) .count)) refl refl (put-refused _ _ _ _ _ (c .before .before .before .before .put-emission .ensures) (c .before .before .before .before .put-emission .kept .1 .1 .0) _ (let z : (c .before .before .before .before .put-emission .result) ≡ (c .before .before .before .before .put-emission .result) + 0 = omega arith in z) (c .before .if3 .taken))
+returns-3 c =
+    let b4 = c .before .before .before .before in
+    let b7 = b4 .before .before .before in
+    let b9 = b7 .before .before in
+    let b10 = b9 .before in
+    let b15 = b10 .before .before .before .before .before in
+    answers
+    (close-few-is _ _ _ (sym (b10 .saved-check .ensures) ∙ (b9 .if1 .left)) (b7 .if2 .left) (subst (λ (n : ℕ). length ((b15 .args .rows .now)) / rowWords < n) ((b4 .put-emission .ensures) .count) (room-short _ _ _ _ _ (b4 .put-emission .ensures) (b4 .put-emission .kept .1 .1 .0) _ (let z : (b4 .put-emission .result) ≡ (b4 .put-emission .result) + 0 = omega arith in z) (c .before .if3 .taken))))
+    ((c .too-few .ensures) ∙ ap tooFew ((b4 .put-emission .ensures) .count)) refl refl
+    (put-refused _ _ _ _ _ (b4 .put-emission .ensures) (b4 .put-emission .kept .1 .1 .0) _ (let z : (b4 .put-emission .result) ≡ (b4 .put-emission .result) + 0 = omega arith in z) (c .before .if3 .taken))
 
 forget-requires : tie.Need-forget-requires
-forget-requires c κs = good _ (saved-ok _ _ (sym (c .before .before .before .before .before .before .before .before .before .before .saved-check .ensures) ∙ (c .before .before .before .before .before .before .before .before .before .if1 .left))) .long
+forget-requires c κs =
+    let b9 = c .before .before .before .before .before .before .before .before .before in
+    let b10 = b9 .before in
+    good _ (saved-ok _ _ (sym (b10 .saved-check .ensures) ∙ (b9 .if1 .left))) .long
 
 done-reply-requires : tie.Need-done-reply-requires
 done-reply-requires c κs = search needs
@@ -72,7 +94,19 @@ same-length-6 c = search needs
 
 returns-4 : tie.Need-returns-4
 unfolding closeState
-returns-4 c = answers (close-done-is _ _ _ (sym (c .before .before .before .before .before .before .before .before .before .before .before .before .before .before .saved-check .ensures) ∙ (c .before .before .before .before .before .before .before .before .before .before .before .before .before .if1 .left)) (c .before .before .before .before .before .before .before .before .before .before .before .if2 .left) (subst (λ (n : ℕ). n ≤ length ((c .before .before .before .before .before .before .before .before .before .before .before .before .before .before .before .before .before .before .before .args .rows .now)) / rowWords) ((c .before .before .before .before .before .before .before .before .put-emission .ensures) .count) (room-left _ _ _ _ _ (c .before .before .before .before .before .before .before .before .put-emission .ensures) (c .before .before .before .before .before .before .before .before .put-emission .kept .1 .1 .0) _ (let z : (c .before .before .before .before .before .before .before .before .put-emission .result) ≡ (c .before .before .before .before .before .before .before .before .put-emission .result) + 0 = omega arith in z) (c .before .before .before .before .before .if3 .left)))) ((c .done-reply .ensures) ∙ ap (λ (n : ℕ). doneReply n 0 0 0) ((c .before .before .before .before .before .before .before .before .put-emission .ensures) .count)) ((c .before .before .before .forget .ensures) ∙ sym (cond-f _ _ (ne-eqb _ _ (c .before .before .before .before .before .before .before .before .before .before .before .if2 .left)))) refl (put-written _ _ _ _ _ (c .before .before .before .before .before .before .before .before .put-emission .ensures) (c .before .before .before .before .before .before .before .before .put-emission .kept .1 .1 .0) _ (let z : (c .before .before .before .before .before .before .before .before .put-emission .result) ≡ (c .before .before .before .before .before .before .before .before .put-emission .result) + 0 = omega arith in z) (c .before .before .before .before .before .if3 .left))
+returns-4 c =
+    let b3 = c .before .before .before in
+    let b5 = b3 .before .before in
+    let b8 = b5 .before .before .before in
+    let b11 = b8 .before .before .before in
+    let b13 = b11 .before .before in
+    let b14 = b13 .before in
+    let b19 = b14 .before .before .before .before .before in
+    answers
+    (close-done-is _ _ _ (sym (b14 .saved-check .ensures) ∙ (b13 .if1 .left)) (b11 .if2 .left) (subst (λ (n : ℕ). n ≤ length ((b19 .args .rows .now)) / rowWords) ((b8 .put-emission .ensures) .count) (room-left _ _ _ _ _ (b8 .put-emission .ensures) (b8 .put-emission .kept .1 .1 .0) _ (let z : (b8 .put-emission .result) ≡ (b8 .put-emission .result) + 0 = omega arith in z) (b5 .if3 .left))))
+    ((c .done-reply .ensures) ∙ ap (λ (n : ℕ). doneReply n 0 0 0) ((b8 .put-emission .ensures) .count))
+    ((b3 .forget .ensures) ∙ sym (cond-f _ _ (ne-eqb _ _ (b11 .if2 .left)))) refl
+    (put-written _ _ _ _ _ (b8 .put-emission .ensures) (b8 .put-emission .kept .1 .1 .0) _ (let z : (b8 .put-emission .result) ≡ (b8 .put-emission .result) + 0 = omega arith in z) (b5 .if3 .left))
 
 pub close-spec : {M : Type 1} → statement M
 close-spec =

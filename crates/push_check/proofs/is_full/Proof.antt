@@ -1,41 +1,24 @@
--- `push_check::is_full` meets its contract. Assumes nothing.
-use mathlib.Core.Path.{sym, ap, ap₂, _∙_}
+use mathlib.Core.Path.{sym, refl, ap₂, _∙_}
 use lib.Dec.{leb}
-use borrow.Author.Tests.{not-true, not-false}
 use Rattle.floats.specs.Truth.{and-t, and-f}
-use Rattle.motion.specs.Motion.{isSpline}
-use Rattle.push_check.specs.Blocks.{isFull}
 use borrow.Author.Needs.{needs}
 use Rattle.push_check.proofs.is_full.Statement.{statement}
 use Rattle.push_check.proofs.is_full.Tie as tie
 
-motion-then-requires : tie.Need-motion-then-requires
-motion-then-requires c κs = search needs
-
 is-spline-requires : tie.Need-is-spline-requires
 is-spline-requires c κs = search needs
-
-returns : tie.Need-returns
-unfolding isFull
-returns c = sym (and-f _ (ap isSpline (sym (c .before .before .motion-then .ensures)) ∙ sym (c .before .is-spline .ensures) ∙ not-true (c .before .is-spline .result) (c .if1 .taken)))
 
 block-room-requires : tie.Need-block-room-requires
 block-room-requires c κs = search needs
 
-kept-requires : tie.Need-kept-requires
-kept-requires c κs = search needs
+returns : tie.Need-returns
+returns c =
+    let b2 = c .before .before in
+    let b3 = b2 .before in
+    ap₂ leb (c .before .block-room .ensures) refl ∙ sym (and-t _ (sym (b3 .is-spline .ensures) ∙ (b2 .if1 .taken)))
 
 returns-2 : tie.Need-returns-2
-unfolding isFull
-returns-2 c = ap₂ leb (c .before .block-room .ensures) (c .kept .ensures) ∙ sym (and-t _ (ap isSpline (sym (c .before .before .before .before .motion-then .ensures)) ∙ sym (c .before .before .before .is-spline .ensures) ∙ not-false (c .before .before .before .is-spline .result) (c .before .before .if1 .left)))
+returns-2 c = sym (and-f _ (sym (c .before .is-spline .ensures) ∙ (c .if1 .left)))
 
 pub is-full-spec : {M : Type 1} → statement M
-is-full-spec =
-    tie.close
-    (tie.spec
-    motion-then-requires
-    is-spline-requires
-    returns
-    block-room-requires
-    kept-requires
-    returns-2)
+is-full-spec = tie.close (tie.spec is-spline-requires block-room-requires returns returns-2)

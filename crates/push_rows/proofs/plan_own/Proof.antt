@@ -1,17 +1,7 @@
--- `push_rows::plan_own` meets its contract. Assumes nothing.
-use mathlib.Core.Path.{sym, ap, _∙_}
-use Rattle.rows.specs.KindCase.{kindCase}
-use Rattle.motion.specs.Motion.{kindOf}
-use Rattle.push_rows.specs.Own.{own-clockwise, own-counter, own-same, own-linear, own-other, own-refused, own-akima, own-basis, own-cubic}
+use Rattle.push_rows.specs.Own.{ready-kind, own-same, own-linear, own-clockwise, own-counter, own-akima, own-basis, own-cubic, own-other, own-refused}
 use borrow.Author.Needs.{needs}
 use Rattle.push_rows.proofs.plan_own.Statement.{statement}
 use Rattle.push_rows.proofs.plan_own.Tie as tie
-
-motion-then-requires : tie.Need-motion-then-requires
-motion-then-requires c κs = (c .before .before .pre) .block
-
-kind-of-requires : tie.Need-kind-of-requires
-kind-of-requires c κs = search needs
 
 enum-told : tie.Need-enum-told
 enum-told c = search needs
@@ -68,38 +58,36 @@ pass-plan-requires-4 : tie.Need-pass-plan-requires-4
 pass-plan-requires-4 c κs = search needs
 
 returns : tie.Need-returns
-returns c = own-same _ _ _ (ap kindOf (sym (c .before .before .before .before .motion-then .ensures)) ∙ sym (c .before .before .before .kind-of .ensures) ∙ ap kindCase ((c .before .enum-told .given) .1)) (c .pass-plan .ensures)
+returns c = own-same _ _ _ (ready-kind (c .before .before .before .before .before .pre) ((c .before .enum-told .given) .1)) (c .pass-plan .ensures)
 
 returns-2 : tie.Need-returns-2
-returns-2 c = own-linear _ _ _ (ap kindOf (sym (c .before .before .before .before .motion-then .ensures)) ∙ sym (c .before .before .before .kind-of .ensures) ∙ ap kindCase ((c .before .enum-told2 .given) .1)) (c .pass-plan2 .ensures)
+returns-2 c = own-linear _ _ _ (ready-kind (c .before .before .before .before .before .pre) ((c .before .enum-told2 .given) .1)) (c .pass-plan2 .ensures)
 
 returns-3 : tie.Need-returns-3
-returns-3 c = own-clockwise _ _ _ (ap kindOf (sym (c .before .before .before .before .motion-then .ensures)) ∙ sym (c .before .before .before .kind-of .ensures) ∙ ap kindCase ((c .before .enum-told3 .given) .1)) (c .plan-turn .ensures)
+returns-3 c = own-clockwise _ _ _ (ready-kind (c .before .before .before .before .before .pre) ((c .before .enum-told3 .given) .1)) (c .plan-turn .ensures)
 
 returns-4 : tie.Need-returns-4
-returns-4 c = own-counter _ _ _ (ap kindOf (sym (c .before .before .before .before .motion-then .ensures)) ∙ sym (c .before .before .before .kind-of .ensures) ∙ ap kindCase ((c .before .enum-told4 .given) .1)) (c .plan-turn2 .ensures)
+returns-4 c = own-counter _ _ _ (ready-kind (c .before .before .before .before .before .pre) ((c .before .enum-told4 .given) .1)) (c .plan-turn2 .ensures)
 
 returns-5 : tie.Need-returns-5
-returns-5 c = own-akima _ _ _ (ap kindOf (sym (c .before .before .before .before .motion-then .ensures)) ∙ sym (c .before .before .before .kind-of .ensures) ∙ ap kindCase ((c .before .enum-told5 .given) .1)) (c .none-plan .ensures)
+returns-5 c = own-akima _ _ _ (ready-kind (c .before .before .before .before .before .pre) ((c .before .enum-told5 .given) .1)) (c .none-plan .ensures)
 
 returns-6 : tie.Need-returns-6
-returns-6 c = own-basis _ _ _ (ap kindOf (sym (c .before .before .before .before .motion-then .ensures)) ∙ sym (c .before .before .before .kind-of .ensures) ∙ ap kindCase ((c .before .enum-told6 .given) .1)) (c .none-plan2 .ensures)
+returns-6 c = own-basis _ _ _ (ready-kind (c .before .before .before .before .before .pre) ((c .before .enum-told6 .given) .1)) (c .none-plan2 .ensures)
 
 returns-7 : tie.Need-returns-7
-returns-7 c = own-cubic _ _ _ (ap kindOf (sym (c .before .before .before .before .motion-then .ensures)) ∙ sym (c .before .before .before .kind-of .ensures) ∙ ap kindCase ((c .before .enum-told7 .given) .1)) (c .none-plan3 .ensures)
+returns-7 c = own-cubic _ _ _ (ready-kind (c .before .before .before .before .before .pre) ((c .before .enum-told7 .given) .1)) (c .none-plan3 .ensures)
 
 returns-8 : tie.Need-returns-8
-returns-8 c = own-other _ _ _ (ap kindOf (sym (c .before .before .before .before .motion-then .ensures)) ∙ sym (c .before .before .before .kind-of .ensures) ∙ ap kindCase ((c .before .enum-told8 .given) .1)) (c .pass-plan3 .ensures)
+returns-8 c = own-other _ _ _ (ready-kind (c .before .before .before .before .before .pre) ((c .before .enum-told8 .given) .1)) (c .pass-plan3 .ensures)
 
 returns-9 : tie.Need-returns-9
-returns-9 c = own-refused _ _ _ (ap kindOf (sym (c .before .before .before .before .motion-then .ensures)) ∙ sym (c .before .before .before .kind-of .ensures) ∙ ap kindCase ((c .before .enum-told9 .given) .1)) (c .pass-plan4 .ensures)
+returns-9 c = own-refused _ _ _ (ready-kind (c .before .before .before .before .before .pre) ((c .before .enum-told9 .given) .1)) (c .pass-plan4 .ensures)
 
 pub plan-own-spec : {M : Type 1} → statement M
 plan-own-spec =
     tie.close
     (tie.spec
-    motion-then-requires
-    kind-of-requires
     enum-told
     pass-plan-requires
     enum-told-2

@@ -1,21 +1,9 @@
--- `push_rows::plan_turn` meets its contract. Assumes nothing.
-use mathlib.Core.Path.{sym, subst}
 use native.Mathlib.Omega.{arith}
-use Prim.Native.Nat.{ℕ, _<_, _^_}
 use lib.ListN.{length-take, length-drop}
-use Rattle.layout.specs.Layout.{axisCodes}
-use Rattle.push_check.specs.BlockLaws.{block-listed}
-use Rattle.saved_state.specs.Axes.{geometric-mask-small}
-use Rattle.push_rows.specs.Own.{place-is, turn-planned}
+use Rattle.push_rows.specs.Own.{place-is, turn-planned, ready-axes, ready-plane, ready-small}
 use borrow.Author.Needs.{needs}
 use Rattle.push_rows.proofs.plan_turn.Statement.{statement}
 use Rattle.push_rows.proofs.plan_turn.Tie as tie
-
-geometric-mask-requires : tie.Need-geometric-mask-requires
-geometric-mask-requires c κs = block-listed ((c .before .before .pre) .block)
-
-plane-then-requires : tie.Need-plane-then-requires
-plane-then-requires c κs = (c .before .before .before .pre) .block
 
 shared-slice-read-of-bits : tie.Need-shared-slice-read-of-bits
 shared-slice-read-of-bits c = search needs
@@ -36,17 +24,18 @@ part-plan-arc-end : tie.Need-part-plan-arc-end
 part-plan-arc-end c = search needs
 
 plan-arc-requires : tie.Need-plan-arc-requires
-plan-arc-requires c κs = record { long = (c .before .before .before .before .before .before .before .before .pre) .block .wide; axes = subst (λ (n : ℕ). n < 2 ^ axisCodes) (sym (c .before .before .before .before .before .geometric-mask .ensures)) (geometric-mask-small _); wide = simp (length-take, length-drop) (omega arith) }
+plan-arc-requires c κs =
+    let b6 = c .before .before .before .before .before .before in
+    record { long = (b6 .pre) .block .wide; axes = ready-small (b6 .pre); wide = simp (length-take, length-drop) (omega arith) }
 
 returns : tie.Need-returns
-returns c = turn-planned _ _ _ _ _ _ _ _ (c .before .before .before .before .before .before .geometric-mask .ensures) (c .before .before .before .before .before .plane-then .ensures) (c .before .before .before .of-bits .ensures) (place-is _ ((c .before .before .before .before .before .before .before .before .before .pre) .known)) (c .plan-arc .ensures)
+returns c = let y = (c .before .before .before .before .before .before .before .pre) in
+    turn-planned _ _ _ _ _ _ _ _ (ready-axes y) (ready-plane y) (c .before .before .before .of-bits .ensures) (place-is _ (y .known)) (c .plan-arc .ensures)
 
 pub plan-turn-spec : {M : Type 1} → statement M
 plan-turn-spec =
     tie.close
     (tie.spec
-    geometric-mask-requires
-    plane-then-requires
     shared-slice-read-of-bits
     of-bits-requires
     shared-slice-read-plan-arc

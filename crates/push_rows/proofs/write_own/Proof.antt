@@ -1,4 +1,4 @@
--- `push_rows::write_own` meets its contract. Assumes nothing.
+use native.Mathlib.Omega.{arith}
 use Rattle.push_rows.proofs.Writing.{unwritten}
 use borrow.Author.Needs.{needs}
 use Rattle.push_rows.proofs.write_own.Statement.{statement}
@@ -14,7 +14,7 @@ returns : tie.Need-returns
 returns c = search needs
 
 returns-2 : tie.Need-returns-2
-returns-2 c = unwritten _ _ _ _ _ (c .if1 .left)
+returns-2 c = unwritten _ _ _ _ _ (omega arith)
 
 pub write-own-spec : {M : Type 1} → statement M
 write-own-spec = tie.close (tie.spec write-some-requires same-length returns returns-2)

@@ -1,4 +1,3 @@
--- `push_rows::write_some` meets its contract. Assumes nothing.
 use native.Mathlib.Omega.{arith}
 use Rattle.push_rows.proofs.Writing.{passed-on}
 use borrow.Author.Needs.{needs}
@@ -9,7 +8,9 @@ enum-told : tie.Need-enum-told
 enum-told c = search needs
 
 put-row-requires : tie.Need-put-row-requires
-put-row-requires c κs = search needs
+put-row-requires c κs =
+    let b6 = c .before .before .before .before .before .before in
+    ((b6 .pre) .0 .ready .block .wide, omega (arith, (b6 .pre) .0 .room))
 
 enum-told-2 : tie.Need-enum-told-2
 enum-told-2 c = search needs

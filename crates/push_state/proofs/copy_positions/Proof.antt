@@ -42,7 +42,14 @@ loop-less : tie.Need-loop-less Inv-loop μ-loop
 loop-less c = search needs
 
 loop-again : tie.Need-loop-again Inv-loop μ-loop
-loop-again c = (omega arith, splicing-more ((c .before .before .before .loop .inv) .1) (omega arith) ((c .known-word .ensures) ∙ ap (λ (o : Option ℕ). Option·getD o 0) (position-under _ _ _ _ (c .before .before .before .loop .k) ((c .before .before .before .loop .inv) .1) (c .before .before .before .before .before .pre) (c .before .before .loop-test .taken))))
+loop-again c =
+    let b2 = c .before .before in
+    let b3 = b2 .before in
+    let b5 = b3 .before .before in (
+      omega arith,
+      splicing-more ((b3 .loop .inv) .1) (omega arith)
+          ((c .known-word .ensures) ∙ ap (λ (o : Option ℕ). Option·getD o 0) (position-under _ _ _ _ (b3 .loop .k) ((b3 .loop .inv) .1) (b5 .pre) (b2 .loop-test .taken))),
+    )
 
 same-length : tie.Need-same-length Inv-loop μ-loop
 same-length c = (c .before .loop .inv) .1 .same

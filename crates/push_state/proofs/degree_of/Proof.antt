@@ -14,13 +14,25 @@ trunc-count-requires : tie.Need-trunc-count-requires
 trunc-count-requires c κs = search needs
 
 returns : tie.Need-returns
-returns c = let e : (c .before .trunc-count .result) ≡ truncCount (num (c .before .before .before .args .x)) = (c .before .trunc-count .ensures) ∙ ap truncCount (c .before .before .of-bits .ensures) in omega arith
+returns c =
+    let b2 = c .before .before in
+    let b3 = b2 .before in
+    let e : (c .before .trunc-count .result) ≡ truncCount (num (b3 .args .x)) = (c .before .trunc-count .ensures)
+    ∙ ap truncCount (b2 .of-bits .ensures) in omega arith
 
 returns-2 : tie.Need-returns-2
-returns-2 c = let e : (c .before .before .trunc-count .result) ≡ truncCount (num (c .before .before .before .before .args .x)) = (c .before .before .trunc-count .ensures) ∙ ap truncCount (c .before .before .before .of-bits .ensures) in omega arith
+returns-2 c =
+    let b2 = c .before .before in
+    let b3 = b2 .before in
+    let b4 = b3 .before in
+    let e : (b2 .trunc-count .result) ≡ truncCount (num (b4 .args .x)) = (b2 .trunc-count .ensures) ∙ ap truncCount (b3 .of-bits .ensures) in omega arith
 
 returns-3 : tie.Need-returns-3
-returns-3 c = let e : (c .before .before .trunc-count .result) ≡ truncCount (num (c .before .before .before .before .args .x)) = (c .before .before .trunc-count .ensures) ∙ ap truncCount (c .before .before .before .of-bits .ensures) in omega arith
+returns-3 c =
+    let b2 = c .before .before in
+    let b3 = b2 .before in
+    let b4 = b3 .before in
+    let e : (b2 .trunc-count .result) ≡ truncCount (num (b4 .args .x)) = (b2 .trunc-count .ensures) ∙ ap truncCount (b3 .of-bits .ensures) in omega arith
 
 pub degree-of-spec : {M : Type 1} → statement M
 degree-of-spec =

@@ -18,7 +18,10 @@ slice-write-state-2 : tie.Need-slice-write-state-2
 slice-write-state-2 c = search needs
 
 same-length : tie.Need-same-length
-same-length c = open-length (c .before .before .before .before .before .before .args .state .now) _ (c .before .before .before .before .before .before .pre) (c .before .before .copy-positions .ensures)
+same-length c =
+    let b2 = c .before .before in
+    let b6 = b2 .before .before .before .before in
+    open-length (b6 .args .state .now) _ (b6 .pre) (b2 .copy-positions .ensures)
 
 returns : tie.Need-returns
 returns c = open-done _ _ (c .before .before .before .before .before .before .pre) (c .before .before .copy-positions .ensures)

@@ -2,7 +2,7 @@ use Rattle.spline_places.specs.Puts.{own-none, own-both}
 use borrow.Author.Needs.{needs}
 use Rattle.spline_rows.proofs.own_mask.Statement.{statement}
 use Rattle.spline_rows.proofs.own_mask.Tie as tie
-use Rattle.spline_places.proofs.layout.both_masks.Reads as both-masks-reads
+use Rattle.spline_places.proofs.frame.both_masks.Reads as both-masks-reads
 
 returns : tie.Need-returns
 returns c = own-none _ _ (c .if1 .taken)
