@@ -1,5 +1,5 @@
 -- LAWS. Turn after turn, what was said is what the definition says to what was read. Assumes nothing.
-use Prim.Native.Nat.{ℕ, _<_}
+use Prim.Native.Nat.{ℕ, _<_, zero-le}
 use mathlib.Core.Logic.{_⊎_, inl, inr, ⊎-elim}
 use mathlib.Core.Path.{_≡_, refl, sym, ap, _∙_, subst}
 use mathlib.Core.Bool.{Bool, true, false}
@@ -157,3 +157,35 @@ first-far s b m e p = subst (λ (x : Reading). Far x b m) (sym e) far
           clear = refl;
           is = λ (later : List ℕ). ap (λ (x : Stand). csvRest x later) (sym (begins m (p .0) (p .1 .0) (p .1 .1)));
         }
+
+-- ---- the loop's invariant
+pub record Stands (s : Reading) (turns : ℕ) (b : List ℕ) (m : Slices) : Type 0 where
+  pub within : Within s
+  pub going : 0 < turns → s .over ≡ goesOn
+  pub far : s .over ≡ goesOn → Far s b m
+  pub all : s .over ≡ ended → All s m
+
+pub first-stands : (s : Reading) (turns : ℕ) (b : List ℕ) (m : Slices) → s ≡ firstReading
+    → (m .state ≡ begun .state) × ((m .store ≡ begun .store) × (m .rows ≡ begun .rows)) → Stands s turns b m
+first-stands s turns b m e p =
+    let over : s .over ≡ goesOn = ap (λ (x : Reading). x .over) e in
+    record {
+      within = subst Within (sym e) within;
+      going = λ (h : 0 < turns). over;
+      far = λ (h : s .over ≡ goesOn). first-far s b m e p;
+      all = λ (h : s .over ≡ ended). absurd (omega arith);
+    }
+  where
+    within : Within firstReading
+    within = record { window = zero-le; inside = zero-le; outs = zero-le; errs = zero-le; clear = λ (h : firstReading .over ≡ goesOn). refl }
+
+pub stands-on : (s : Reading) (turns : ℕ) (b : List ℕ) (m : Slices) (r : Reading) (left : ℕ) (b′ : List ℕ) (m′ : Slices) → Stands s turns b m
+    → 0 < turns → TurnIs s b m r b′ m′ → (r .over ≡ goesOn) ⊎ (left ≡ 0) → Stands r left b′ m′
+stands-on s turns b m r left b′ m′ w h t o =
+    let far = w .far (w .going h) in
+    record {
+      within = t .within;
+      going = λ (l : 0 < left). ⊎-elim (λ (e : r .over ≡ goesOn). e) (λ (e : left ≡ 0). absurd (omega arith)) o;
+      far = turn-far s b m r b′ m′ far t;
+      all = turn-all s b m r b′ m′ far t;
+    }

@@ -61,6 +61,10 @@ done-by {f} {t} {run} {then} {b} {m} {m′} {r} over e d =
 pub nothing-done : (run : Run) (m : Slices) → Stepped (still (standing run m)) run m run m
 nothing-done run m = record { stand = refl; out = adds-none (m .out) (run .out); err = adds-none (m .err) (run .err) }
 
+-- a buffer that no line fits in is done as the end is
+pub full-done : {t : Turn} {run : Run} {b : List ℕ} {m m′ : Slices} {r : Reading} → Done Found.Ended t run b m r m′ → Done Found.Full t run b m r m′
+full-done d = record { from = d .from; upto = d .upto; deed = d .deed }
+
 pub done-as : {f g : Found} {t : Turn} {run : Run} {b : List ℕ} {m m′ : Slices} {r : Reading} → g ≡ f → Done f t run b m r m′ → Done g t run b m r m′
 done-as {f} {g} {t} {run} {b} {m} {m′} {r} e d = subst (λ (x : Found). Done x t run b m r m′) (sym e) d
 
@@ -163,3 +167,23 @@ module _ (s : Reading) (b : List ℕ) (m : Slices) (left : Left) (t : Turn) (b�
             };
         deed = deed-of (t .found) (turned .told) (done .deed);
       }
+
+-- ---- what waited could not be written
+pub failed-turn : (s : Reading) (b : List ℕ) (m : Slices) (left : Left) → Within s → Emptied (s .run) (m .out) (m .err) left
+    → (left .over ≡ goesOn → ⊥) → TurnIs s b m (record { at = s .at; end = s .end; run = left .run; over = left .over }) b m
+failed-turn s b m left w f h =
+    let n : ended < left .over = over-failed (left .over) h (f .going) in
+    record {
+      within =
+          record {
+            window = w .window;
+            inside = w .inside;
+            outs = omega (arith, f .outs);
+            errs = omega (arith, f .errs);
+            clear = λ (e : left .over ≡ goesOn). absurd (h e);
+          };
+      deed = inr (inr n);
+    }
+  where
+    over-failed : (n : ℕ) → (n ≡ goesOn → ⊥) → (n ≡ ended → ⊥) → ended < n
+    over-failed n a c = omega arith

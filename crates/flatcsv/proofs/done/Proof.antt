@@ -1,3 +1,7 @@
+use mathlib.Core.Path.{refl}
+use native.Mathlib.Omega.{arith}
+use Rattle.flatcsv.specs.TurnLaws.{done-by, done-as, full-done, nothing-done}
+
 use borrow.Author.Needs.{needs}
 use Rattle.flatcsv.proofs.done.Statement.{statement}
 use Rattle.flatcsv.proofs.done.Tie as tie
@@ -69,11 +73,11 @@ same-length-5 c = search needs
 
 -- src/main.rt:116:1
 returns : tie.Need-returns
-returns c = ?
+returns c = done-as (c .before .before .before .before .before .before .before .before .before .before .before .before .before .before .before .before .enum-told .given .1) (c .before .before .before .before .before .before .before .before .before .before .take-line .ensures)
 
 -- src/main.rt:116:1
 returns-2 : tie.Need-returns-2
-returns-2 c = ?
+returns-2 c = done-as (c .before .enum-told2 .given .1) (done-by _ (c .behind .ensures) (refl, nothing-done _ _))
 
 -- src/main.rt:116:1
 same-length-6 : tie.Need-same-length-6
@@ -97,7 +101,7 @@ same-length-10 c = search needs
 
 -- src/main.rt:116:1
 returns-3 : tie.Need-returns-3
-returns-3 c = ?
+returns-3 c = done-as (c .before .before .before .before .before .before .before .before .before .before .before .before .before .before .enum-told3 .given .1) ((c .before .before .before .before .before .before .before .before .finish .ensures) _)
 
 -- src/main.rt:116:1
 same-length-11 : tie.Need-same-length-11
@@ -121,11 +125,11 @@ same-length-15 c = search needs
 
 -- src/main.rt:116:1
 returns-4 : tie.Need-returns-4
-returns-4 c = ?
+returns-4 c = done-as (c .before .before .before .before .before .before .before .before .before .before .before .before .before .before .enum-told4 .given .1) (full-done ((c .before .before .before .before .before .before .before .before .finish2 .ensures) _))
 
 -- src/main.rt:116:1
 returns-5 : tie.Need-returns-5
-returns-5 c = ?
+returns-5 c = done-as (c .before .enum-told5 .given .1) (done-by _ (c .behind2 .ensures) (omega arith, nothing-done _ _))
 
 pub done-spec : {M : Type 1} → statement M
 done-spec =

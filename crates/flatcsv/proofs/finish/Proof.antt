@@ -1,3 +1,8 @@
+use Prim.Native.Nat.{ℕ}
+use mathlib.Core.Path.{refl}
+use mathlib.Core.List.{List}
+use Rattle.flatcsv.specs.TurnLaws.{done-by}
+
 use borrow.Author.Needs.{needs}
 use Rattle.flatcsv.proofs.finish.Statement.{statement}
 use Rattle.flatcsv.proofs.finish.Tie as tie
@@ -36,7 +41,7 @@ same-length-4 c = search needs
 
 -- src/main.rt:94:1
 returns : tie.Need-returns
-returns c = ?
+returns c = λ (b : List ℕ). done-by _ (c .behind .ensures) (refl, (c .before .before .before .before .before .before .before .before .before .csv-end .ensures))
 
 pub finish-spec : {M : Type 1} → statement M
 finish-spec =

@@ -1,3 +1,8 @@
+use mathlib.Core.Path.{_≡_}
+use native.Mathlib.Omega.{arith}
+use Rattle.csv_io.specs.Status.{goesOn}
+use Rattle.flatcsv.specs.TurnLaws.{turn-is, failed-turn}
+
 use borrow.Author.Needs.{needs}
 use Rattle.flatcsv.proofs.step.Statement.{statement}
 use Rattle.flatcsv.proofs.step.Tie as tie
@@ -13,7 +18,7 @@ emptied-requires c κs = search needs
 
 -- src/main.rt:163:9
 returns : tie.Need-returns
-returns c = ?
+returns c = failed-turn _ _ _ _ (c .before .before .before .before .before .before .before .before .pre .0) (c .before .before .before .emptied .ensures) (λ (z : (c .before .before .before .emptied .result .over) ≡ goesOn). omega arith)
 
 -- src/main.rt:170:9
 next-turn-requires : tie.Need-next-turn-requires
@@ -25,7 +30,7 @@ done-requires c κs = search needs
 
 -- src/main.rt:144:1
 returns-2 : tie.Need-returns-2
-returns-2 c = ?
+returns-2 c = turn-is _ _ _ _ _ _ _ _ (c .before .before .before .before .before .before .before .before .before .before .before .before .before .emptied .ensures) (c .before .before .before .before .before .before .before .before .next-turn .ensures) (c .done .ensures) ((c .before .before .before .before .before .before .before .before .before .before .before .before .before .before .before .before .before .before .pre .0 .clear) (c .before .before .before .before .before .before .before .before .before .before .before .before .before .before .before .before .before .before .pre .1)) (search needs) (search needs) (search needs)
 
 pub step-spec : {M : Type 1} → statement M
 step-spec =

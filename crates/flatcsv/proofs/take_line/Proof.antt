@@ -1,3 +1,5 @@
+use Rattle.flatcsv.specs.TurnLaws.{done-by}
+
 use borrow.Author.Needs.{needs}
 use Rattle.flatcsv.proofs.take_line.Statement.{statement}
 use Rattle.flatcsv.proofs.take_line.Tie as tie
@@ -53,7 +55,7 @@ same-length-5 c = search needs
 
 -- src/main.rt:70:1
 returns : tie.Need-returns
-returns c = ?
+returns c = done-by _ (c .behind .ensures) ((c .before .going .ensures), (c .before .before .before .before .before .before .before .before .before .before .before .before .csv-line .ensures))
 
 pub take-line-spec : {M : Type 1} → statement M
 take-line-spec =
