@@ -74,9 +74,8 @@ fn warned(run: Run, err: &mut [u8], warning: u64) -> Run
 pub fn headed(run: Run, text: &[u8], out: &mut [u8], err: &mut [u8]) -> Run
     requires { ⌜ (run .out + headerRoom ≤ length (now out)) × (run .err + noticeRoom ≤ length (now err)) ⌝ }
     ensures { λ r.
-      let p = heading (run .physical) (now (text .entry)) in
-      ⌜ Said p run (now (out .entry)) (now (err .entry)) r (now (out .exit)) (now (err .exit)) ⌝
-    }
+        let p = heading (run .physical) (now (text .entry)) in
+        ⌜ Said p run (now (out .entry)) (now (err .entry)) r (now (out .exit)) (now (err .exit)) ⌝ }
 {
     if csv_line::is_header(text) {
         let n = csv_line::put_header(out, run.out);
@@ -104,9 +103,8 @@ pub fn answered(
 ) -> Run
     requires { ⌜ AnswerFits code count (length (now rows)) (length (now out)) (length (now err)) run ⌝ }
     ensures { λ r.
-      let p = answer (run .source) code count warning (now (rows .entry)) in
-      ⌜ Said p run (now (out .entry)) (now (err .entry)) r (now (out .exit)) (now (err .exit)) ⌝
-    }
+        let p = answer (run .source) code count warning (now (rows .entry)) in
+        ⌜ Said p run (now (out .entry)) (now (err .entry)) r (now (out .exit)) (now (err .exit)) ⌝ }
 {
     if code != 0 {
         return refuse(run, err, run.source, code);

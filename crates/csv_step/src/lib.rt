@@ -30,10 +30,9 @@ fn push_row(
 ) -> Run
     requires { ⌜ (length (now row) ≡ rowWords) × Room run (length (now rows)) (length (now out)) (length (now err)) ⌝ }
     ensures { λ r.
-      let was = slices (now (state .entry)) (now (store .entry)) (now (rows .entry)) (now (out .entry)) (now (err .entry)) in
-      let is = slices (now (state .exit)) (now (store .exit)) (now (rows .exit)) (now (out .exit)) (now (err .exit)) in
-      ⌜ Stepped (onRow (standing run was) (now (row .entry))) run was r is ⌝
-    }
+        let was = slices (now (state .entry)) (now (store .entry)) (now (rows .entry)) (now (out .entry)) (now (err .entry)) in
+        let is = slices (now (state .exit)) (now (store .exit)) (now (rows .exit)) (now (out .exit)) (now (err .exit)) in
+        ⌜ Stepped (onRow (standing run was) (now (row .entry))) run was r is ⌝ }
 {
     let reply = flat_push(state, store, rows, row);
     let read = Run {
@@ -58,10 +57,9 @@ fn text_line(
 ) -> Run
     requires { ⌜ Room run (length (now rows)) (length (now out)) (length (now err)) ⌝ }
     ensures { λ r.
-      let was = slices (now (state .entry)) (now (store .entry)) (now (rows .entry)) (now (out .entry)) (now (err .entry)) in
-      let is = slices (now (state .exit)) (now (store .exit)) (now (rows .exit)) (now (out .exit)) (now (err .exit)) in
-      ⌜ Stepped (onText (standing run was) (now (text .entry))) run was r is ⌝
-    }
+        let was = slices (now (state .entry)) (now (store .entry)) (now (rows .entry)) (now (out .entry)) (now (err .entry)) in
+        let is = slices (now (state .exit)) (now (store .exit)) (now (rows .exit)) (now (out .exit)) (now (err .exit)) in
+        ⌜ Stepped (onText (standing run was) (now (text .entry))) run was r is ⌝ }
 {
     if run.physical == 1 {
         return headed(run, text, out, err);
@@ -85,10 +83,9 @@ fn whole_line(
 ) -> Run
     requires { ⌜ Room run (length (now rows)) (length (now out)) (length (now err)) ⌝ }
     ensures { λ r.
-      let was = slices (now (state .entry)) (now (store .entry)) (now (rows .entry)) (now (out .entry)) (now (err .entry)) in
-      let is = slices (now (state .exit)) (now (store .exit)) (now (rows .exit)) (now (out .exit)) (now (err .exit)) in
-      ⌜ Stepped (onEnd (standing run was) (now (line .entry)) (endOf (now (line .entry)))) run was r is ⌝
-    }
+        let was = slices (now (state .entry)) (now (store .entry)) (now (rows .entry)) (now (out .entry)) (now (err .entry)) in
+        let is = slices (now (state .exit)) (now (store .exit)) (now (rows .exit)) (now (out .exit)) (now (err .exit)) in
+        ⌜ Stepped (onEnd (standing run was) (now (line .entry)) (endOf (now (line .entry)))) run was r is ⌝ }
 {
     let End::Upto(n) = csv_line::text_end(line) else {
         return refuse(run, err, run.physical, BAD_TEXT);
@@ -108,10 +105,9 @@ pub fn csv_line(
 ) -> Run
     requires { ⌜ Room run (length (now rows)) (length (now out)) (length (now err)) ⌝ }
     ensures { λ r.
-      let was = slices (now (state .entry)) (now (store .entry)) (now (rows .entry)) (now (out .entry)) (now (err .entry)) in
-      let is = slices (now (state .exit)) (now (store .exit)) (now (rows .exit)) (now (out .exit)) (now (err .exit)) in
-      ⌜ Stepped (csvLine (standing run was) (now (line .entry))) run was r is ⌝
-    }
+        let was = slices (now (state .entry)) (now (store .entry)) (now (rows .entry)) (now (out .entry)) (now (err .entry)) in
+        let is = slices (now (state .exit)) (now (store .exit)) (now (rows .exit)) (now (out .exit)) (now (err .exit)) in
+        ⌜ Stepped (csvLine (standing run was) (now (line .entry))) run was r is ⌝ }
 {
     next_line(whole_line(run, line, state, store, rows, out, err))
 }
@@ -127,10 +123,9 @@ fn close_run(
 ) -> Run
     requires { ⌜ Room run (length (now rows)) (length (now out)) (length (now err)) ⌝ }
     ensures { λ r.
-      let was = slices (now (state .entry)) (now (store .entry)) (now (rows .entry)) (now (out .entry)) (now (err .entry)) in
-      let is = slices (now (state .exit)) (now (store .entry)) (now (rows .exit)) (now (out .exit)) (now (err .exit)) in
-      ⌜ Stepped (csvClose (standing run was)) run was r is ⌝
-    }
+        let was = slices (now (state .entry)) (now (store .entry)) (now (rows .entry)) (now (out .entry)) (now (err .entry)) in
+        let is = slices (now (state .exit)) (now (store .entry)) (now (rows .exit)) (now (out .exit)) (now (err .exit)) in
+        ⌜ Stepped (csvClose (standing run was)) run was r is ⌝ }
 {
     let reply = flat_close(state, store, rows);
     answered(run, reply.code, reply.count, reply.warning, rows, out, err)
@@ -148,10 +143,9 @@ pub fn csv_end(
 ) -> Run
     requires { ⌜ Room run (length (now rows)) (length (now out)) (length (now err)) ⌝ }
     ensures { λ r.
-      let was = slices (now (state .entry)) (now (store .entry)) (now (rows .entry)) (now (out .entry)) (now (err .entry)) in
-      let is = slices (now (state .exit)) (now (store .entry)) (now (rows .exit)) (now (out .exit)) (now (err .exit)) in
-      ⌜ Stepped (csvEnd (standing run was) left) run was r is ⌝
-    }
+        let was = slices (now (state .entry)) (now (store .entry)) (now (rows .entry)) (now (out .entry)) (now (err .entry)) in
+        let is = slices (now (state .exit)) (now (store .entry)) (now (rows .exit)) (now (out .exit)) (now (err .exit)) in
+        ⌜ Stepped (csvEnd (standing run was) left) run was r is ⌝ }
 {
     if left != 0 {
         return refuse(run, err, run.physical, BAD_TEXT);

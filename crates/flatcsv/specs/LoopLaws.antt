@@ -1,6 +1,6 @@
 -- LAWS. Turn after turn, what was said is what the definition says to what was read. Assumes nothing.
 use Prim.Native.Nat.{ℕ, _<_, zero-le}
-use mathlib.Core.Logic.{_⊎_, inl, inr, ⊎-elim}
+use mathlib.Core.Logic.{_⊎_, ⊎-elim}
 use mathlib.Core.Path.{_≡_, refl, sym, ap, _∙_, subst}
 use mathlib.Core.Bool.{Bool, true, false}
 use mathlib.Core.List.{List, [], _++_, append-nil, append-assoc}
@@ -8,7 +8,7 @@ use native.Mathlib.Omega.{arith}
 use lib.ListN.{length, take}
 use Rattle.text_lines.specs.Cut.{cut}
 use Rattle.csv_io.specs.Status.{goesOn, ended}
-use Rattle.csv_step.specs.Line.{Stand, Step, csvLine, csvEnd}
+use Rattle.csv_step.specs.Line.{Stand, Step, csvLine}
 use Rattle.csv_step.specs.Csv.{andThen, still, csvRest, begun, Whole, csvSpec}
 use Rattle.csv_step.specs.CsvLaws.{then-assoc, then-still, rest-whole, rest-end, rest-refused}
 use Rattle.csv_step.specs.Steps.{Slices, standing}

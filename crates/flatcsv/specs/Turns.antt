@@ -13,8 +13,8 @@ use Rattle.csv_out.specs.declared.Run.{Run}
 use Rattle.csv_io.specs.Flush.{outRoom, errRoom}
 use Rattle.csv_io.specs.Status.{goesOn, ended}
 use Rattle.csv_step.specs.Line.{Step, csvLine, csvEnd}
-use Rattle.csv_step.specs.Csv.{still, Whole, csvSpec, begun}
-use Rattle.csv_step.specs.Steps.{Slices, standing, Stepped, Room}
+use Rattle.csv_step.specs.Csv.{still, csvSpec}
+use Rattle.csv_step.specs.Steps.{Slices, standing, Stepped}
 use Rattle.flatcsv.specs.declared.Reading.{Reading}
 use Rattle.flatcsv.specs.Reading.{inRoom, goingOf, unread}
 

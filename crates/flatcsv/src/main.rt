@@ -79,10 +79,9 @@ fn take_line(
 ) -> Reading
     requires { ⌜ FoundIn t (length (now buf)) × Room run (length (now rows)) (length (now out)) (length (now err)) ⌝ }
     ensures { λ r.
-      let was = slices (now (state .entry)) (now (store .entry)) (now (rows .entry)) (now (out .entry)) (now (err .entry)) in
-      let is = slices (now (state .exit)) (now (store .exit)) (now (rows .exit)) (now (out .exit)) (now (err .exit)) in
-      ⌜ LineDone t run (now (buf .entry)) was r is ⌝
-    }
+        let was = slices (now (state .entry)) (now (store .entry)) (now (rows .entry)) (now (out .entry)) (now (err .entry)) in
+        let is = slices (now (state .exit)) (now (store .exit)) (now (rows .exit)) (now (out .exit)) (now (err .exit)) in
+        ⌜ LineDone t run (now (buf .entry)) was r is ⌝ }
 {
     let from = t.from;
     let at = t.at;
@@ -102,10 +101,9 @@ fn finish(
 ) -> Reading
     requires { ⌜ (t .at ≤ t .end) × Room run (length (now rows)) (length (now out)) (length (now err)) ⌝ }
     ensures { λ r.
-      let was = slices (now (state .entry)) (now (store .entry)) (now (rows .entry)) (now (out .entry)) (now (err .entry)) in
-      let is = slices (now (state .exit)) (now (store .entry)) (now (rows .exit)) (now (out .exit)) (now (err .exit)) in
-      ⌜ EndDone t run was r is ⌝
-    }
+        let was = slices (now (state .entry)) (now (store .entry)) (now (rows .entry)) (now (out .entry)) (now (err .entry)) in
+        let is = slices (now (state .exit)) (now (store .entry)) (now (rows .exit)) (now (out .exit)) (now (err .exit)) in
+        ⌜ EndDone t run was r is ⌝ }
 {
     let left = t.end - t.at;
     let then = csv_end(run, left, state, store, rows, out, err);
@@ -125,10 +123,9 @@ fn done(
 ) -> Reading
     requires { ⌜ FoundIn t (length (now buf)) × Room run (length (now rows)) (length (now out)) (length (now err)) ⌝ }
     ensures { λ r.
-      let was = slices (now (state .entry)) (now (store .entry)) (now (rows .entry)) (now (out .entry)) (now (err .entry)) in
-      let is = slices (now (state .exit)) (now (store .exit)) (now (rows .exit)) (now (out .exit)) (now (err .exit)) in
-      ⌜ Done (t .found) t run (now (buf .entry)) was r is ⌝
-    }
+        let was = slices (now (state .entry)) (now (store .entry)) (now (rows .entry)) (now (out .entry)) (now (err .entry)) in
+        let is = slices (now (state .exit)) (now (store .exit)) (now (rows .exit)) (now (out .exit)) (now (err .exit)) in
+        ⌜ Done (t .found) t run (now (buf .entry)) was r is ⌝ }
 {
     let found = t.found;
     match found {
@@ -152,10 +149,9 @@ fn step(
 ) -> Reading
     requires { ⌜ Within s × (s .over ≡ goesOn) ⌝ }
     ensures { λ r.
-      let was = slices (now (state .entry)) (now (store .entry)) (now (rows .entry)) (now (out .entry)) (now (err .entry)) in
-      let is = slices (now (state .exit)) (now (store .exit)) (now (rows .exit)) (now (out .exit)) (now (err .exit)) in
-      ⌜ TurnIs s (now (buf .entry)) was r (now (buf .exit)) is ⌝
-    }
+        let was = slices (now (state .entry)) (now (store .entry)) (now (rows .entry)) (now (out .entry)) (now (err .entry)) in
+        let is = slices (now (state .exit)) (now (store .exit)) (now (rows .exit)) (now (out .exit)) (now (err .exit)) in
+        ⌜ TurnIs s (now (buf .entry)) was r (now (buf .exit)) is ⌝ }
 {
     let room = emptied(s.run, out, err);
     let run = room.run;
@@ -208,9 +204,8 @@ fn all_turns(
 ) -> Reading
     requires { ⌜ (now state ≡ begun .state) × ((now store ≡ begun .store) × (now rows ≡ begun .rows)) ⌝ }
     ensures { λ r.
-      let is = slices (now (state .exit)) (now (store .exit)) (now (rows .exit)) (now (out .exit)) (now (err .exit)) in
-      ⌜ Finished r is ⌝
-    }
+        let is = slices (now (state .exit)) (now (store .exit)) (now (rows .exit)) (now (out .exit)) (now (err .exit)) in
+        ⌜ Finished r is ⌝ }
 {
     let mut s = first();
     let mut turns = u64::MAX;

@@ -1,133 +1,107 @@
+-- `flatcsv::done` meets its contract. Assumes nothing.
 use mathlib.Core.Path.{refl}
 use native.Mathlib.Omega.{arith}
 use Rattle.flatcsv.specs.TurnLaws.{done-by, done-as, full-done, nothing-done}
-
 use borrow.Author.Needs.{needs}
 use Rattle.flatcsv.proofs.done.Statement.{statement}
 use Rattle.flatcsv.proofs.done.Tie as tie
-use Rattle.flatcsv.proofs.done.Reads as reads
-use Rattle.flatcsv.proofs.done.Lts as lts
-use Rattle.flatcsv.proofs.behind.Reads as behind-reads
-use Rattle.flatcsv.proofs.finish.Reads as finish-reads
-use Rattle.flatcsv.proofs.take_line.Reads as take-line-reads
 
--- src/main.rt:135:47
 enum-told : tie.Need-enum-told
 enum-told c = search needs
 
--- src/main.rt:135:24
 take-line-requires : tie.Need-take-line-requires
 take-line-requires c κs = search needs
 
--- src/main.rt:136:24
 enum-told-2 : tie.Need-enum-told-2
 enum-told-2 c = search needs
 
--- src/main.rt:136:24
 behind-requires : tie.Need-behind-requires
 behind-requires c κs = search needs
 
--- src/main.rt:137:40
 enum-told-3 : tie.Need-enum-told-3
 enum-told-3 c = search needs
 
--- src/main.rt:137:25
 finish-requires : tie.Need-finish-requires
 finish-requires c κs = search needs
 
--- src/main.rt:138:39
 enum-told-4 : tie.Need-enum-told-4
 enum-told-4 c = search needs
 
--- src/main.rt:138:24
 finish-requires-2 : tie.Need-finish-requires-2
 finish-requires-2 c κs = search needs
 
--- src/main.rt:139:26
 enum-told-5 : tie.Need-enum-told-5
 enum-told-5 c = search needs
 
--- src/main.rt:139:26
 behind-requires-2 : tie.Need-behind-requires-2
 behind-requires-2 c κs = search needs
 
--- src/main.rt:116:1
 same-length : tie.Need-same-length
 same-length c = search needs
 
--- src/main.rt:116:1
 same-length-2 : tie.Need-same-length-2
 same-length-2 c = search needs
 
--- src/main.rt:116:1
 same-length-3 : tie.Need-same-length-3
 same-length-3 c = search needs
 
--- src/main.rt:116:1
 same-length-4 : tie.Need-same-length-4
 same-length-4 c = search needs
 
--- src/main.rt:116:1
 same-length-5 : tie.Need-same-length-5
 same-length-5 c = search needs
 
--- src/main.rt:116:1
 returns : tie.Need-returns
-returns c = done-as (c .before .before .before .before .before .before .before .before .before .before .before .before .before .before .before .before .enum-told .given .1) (c .before .before .before .before .before .before .before .before .before .before .take-line .ensures)
+returns c =
+    let take = c .before .before .before .before .before .before .before .before .before .before in
+    let enum = take .before .before .before .before .before .before in
+    done-as (enum .enum-told .given .1) (take .take-line .ensures)
 
--- src/main.rt:116:1
 returns-2 : tie.Need-returns-2
 returns-2 c = done-as (c .before .enum-told2 .given .1) (done-by _ (c .behind .ensures) (refl, nothing-done _ _))
 
--- src/main.rt:116:1
 same-length-6 : tie.Need-same-length-6
 same-length-6 c = search needs
 
--- src/main.rt:116:1
 same-length-7 : tie.Need-same-length-7
 same-length-7 c = search needs
 
--- src/main.rt:116:1
 same-length-8 : tie.Need-same-length-8
 same-length-8 c = search needs
 
--- src/main.rt:116:1
 same-length-9 : tie.Need-same-length-9
 same-length-9 c = search needs
 
--- src/main.rt:116:1
 same-length-10 : tie.Need-same-length-10
 same-length-10 c = search needs
 
--- src/main.rt:116:1
 returns-3 : tie.Need-returns-3
-returns-3 c = done-as (c .before .before .before .before .before .before .before .before .before .before .before .before .before .before .enum-told3 .given .1) ((c .before .before .before .before .before .before .before .before .finish .ensures) _)
+returns-3 c =
+    let finish = c .before .before .before .before .before .before .before .before in
+    let enum = finish .before .before .before .before .before .before in
+    done-as (enum .enum-told3 .given .1) ((finish .finish .ensures) _)
 
--- src/main.rt:116:1
 same-length-11 : tie.Need-same-length-11
 same-length-11 c = search needs
 
--- src/main.rt:116:1
 same-length-12 : tie.Need-same-length-12
 same-length-12 c = search needs
 
--- src/main.rt:116:1
 same-length-13 : tie.Need-same-length-13
 same-length-13 c = search needs
 
--- src/main.rt:116:1
 same-length-14 : tie.Need-same-length-14
 same-length-14 c = search needs
 
--- src/main.rt:116:1
 same-length-15 : tie.Need-same-length-15
 same-length-15 c = search needs
 
--- src/main.rt:116:1
 returns-4 : tie.Need-returns-4
-returns-4 c = done-as (c .before .before .before .before .before .before .before .before .before .before .before .before .before .before .enum-told4 .given .1) (full-done ((c .before .before .before .before .before .before .before .before .finish2 .ensures) _))
+returns-4 c =
+    let finish = c .before .before .before .before .before .before .before .before in
+    let enum = finish .before .before .before .before .before .before in
+    done-as (enum .enum-told4 .given .1) (full-done ((finish .finish2 .ensures) _))
 
--- src/main.rt:116:1
 returns-5 : tie.Need-returns-5
 returns-5 c = done-as (c .before .enum-told5 .given .1) (done-by _ (c .behind2 .ensures) (omega arith, nothing-done _ _))
 
