@@ -1,4 +1,4 @@
--- A refusal writes no row: where a line is refused, or the end is, nothing goes to standard output. Assumes nothing.
+-- LAWS. Where a line is refused, or the end is, nothing goes to standard output. Assumes nothing.
 use Prim.Native.Nat.{ℕ}
 use mathlib.Core.Path.{_≡_, refl}
 use mathlib.Core.Bool.{Bool, true, false, cond, false≢true}
@@ -13,29 +13,43 @@ use Rattle.csv_line.specs.LineText.{endOf, header, headerOut, crlf}
 use Rattle.csv_read.specs.Reader.{readRow}
 use Rattle.csv_write.specs.Writer.{rowsText, rowsWritable}
 use Rattle.csv_out.specs.Say.{badText, refusal, heading, answer, warningText}
-use Rattle.csv_step.specs.Line.{Stand, spoken, unread, onRow, onRead, onText, onEnd, csvLine, csvClose, csvEnd}
+use Rattle.csv_step.specs.Line.{Stand, unread, onRow, onRead, onText, onEnd, csvLine, csvClose, csvEnd}
 
-pub heading-quiet : (n : ℕ) (t : List ℕ) → heading n t .refused ≡ true → heading n t .out ≡ []
-unfolding heading refusal
-heading-quiet n t = go (same header t)
-  where
-    go : (b : Bool) → cond b (record { refused = false; out = headerOut ++ crlf; err = [] }) (refusal n badText) .refused ≡ true → cond b (record { refused = false; out = headerOut ++ crlf; err = [] }) (refusal n badText) .out ≡ []
-    go true e = absurd (false≢true e)
-    go false e = refl
+-- what is said, where it is a refusal, has no bytes for standard output
+abbrev Quiet : Say → Type 0
+Quiet p = p .refused ≡ true → p .out ≡ []
 
-pub answer-quiet : (source code count warning : ℕ) (rows : List ℕ) → answer source code count warning rows .refused ≡ true → answer source code count warning rows .out ≡ []
-unfolding answer refusal
-answer-quiet source code count warning rows = go (eqb code 0) (rowsWritable rows count)
-  where
-    go : (a b : Bool) → cond a (cond b (record { refused = false; out = rowsText rows count; err = warningText source warning }) (refusal source badText)) (refusal source code) .refused ≡ true
-        → cond a (cond b (record { refused = false; out = rowsText rows count; err = warningText source warning }) (refusal source badText)) (refusal source code) .out ≡ []
-    go true true e = absurd (false≢true e)
-    go true false e = refl
-    go false b e = refl
+abbrev StepQuiet : Step → Type 0
+StepQuiet d = d .stand .refused ≡ true → d .out ≡ []
 
-unread-quiet : (s : Stand) → unread s .stand .refused ≡ true → unread s .out ≡ []
+done-quiet : (o e : List ℕ) → Quiet (says false o e)
+done-quiet o e z = absurd (false≢true z)
+
+refusal-quiet : (n k : ℕ) → Quiet (refusal n k)
+unfolding refusal
+refusal-quiet n k z = refl
+
+picked-quiet : (b : Bool) (p q : Say) → Quiet p → Quiet q → Quiet (cond b p q)
+picked-quiet true p q x y = x
+picked-quiet false p q x y = y
+
+pub heading-quiet : (n : ℕ) (t : List ℕ) → Quiet (heading n t)
+unfolding heading
+heading-quiet n t = picked-quiet (same header t) _ _ (done-quiet (headerOut ++ crlf) []) (refusal-quiet n badText)
+
+pub answer-quiet : (source code count warning : ℕ) (rows : List ℕ) → Quiet (answer source code count warning rows)
+unfolding answer
+answer-quiet source code count warning rows =
+    let done = done-quiet (rowsText rows count) (warningText source warning) in
+    picked-quiet (eqb code 0) _ _ (picked-quiet (rowsWritable rows count) _ _ done (refusal-quiet source badText)) (refusal-quiet source code)
+
+unread-quiet : (s : Stand) → StepQuiet (unread s)
 unfolding unread refusal
 unread-quiet s e = refl
+
+either-quiet : (b : Bool) (d e : Step) → StepQuiet d → StepQuiet e → StepQuiet (cond b d e)
+either-quiet true d e x y = x
+either-quiet false d e x y = y
 
 row-quiet : (s : Stand) (row : List ℕ) → onRow s row .stand .refused ≡ true → onRow s row .out ≡ []
 unfolding onRow
@@ -45,13 +59,9 @@ read-quiet : (s : Stand) (o : Option (List ℕ)) → onRead s o .stand .refused 
 read-quiet s none e = unread-quiet s e
 read-quiet s (some row) e = row-quiet s row e
 
-text-quiet : (s : Stand) (t : List ℕ) → onText s t .stand .refused ≡ true → onText s t .out ≡ []
+text-quiet : (s : Stand) (t : List ℕ) → StepQuiet (onText s t)
 unfolding onText
-text-quiet s t = go (eqb (s .physical) 1)
-  where
-    go : (b : Bool) → cond b (spoken s (heading (s .physical) t)) (onRead s (readRow t)) .stand .refused ≡ true → cond b (spoken s (heading (s .physical) t)) (onRead s (readRow t)) .out ≡ []
-    go true e = heading-quiet (s .physical) t e
-    go false e = read-quiet s (readRow t) e
+text-quiet s t = either-quiet (eqb (s .physical) 1) _ _ (heading-quiet (s .physical) t) (read-quiet s (readRow t))
 
 end-quiet : (s : Stand) (l : List ℕ) (x : End) → onEnd s l x .stand .refused ≡ true → onEnd s l x .out ≡ []
 end-quiet s l End.Bad e = unread-quiet s e
@@ -65,9 +75,6 @@ line-quiet s l e = end-quiet s l (endOf l) e
 -- nor does a refused end
 pub close-quiet : (s : Stand) (left : ℕ) → csvEnd s left .stand .refused ≡ true → csvEnd s left .out ≡ []
 unfolding csvEnd csvClose
-close-quiet s left = go (eqb left 0) (eqb (s .physical) 1)
-  where
-    go : (a b : Bool) → cond a (cond b (unread s) (csvClose s)) (unread s) .stand .refused ≡ true → cond a (cond b (unread s) (csvClose s)) (unread s) .out ≡ []
-    go true true e = unread-quiet s e
-    go true false e = answer-quiet _ _ _ _ _ e
-    go false b e = unread-quiet s e
+close-quiet s left =
+    let shut = either-quiet (eqb (s .physical) 1) _ _ (unread-quiet s) (answer-quiet _ _ _ _ _) in
+    either-quiet (eqb left 0) _ _ shut (unread-quiet s)
