@@ -1,13 +1,15 @@
-// Lines of standard input, in a buffer of a fixed size.
+// Lines of standard input, in a buffer of a fixed size: each turn of a program's reading loop is `next_turn`.
 use libc::STDIN_FILENO;
 ghost use Prim.Native.Nat.{_+_, _-_, _<_, _≤_};
-ghost use lib.ListN.{length};
+ghost use lib.ListN.{length, take};
 ghost use mathlib.Core.Path.{_≡_};
+ghost use Rattle.text_lines.specs.Cut.{cut, between};
+ghost use Rattle.text_lines.specs.Turns.{More, AtFront, Turned};
 
 // The place behind the first LF of buf from `at` on and below `end`, or `end` + 1 where there is none.
-pub fn line_end(buf: &[u8], at: usize, end: usize) -> usize
+fn line_end(buf: &[u8], at: usize, end: usize) -> usize
     requires { ⌜ (at ≤ end) × (end ≤ length (now buf)) ⌝ }
-    ensures { λ r. ⌜ (at < r) × (r ≤ end + 1) ⌝ }
+    ensures { λ r. ⌜ r ≡ at + cut (between (now (buf .entry)) at end) ⌝ }
 {
     let mut i = at;
     while i < end {
@@ -20,9 +22,9 @@ pub fn line_end(buf: &[u8], at: usize, end: usize) -> usize
 }
 
 // Moves the bytes from `at` up to `end` to the front of buf, and answers how many there are.
-pub fn to_front(buf: &mut [u8], at: usize, end: usize) -> usize
+fn to_front(buf: &mut [u8], at: usize, end: usize) -> usize
     requires { ⌜ (at ≤ end) × (end ≤ length (now buf)) ⌝ }
-    ensures { λ r. ⌜ (r ≡ end - at) × (length (now (buf .exit)) ≡ length (now (buf .entry))) ⌝ }
+    ensures { λ r. ⌜ AtFront (now (buf .entry)) at end (now (buf .exit)) r ⌝ }
 {
     let n = end - at;
     let mut i = 0;
@@ -34,15 +36,15 @@ pub fn to_front(buf: &mut [u8], at: usize, end: usize) -> usize
 }
 
 // How many bytes the buffer has, and whether the reading went well.
-pub struct Came {
-    pub n: usize,
-    pub ok: bool,
+struct Came {
+    n: usize,
+    ok: bool,
 }
 
 // Reads into buf behind its first n bytes, and answers how many it has then.
-pub fn read_more(buf: &mut [u8], n: usize) -> Came
+fn read_more(buf: &mut [u8], n: usize) -> Came
     requires { ⌜ n ≤ length (now buf) ⌝ }
-    ensures { λ r. ⌜ (n ≤ r .n) × ((r .n ≤ length (now (buf .exit))) × (length (now (buf .exit)) ≡ length (now (buf .entry)))) ⌝ }
+    ensures { λ r. ⌜ More (now (buf .entry)) n (now (buf .exit)) r ⌝ }
 {
     let part = &mut buf[n..];
     let got = libc::read(STDIN_FILENO, part);
@@ -50,4 +52,70 @@ pub fn read_more(buf: &mut [u8], n: usize) -> Came
         n: n + io::count(got, part),
         ok: got >= 0,
     }
+}
+
+// What a turn found: a line that stands whole, more bytes, the end of the input, a buffer that no line fits in, or that
+// the input cannot be read.
+pub enum Found {
+    Line,
+    More,
+    Ended,
+    Full,
+    Failed,
+}
+
+// The unread bytes of the buffer are then from `at` up to `end`; a line that was found is from `from` up to `at`.
+pub struct Turn {
+    pub from: usize,
+    pub at: usize,
+    pub end: usize,
+    pub found: Found,
+}
+
+fn at_front(end: usize, found: Found) -> Turn
+    ensures { λ r. ⌜ r ≡ record { from = 0; at = 0; end = end; found = found } ⌝ }
+{
+    Turn {
+        from: 0,
+        at: 0,
+        end,
+        found,
+    }
+}
+
+// No line stands whole: the unread bytes go to the front, and more are read behind them.
+fn read_on(buf: &mut [u8], at: usize, end: usize) -> Turn
+    requires { ⌜ (at ≤ end) × (end ≤ length (now buf)) ⌝ }
+    requires { ⌜ end < at + cut (between (now buf) at end) ⌝ }
+    ensures { λ r. ⌜ Turned (now (buf .entry)) at end (now (buf .exit)) r ⌝ }
+{
+    let n = to_front(buf, at, end);
+    if n == buf.len() {
+        return at_front(n, Found::Full);
+    }
+    let came = read_more(buf, n);
+    if came.n > n {
+        return at_front(came.n, Found::More);
+    }
+    if came.ok {
+        return at_front(n, Found::Ended);
+    }
+    at_front(n, Found::Failed)
+}
+
+// One turn of the reading loop: a line that stands whole in the buffer, or a reading.
+pub fn next_turn(buf: &mut [u8], at: usize, end: usize) -> Turn
+    requires { ⌜ (at ≤ end) × (end ≤ length (now buf)) ⌝ }
+    ensures { λ r. ⌜ Turned (now (buf .entry)) at end (now (buf .exit)) r ⌝ }
+{
+    let e = line_end(buf, at, end);
+    if e <= end {
+        return Turn {
+            from: at,
+            at: e,
+            end,
+            found: Found::Line,
+        };
+    }
+    read_on(buf, at, end)
 }
