@@ -1,4 +1,4 @@
--- Document 01, step 5: "Close emits a held spline; closing again writes nothing". Assumes nothing.
+-- DEFINITIONS. What a close answers and leaves: rules 2.20, 3.15. Assumes nothing.
 use Prim.Native.Nat.{ℕ, _/_}
 use mathlib.Core.Bool.{Bool, cond}
 use mathlib.Core.List.{List, []}
@@ -12,7 +12,7 @@ use Rattle.call_reply.specs.Replies.{plain, After, tooFew}
 use Rattle.call_close.specs.Held.{emission}
 use Rattle.push_state.specs.Pushed.{forgotten}
 
--- "Every refusal leaves all lent memory and the state untouched"
+-- 2.3: a refusal leaves every word
 unfoldable pub untouched : Reply → List ℕ → List ℕ → List ℕ → After
 untouched p st store rows = record { reply = p; state = st; store = store; rows = rows }
 
@@ -25,7 +25,7 @@ closeRows st store = cond (eqb (held st) 0) [] (emission st store)
 unfoldable pub closeState : List ℕ → List ℕ
 closeState st = cond (eqb (held st) 0) st (forgotten st)
 
--- "Order: state fields (9), 8, held rows (9), .. 7"
+-- 2.20: the order of refusals
 unfoldable pub closeSpec : List ℕ → List ℕ → List ℕ → After
 closeSpec st store rows =
     let out = closeRows st store in

@@ -1,4 +1,4 @@
--- Document 01, "Spline": the spline that a state and its store hold, and its rows. Assumes nothing.
+-- DEFINITIONS. The spline that a state and its store hold, and its rows: rules 3.3, 5.1. Assumes nothing.
 use Prim.Native.Nat.{ℕ}
 use mathlib.Core.List.{List}
 use Rattle.floats.specs.Lists.{flatten}

@@ -1,4 +1,4 @@
--- Document 01, "Steps of a push" and the order of refusals: what a push answers and leaves. Assumes nothing.
+-- DEFINITIONS. What a push answers and leaves: rules 2.2, 2.19, 3.4. Assumes nothing.
 use Prim.Native.Nat.{ℕ}
 use mathlib.Core.Bool.{cond}
 use mathlib.Core.List.{List, _++_}
@@ -12,7 +12,7 @@ use Rattle.push_check.specs.Blocks.{emits, news, pushCheck}
 use Rattle.push_rows.specs.Answer.{ownAnswer}
 use Rattle.push_state.specs.Pushed.{pushState, pushStore}
 
--- ---- the rows: "Room is judged for both together"
+-- ---- the rows (3.4): room is judged for all of them at once
 unfoldable pub pushRows : List ℕ → List ℕ → List ℕ → List (List ℕ)
 pushRows st store r = let own = ownAnswer st r .rows in cond (emits st r) (emission st store ++ own) own
 

@@ -4,11 +4,11 @@ use mathlib.Core.Path.{_≡_, sym, _∙_, ap}
 use mathlib.Core.List.{List}
 use Rattle.call_reply.specs.declared.Reply.{Reply}
 
--- "Every refusal .. gives warning 0 and no held axes and, 7 apart, has count 0": a reply that has its number alone
+-- 2.4: a reply that has its number alone
 abbrev pub plain : ℕ → Reply
 plain n = record { code = n; count = 0; warning = 0; wanted = 0; held = 0 }
 
--- reply 7: "fewer row places lent than the call needs; the reply has the needed count"
+-- 2.11: 7, with the rows that the call needs
 unfoldable pub tooFew : ℕ → Reply
 tooFew n = record { code = 7; count = n; warning = 0; wanted = 0; held = 0 }
 

@@ -1,4 +1,4 @@
--- Document 01, "Row text": the values of numbers read and written, over lib.Ieee's exact values. Definitions only.
+-- DEFINITIONS. The values of numbers read and written (rules 7.9 to 7.11), over lib.Ieee's exact values. Assumes nothing.
 use Prim.Native.Nat.{ℕ, _*_, _/_, _%_, _^_, _<_, min}
 use mathlib.Core.Bool.{Bool, cond, _&&_}
 use mathlib.Core.Path.{_≡_}
@@ -7,17 +7,18 @@ use lib.IntN.{pos}
 use lib.Ieee.{Float, nan, inf, fin, binary64, up, down, div, neg, ofInt}
 use lib.Ieee.Nearest.{closest}
 
--- "Numbers out have six decimals, nearest, ties to even": the whole number nearest to |x| * 10 ^ 6, where x is m * 2 ^ e exactly (`closest`).
--- 10 ^ 15 stands for all that is not below it: "an output number that rounds to 10^9 or more in size".
+-- 7.10: the whole number nearest to |x| * 10 ^ 6, ties to even, where x is m * 2 ^ e exactly (`closest`).
+-- 10 ^ 15 stands for all that is not below it (7.11).
 unfoldable pub millionths : Float → ℕ
 millionths nan = 1000000000000000
 millionths (inf s) = 1000000000000000
 millionths (fin s m e) = min (closest (m * up e * 1000000) (down e)) 1000000000000000
 
--- "value is the whole number divided by the power of ten, once; minus zero is plain zero"
+-- 7.9: all digits as a whole number, divided once; no minus before zero
 unfoldable pub quotient : Bool → ℕ → ℕ → Float
 quotient s n k =
-    cond (s && ltb 0 n) (neg (div binary64 (ofInt binary64 (pos n)) (ofInt binary64 (pos (10 ^ k))))) (div binary64 (ofInt binary64 (pos n)) (ofInt binary64 (pos (10 ^ k))))
+    cond (s && ltb 0 n) (neg (div binary64 (ofInt binary64 (pos n)) (ofInt binary64 (pos (10 ^ k)))))
+    (div binary64 (ofInt binary64 (pos n)) (ofInt binary64 (pos (10 ^ k))))
 
 -- how many digits n has, for an n below 10 ^ 10
 unfoldable pub width : ℕ → ℕ

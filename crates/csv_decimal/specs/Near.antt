@@ -1,7 +1,8 @@
 -- The nearest whole number to a fraction, a tie going to the even one: from a quotient and its rest, at a power of two, and from a number cut short with a bit for what was cut. Assumes nothing.
 use mathlib.Core.Path.{_≡_, refl, sym, ap, _∙_, subst}
 use Prim.Native.Nat.{ℕ, zero, suc, _+_, _-_, _*_, _/_, _%_, _^_, _≤_, _<_, Ordering, Ordering·lt, Ordering·eq, Ordering·gt, compare}
-use native.Mathlib.Nat.{mul-assoc, mul-comm, mul-right-comm, add-mul, one-mul, div-mul-le-self, mod-lt, div-add-mod', mul-le-mul-right, lt-of-le-of-lt, le-trans, le-of-eq}
+use native.Mathlib.Nat.{mul-assoc, mul-comm, mul-right-comm, add-mul, one-mul, div-mul-le-self, mod-lt, div-add-mod', mul-le-mul-right, lt-of-le-of-lt}
+use native.Mathlib.Nat.{le-trans, le-of-eq}
 use native.Mathlib.Omega.{arith}
 use native.Mathlib.Decide.{decLe, ℕ-discrete}
 use mathlib.Core.Bool.{not}
@@ -79,7 +80,8 @@ module _ (d j : ℕ) where
   halved q r e l =
       let p = 2 ^ j in
       let m : d % p < p = mod-lt d (pow-pos j) in
-      let s : (2 * q + r) * p ≡ q * (p * 2) + r * p = add-mul (2 * q) r p ∙ ap (λ (z : ℕ). z + r * p) (mul-assoc 2 q p ∙ mul-comm 2 (q * p) ∙ mul-assoc q p 2) in
+      let s : (2 * q + r) * p ≡ q * (p * 2) + r * p =
+      add-mul (2 * q) r p ∙ ap (λ (z : ℕ). z + r * p) (mul-assoc 2 q p ∙ mul-comm 2 (q * p) ∙ mul-assoc q p 2) in
       let w : d ≡ q * (p * 2) + (r * p + d % p) = sym (div-add-mod' d p) ∙ ap (λ (z : ℕ). z * p + d % p) e ∙ ap (λ (z : ℕ). z + d % p) s ∙ omega arith in
       let u : r * p ≤ p = le-trans (mul-le-mul-right p (omega arith)) (le-of-eq (one-mul p)) in
       ap (closest d) (two-more j) ∙ closest-by d (p * 2) q (r * p + d % p) w (omega arith)
@@ -125,7 +127,8 @@ module _ (a d D : ℕ) (s : Sticky a d) where
       let u : a ≡ q * (D * 2048) + (t * 1024 + a % 1024) = omega arith in
       let v : d ≡ q * (D * 4) + (t * 2 + d % 2) = omega (arith, s .half) in
       closest-by a (D * 2048) q (t * 1024 + a % 1024) u (omega arith)
-      ∙ ap (nearest q) (alike ((t * 1024 + a % 1024) * 2) (D * 2048) ((t * 2 + d % 2) * 2) (D * 4) (λ l. omega arith) (λ e. level t e) (λ g. more t g (ℕ-discrete (a % 1024) 0)))
+      ∙ ap (nearest q)
+      (alike ((t * 1024 + a % 1024) * 2) (D * 2048) ((t * 2 + d % 2) * 2) (D * 4) (λ l. omega arith) (λ e. level t e) (λ g. more t g (ℕ-discrete (a % 1024) 0)))
       ∙ sym (closest-by d (D * 4) q (t * 2 + d % 2) v (omega arith))
     where
       level : (t : ℕ) → (t * 1024 + a % 1024) * 2 ≡ D * 2048 → (t * 2 + d % 2) * 2 ≡ D * 4
@@ -188,14 +191,16 @@ in-parts m d s l k =
 pub how-near : (a b : ℕ) → 0 < b → (closest a b * b * 2 ≤ a * 2 + b) × (a * 2 ≤ closest a b * b * 2 + b)
 how-near a b p = go (compare (a % b * 2) b) (cmp (a % b * 2) b) (mod-lt a p) (div-add-mod' a b) (native.Mathlib.Nat.suc-mul (a / b) b)
   where
-    go : (o : Ordering) → Cmp o (a % b * 2) b → a % b < b → a / b * b + a % b ≡ a → suc (a / b) * b ≡ a / b * b + b → (nearest (a / b) o * b * 2 ≤ a * 2 + b) × (a * 2 ≤ nearest (a / b) o * b * 2 + b)
+    go : (o : Ordering) → Cmp o (a % b * 2) b → a % b < b → a / b * b + a % b ≡ a → suc (a / b) * b ≡ a / b * b + b
+        → (nearest (a / b) o * b * 2 ≤ a * 2 + b) × (a * 2 ≤ nearest (a / b) o * b * 2 + b)
     go Ordering·lt c m e s = (omega arith, omega arith)
     go Ordering·gt c m e s = (omega arith, omega arith)
     go Ordering·eq c m e s = tie (a / b % 2) (mod-lt (a / b) (lib.Dec.lit< tt))
       where
         tie : (r : ℕ) → r < 2 → ((a / b + r) * b * 2 ≤ a * 2 + b) × (a * 2 ≤ (a / b + r) * b * 2 + b)
         tie zero l = let z : (a / b + 0) * b ≡ a / b * b = ap (λ (x : ℕ). x * b) (native.Mathlib.Nat.add-zero (a / b)) in (omega arith, omega arith)
-        tie (suc zero) l = let z : (a / b + 1) * b ≡ a / b * b + b = ap (λ (x : ℕ). x * b) (native.Mathlib.Numerals.add-one (a / b)) ∙ s in (omega arith, omega arith)
+        tie (suc zero) l =
+            let z : (a / b + 1) * b ≡ a / b * b + b = ap (λ (x : ℕ). x * b) (native.Mathlib.Numerals.add-one (a / b)) ∙ s in (omega arith, omega arith)
         tie (suc (suc r)) l = absurd (omega arith)
 
 -- a tie goes to the even one

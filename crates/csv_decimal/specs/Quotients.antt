@@ -1,7 +1,8 @@
 -- The number nearest to n / 10 ^ k, in millionths, is n / 10 ^ k itself, where it is below 10 ^ 9. Assumes nothing.
 use mathlib.Core.Path.{_≡_, refl, sym, ap, _∙_, subst}
 use Prim.Native.Nat.{ℕ, zero, suc, _+_, _-_, _*_, _/_, _^_, _≤_, _<_, min}
-use native.Mathlib.Nat.{le-trans, le-of-lt, lt-of-lt-of-le, lt-of-le-of-lt, lt-irrefl, mul-assoc, mul-comm, mul-left-comm, mul-one, zero-mul, mul-pos, mul-le-mul-right, mul-le-mul-left, mul-lt-mul-of-pos-right, div-lt-iff-lt-mul, one-le-pow, pow-le-pow-right}
+use native.Mathlib.Nat.{le-trans, le-of-lt, lt-of-lt-of-le, lt-of-le-of-lt, lt-irrefl, mul-assoc, mul-comm, mul-left-comm, mul-one, zero-mul, mul-pos}
+use native.Mathlib.Nat.{mul-le-mul-right, mul-le-mul-left, mul-lt-mul-of-pos-right, div-lt-iff-lt-mul, one-le-pow, pow-le-pow-right}
 use native.Mathlib.Omega.{arith}
 use native.Mathlib.Decide.{decLe}
 use mathlib.Core.Bool.{Bool, true, false, cond, true≢false}
@@ -37,7 +38,8 @@ div-of (fin false m e) (fin false i g) n d p v w =
     let r : 0 < i * up g * down e = mul-pos q (down-pos e) in
     let s : m * up e * down g * d ≡ n * (i * up g * down e) =
     ap (λ (z : ℕ). z * down g * d) a ∙ around n (down e) (down g) d ∙ ap (λ (z : ℕ). n * (z * down e)) (sym b) in
-    ap (λ (t : Bool). cond t (cond (eqb m 0) nan (inf false)) (round binary64 false (m * up e * down g) (i * up g * down e))) (ne-eqb i 0 (λ (z : i ≡ 0). lt-irrefl 0 (subst (λ (x : ℕ). 0 < x) (ap (λ (x : ℕ). x * up g) z ∙ zero-mul (up g)) q)))
+    ap (λ (t : Bool). cond t (cond (eqb m 0) nan (inf false)) (round binary64 false (m * up e * down g) (i * up g * down e)))
+    (ne-eqb i 0 (λ (z : i ≡ 0). lt-irrefl 0 (subst (λ (x : ℕ). 0 < x) (ap (λ (x : ℕ). x * up g) z ∙ zero-mul (up g)) q)))
     ∙ round-same binary64 false (m * up e * down g) (i * up g * down e) n d r p s
   where
     around : (n x y d : ℕ) → n * x * y * d ≡ n * (d * y * x)
@@ -62,7 +64,8 @@ module _ (N : ℕ) (small : N < 1000000000000000) where
   unfolding dropped
   few =
       let h : N * 2 ^ 1074 / 1000000 < 2 ^ 1104 =
-      div-lt-iff-lt-mul (lit< {m = 0} {n = 1000000} tt) .1 (lt-of-lt-of-le (mul-lt-mul-of-pos-right small (pow-pos 1074)) (lit≤ {m = 1000000000000000 * 2 ^ 1074} {n = 2 ^ 1104 * 1000000} tt)) in
+      div-lt-iff-lt-mul (lit< {m = 0} {n = 1000000} tt) .1
+      (lt-of-lt-of-le (mul-lt-mul-of-pos-right small (pow-pos 1074)) (lit≤ {m = 1000000000000000 * 2 ^ 1074} {n = 2 ^ 1104 * 1000000} tt)) in
       less (size (N * 2 ^ 1074 / 1000000)) (size-le (N * 2 ^ 1074 / 1000000) 1104 h)
     where
       less : (z : ℕ) → z ≤ 1104 → z - 53 ≤ 1051
@@ -97,7 +100,8 @@ module _ (N : ℕ) (small : N < 1000000000000000) where
   bounded : units < 2 ^ 2098
   unfolding Near
   bounded =
-      lt-of-le-of-lt (most (2 ^ 1074) units (N * 2 ^ 1074) (1000000000000000 * 2 ^ 1074) (le-of-lt (mul-lt-mul-of-pos-right small (pow-pos 1074))) (near .0)) (lit< {m = 1000000000000000 * 2 ^ 1074 + 2 ^ 1074} {n = 2 ^ 2098} tt)
+      lt-of-le-of-lt (most (2 ^ 1074) units (N * 2 ^ 1074) (1000000000000000 * 2 ^ 1074) (le-of-lt (mul-lt-mul-of-pos-right small (pow-pos 1074))) (near .0))
+      (lit< {m = 1000000000000000 * 2 ^ 1074 + 2 ^ 1074} {n = 2 ^ 2098} tt)
     where
       most : (p g a b : ℕ) → a ≤ b → g * 1000000 * 16 ≤ a * 16 + p → g ≤ b + p
       most p g a b l h = omega arith
@@ -140,7 +144,9 @@ module _ (N : ℕ) (small : N < 1000000000000000) where
       go nan v = absurd v
       go (inf t) v = absurd v
       go (fin true m e) v = absurd (true≢false (v .0))
-      go (fin false m e) v = lt-ltb 0 (m * up e * 1 + 0 * down e) (above (m * up e) (0 * down e) (some (m * up e) (subst (λ (z : ℕ). 0 < z) (sym (v .1)) (mul-pos (some-units p) (down-pos e)))))
+      go (fin false m e) v =
+          lt-ltb 0 (m * up e * 1 + 0 * down e)
+          (above (m * up e) (0 * down e) (some (m * up e) (subst (λ (z : ℕ). 0 < z) (sym (v .1)) (mul-pos (some-units p) (down-pos e)))))
         where
           above : (a b : ℕ) → 0 < a → 0 < a * 1 + b
           above a b h = omega arith

@@ -1,7 +1,8 @@
 -- The size in millionths of a number, from its value and from the fields of its pattern. Assumes nothing.
 use mathlib.Core.Path.{_≡_, refl, sym, ap, _∙_, subst}
 use Prim.Native.Nat.{ℕ, zero, suc, _+_, _-_, _*_, _/_, _%_, _^_, _≤_, _<_, min, compare}
-use native.Mathlib.Nat.{le-trans, le-of-eq, le-of-lt, lt-of-le-of-lt, mul-assoc, mul-right-comm, mul-one, zero-mul, mul-le-mul, mul-le-mul-right, le-div-iff-mul-le, add-comm}
+use native.Mathlib.Nat.{le-trans, le-of-eq, le-of-lt, lt-of-le-of-lt, mul-assoc, mul-right-comm, mul-one, zero-mul, mul-le-mul, mul-le-mul-right}
+use native.Mathlib.Nat.{le-div-iff-mul-le, add-comm}
 use native.Mathlib.Omega.{arith}
 use mathlib.Core.Bool.{Bool, true, false, not, cond}
 use lib.Dec.{T, leb, eqb, eqb→eq, not-T, lit<, lit≤}
@@ -59,7 +60,8 @@ under a h = lt-of-le-of-lt (mul-le-mul-right 2 (mul-le-mul-right 1000000 h)) (li
 
 pub low-fields : (s : Bool) (x t : ℕ) → t < 2 ^ 52 → x ≤ 1000 → millionths (ofFields binary64 s x t) ≡ 0
 low-fields s zero t h l =
-    nothing (ofFields binary64 s 0 t) s (t * 2 ^ 0) (2 ^ 1074) (pow-pos 1074) (at-low s t) (under (t * 2 ^ 0) (le-trans (le-of-eq (mul-one t)) (le-trans (le-of-lt h) (lit≤ tt))))
+    nothing (ofFields binary64 s 0 t) s (t * 2 ^ 0) (2 ^ 1074) (pow-pos 1074) (at-low s t)
+    (under (t * 2 ^ 0) (le-trans (le-of-eq (mul-one t)) (le-trans (le-of-lt h) (lit≤ tt))))
 low-fields s (suc x) t h l =
     nothing (ofFields binary64 s (suc x) t) s ((2 ^ 52 + t) * 2 ^ x) (2 ^ 1074) (pow-pos 1074) (at-normal s x t (omega arith))
     (under ((2 ^ 52 + t) * 2 ^ x) (le-trans (mul-le-mul (narrow t h) (pow-mono {i = x} {j = 999} (omega arith))) (lit≤ tt)))
@@ -67,7 +69,8 @@ low-fields s (suc x) t h l =
     narrow : (t : ℕ) → t < 2 ^ 52 → 2 ^ 52 + t ≤ 2 ^ 53
     narrow t h = omega arith
 
-pub mid-fields : (s : Bool) (x t : ℕ) → 1000 < x → x < 1053 → millionths (ofFields binary64 s x t) ≡ min (closest ((t + 2 ^ 52) * 1000000) (2 ^ (1075 - x))) 1000000000000000
+pub mid-fields : (s : Bool) (x t : ℕ) → 1000 < x → x < 1053
+    → millionths (ofFields binary64 s x t) ≡ min (closest ((t + 2 ^ 52) * 1000000) (2 ^ (1075 - x))) 1000000000000000
 mid-fields s zero t l h = absurd (omega arith)
 mid-fields s (suc x) t l h =
     let M = 2 ^ 52 + t in
@@ -75,7 +78,9 @@ mid-fields s (suc x) t l h =
     of-value (ofFields binary64 s (suc x) t) s (M * 2 ^ x) (2 ^ 1074) (pow-pos 1074) (at-normal s x t (omega arith))
     ∙ ap (λ (z : ℕ). min z 1000000000000000)
     (closest-same (M * 2 ^ x * 1000000) (2 ^ 1074) (M * 1000000) (2 ^ (1075 - suc x)) (pow-pos 1074) (pow-pos (1075 - suc x))
-    (ap (λ (z : ℕ). z * 2 ^ (1075 - suc x)) (mul-right-comm M (2 ^ x) 1000000) ∙ mul-assoc (M * 1000000) (2 ^ x) (2 ^ (1075 - suc x)) ∙ ap (λ (z : ℕ). M * 1000000 * z) e)
+    (ap (λ (z : ℕ). z * 2 ^ (1075 - suc x)) (mul-right-comm M (2 ^ x) 1000000)
+    ∙ mul-assoc (M * 1000000) (2 ^ x) (2 ^ (1075 - suc x))
+    ∙ ap (λ (z : ℕ). M * 1000000 * z) e)
     ∙ ap (λ (z : ℕ). closest (z * 1000000) (2 ^ (1075 - suc x))) (add-comm (2 ^ 52) t))
   where
     whole : (x : ℕ) → suc x < 1053 → x + (1075 - suc x) ≡ 1074
@@ -97,10 +102,14 @@ high-fields s (suc x) t l h = go (native.Mathlib.Decide.decLt (suc x) 2047)
     wide t = omega arith
 
     reach : 1000000000000000 * 2 ^ 1074 ≤ (2 ^ 52 + t) * 2 ^ x * 1000000
-    reach = le-trans (lit≤ {m = 1000000000000000 * 2 ^ 1074} {n = 2 ^ 52 * 2 ^ 1052 * 1000000} tt) (mul-le-mul-right 1000000 (mul-le-mul (wide t) (pow-mono {i = 1052} {j = x} (omega arith))))
+    reach =
+        le-trans (lit≤ {m = 1000000000000000 * 2 ^ 1074} {n = 2 ^ 52 * 2 ^ 1052 * 1000000} tt)
+        (mul-le-mul-right 1000000 (mul-le-mul (wide t) (pow-mono {i = 1052} {j = x} (omega arith))))
 
     go : Dec (suc x < 2047) → millionths (ofFields binary64 s (suc x) t) ≡ 1000000000000000
-    go (yes n) = of-value (ofFields binary64 s (suc x) t) s ((2 ^ 52 + t) * 2 ^ x) (2 ^ 1074) (pow-pos 1074) (at-normal s x t n) ∙ huge ((2 ^ 52 + t) * 2 ^ x) (2 ^ 1074) (pow-pos 1074) reach
+    go (yes n) =
+        of-value (ofFields binary64 s (suc x) t) s ((2 ^ 52 + t) * 2 ^ x) (2 ^ 1074) (pow-pos 1074) (at-normal s x t n)
+        ∙ huge ((2 ^ 52 + t) * 2 ^ x) (2 ^ 1074) (pow-pos 1074) reach
     go (no n) = top s t (suc x) (omega arith)
 
 -- ---- from the pattern

@@ -1,7 +1,8 @@
 -- A number that was read, when it is written and read again, is the same number. Assumes nothing.
 use mathlib.Core.Path.{_≡_, refl, sym, ap, _∙_, subst}
 use Prim.Native.Nat.{ℕ, zero, suc, _+_, _-_, _*_, _/_, _%_, _^_, _≤_, _<_, zero-le}
-use native.Mathlib.Nat.{le-refl, le-trans, le-of-eq, le-of-lt, lt-of-lt-of-le, zero-lt-suc, mul-assoc, mul-one, mul-pos, add-mul, pow-succ', one-le-pow, pow-le-pow-right, mod-eq-of-lt, mul-lt-mul-of-pos-right, div-add-mod', add-zero, mod-lt}
+use native.Mathlib.Nat.{le-refl, le-trans, le-of-eq, le-of-lt, lt-of-lt-of-le, zero-lt-suc, mul-assoc, mul-one, mul-pos, add-mul, pow-succ', one-le-pow}
+use native.Mathlib.Nat.{pow-le-pow-right, mod-eq-of-lt, mul-lt-mul-of-pos-right, div-add-mod', add-zero, mod-lt}
 use native.Mathlib.Omega.{arith}
 use mathlib.Core.Bool.{Bool, true, false, cond, _&&_}
 use mathlib.Core.List.{List, [], _∷_, _++_, append-nil}
@@ -108,10 +109,13 @@ module _ (s : Bool) (N : ℕ) (small : N < 1000000000000000) where
       let l : length f ≡ w = figures-length w W in
       let r : run 9 t ≡ w = run-figures 9 w W (46 ∷ g) (width-nine W small-W) (λ (i : ℕ). run-stops i 46 g refl) in
       let k : take w t ≡ f = take-at f (46 ∷ g) w l in
-      let n : W ≡ num 0 (take w t) = sym (ap (num 0) k ∙ num-figures w W 0 ∙ ap (λ (z : ℕ). 0 * 10 ^ w + z) (mod-eq-of-lt (width-holds W (omega arith))) ∙ ap (λ (z : ℕ). z + W) (native.Mathlib.Nat.zero-mul (10 ^ w)) ∙ native.Mathlib.Nat.zero-add W) in
+      let n : W ≡ num 0 (take w t) =
+      sym
+      (ap (num 0) k ∙ num-figures w W 0 ∙ ap (λ (z : ℕ). 0 * 10 ^ w + z) (mod-eq-of-lt (width-holds W (omega arith))) ∙ ap (λ (z : ℕ). z + W) (native.Mathlib.Nat.zero-mul (10 ^ w)) ∙ native.Mathlib.Nat.zero-add W) in
       let len : length t ≡ w + suc (length g) = length-append f (46 ∷ g) ∙ ap (λ (z : ℕ). z + suc (length g)) l in
       let rest : drop (w + 1) t ≡ g = ap (λ (z : ℕ). drop (z + 1) t) (sym l) ∙ drop-append-add f (46 ∷ g) 1 in
-      uns-point s t w W (sym r) n (λ (e : w ≡ 0). absurd (omega (arith, some-width W))) (λ (e : w ≡ length t). absurd (omega arith)) (getD-at f 46 g 0 w l) (Number.Value (quotient s N 6))
+      uns-point s t w W (sym r) n (λ (e : w ≡ 0). absurd (omega (arith, some-width W))) (λ (e : w ≡ length t). absurd (omega arith)) (getD-at f 46 g 0 w l)
+      (Number.Value (quotient s N 6))
       (fraction-read ∙ ap (fraction s W) (sym (tail-is t (w + 1) ∙ rest)))
 
 first-of : (k v : ℕ) (r : List ℕ) → 1 ≤ k → getD (figures k v ++ r) 0 0 ≡ 45 → ⊥
@@ -122,7 +126,9 @@ first-of (suc k) v r h e = omega arith
 pub plain-read : (N : ℕ) → N < 1000000000000000 → number (millionthsText N) ≡ Number.Value (quotient false N 6)
 unfolding millionthsText
 plain-read N h =
-    sym (no-minus (millionthsText N) (first-of (width (N / 1000000)) (N / 1000000) (46 ∷ figures 6 N) (some-width (N / 1000000))) (Number.Value (quotient false N 6)) (unsigned-read false N h))
+    sym
+    (no-minus (millionthsText N) (first-of (width (N / 1000000)) (N / 1000000) (46 ∷ figures 6 N) (some-width (N / 1000000))) (Number.Value (quotient false N 6))
+    (unsigned-read false N h))
 
 pub minus-read : (N : ℕ) → N < 1000000000000000 → number (45 ∷ millionthsText N) ≡ Number.Value (quotient true N 6)
 minus-read N h =
@@ -158,7 +164,8 @@ module _ (n k : ℕ) (l : k ≤ 6) (h : n < 10 ^ (9 + k)) where
   one-number : round binary64 false n (10 ^ k) ≡ round binary64 false N 1000000
   unfolding N
   one-number =
-      round-same binary64 false n (10 ^ k) N 1000000 (one-le-pow k 10 (lit< tt)) (lit< tt) (ap (λ (z : ℕ). n * z) (sym tens) ∙ sym (mul-assoc n (10 ^ (6 - k)) (10 ^ k)))
+      round-same binary64 false n (10 ^ k) N 1000000 (one-le-pow k 10 (lit< tt)) (lit< tt)
+      (ap (λ (z : ℕ). n * z) (sym tens) ∙ sym (mul-assoc n (10 ^ (6 - k)) (10 ^ k)))
 
   divided : div binary64 (ofInt binary64 (pos n)) (ofInt binary64 (pos (10 ^ k))) ≡ round binary64 false N 1000000
   divided = quotient-is n k n-low (le-trans l (lit≤ tt)) ∙ one-number
@@ -202,7 +209,8 @@ module _ (n k : ℕ) (l : k ≤ 6) (h : n < 10 ^ (9 + k)) where
   text-of true p = rw (size-of true, under N N-low (p refl), lt-ltb 0 N (p refl))
   text-of false p = rw (size-of false, not-under N N-low)
 
-  read-back : (s b : Bool) → b ≡ (s && ltb 0 N) → quotient s N 6 ≡ signed b → number (cond b (45 ∷ millionthsText N) (millionthsText N)) ≡ Number.Value (signed b)
+  read-back : (s b : Bool) → b ≡ (s && ltb 0 N) → quotient s N 6 ≡ signed b
+      → number (cond b (45 ∷ millionthsText N) (millionthsText N)) ≡ Number.Value (signed b)
   read-back true true e q = minus-read N N-low ∙ ap Number.Value q
   read-back false true e q = absurd (mathlib.Core.Bool.true≢false e)
   read-back s false e q = plain-read N N-low ∙ ap Number.Value (again-is false ∙ ap signed refl)
@@ -254,9 +262,13 @@ unfolding unsigned
 of-unsigned s t x e = go (eqb (run 9 t) 0) (eqb (run 9 t) (length t)) (eqb (getD t (run 9 t) 0) 46) e
   where
     low : num 0 (take (run 9 t) t) < 1000000000
-    low = lt-of-lt-of-le (num-low 9 t 0 1 (lit< tt)) (le-trans (le-of-eq (native.Mathlib.Nat.one-mul (10 ^ run 9 t))) (pow-le-pow-right (lit< {m = 0} {n = 10} tt) (run-most 9 t)))
+    low =
+        lt-of-lt-of-le (num-low 9 t 0 1 (lit< tt))
+        (le-trans (le-of-eq (native.Mathlib.Nat.one-mul (10 ^ run 9 t))) (pow-le-pow-right (lit< {m = 0} {n = 10} tt) (run-most 9 t)))
 
-    go : (a b d : Bool) → cond a Number.Bad (cond b (Number.Value (quotient s (num 0 (take (run 9 t) t)) 0)) (cond d (fraction s (num 0 (take (run 9 t) t)) (drop (suc (run 9 t)) t)) Number.Bad)) ≡ Number.Value x → Readable x
+    go : (a b d : Bool)
+        → cond a Number.Bad (cond b (Number.Value (quotient s (num 0 (take (run 9 t) t)) 0)) (cond d (fraction s (num 0 (take (run 9 t) t)) (drop (suc (run 9 t)) t)) Number.Bad)) ≡ Number.Value x
+        → Readable x
     go true b d e = absurd (no-value x e)
     go false true d e = record { sign = s; whole = num 0 (take (run 9 t) t); places = 0; few = zero-le; low = low; value = cc }
     go false false true e = of-fraction s (num 0 (take (run 9 t) t)) (drop (suc (run 9 t)) t) x low e

@@ -27,7 +27,8 @@ run-digits : (m : ℕ) (w r : List ℕ) → T (allDigits w) → length w ≤ m �
 run-digits m [] r d h e = e m
 run-digits zero (c ∷ w) r d h e = absurd (omega arith)
 run-digits (suc m) (c ∷ w) r d h e =
-    run-more m c (w ++ r) (is-true (isDigit c) (and-l (isDigit c) (allDigits w) d)) ∙ ap suc (run-digits m w r (and-r (isDigit c) (allDigits w) d) (omega arith) e)
+    run-more m c (w ++ r) (is-true (isDigit c) (and-l (isDigit c) (allDigits w) d))
+    ∙ ap suc (run-digits m w r (and-r (isDigit c) (allDigits w) d) (omega arith) e)
 
 all-run : (m : ℕ) (t : List ℕ) → T (allDigits (take (run m t) t))
 unfolding run
@@ -63,9 +64,12 @@ module _ (s : Bool) where
       let r : run 9 t ≡ a = run-digits 9 w (46 ∷ f) d h (λ (i : ℕ). run-stops i 46 f refl) in
       let len : length t ≡ a + suc (length f) = length-append w (46 ∷ f) in
       let rest : drop (a + 1) t ≡ f = drop-append-add w (46 ∷ f) 1 in
-      uns-point s t a (num 0 w) (sym r) (ap (num 0) (sym (take-at w (46 ∷ f) a refl))) (λ (z : a ≡ 0). omega arith) (λ (z : a ≡ length t). omega arith) (getD-at w 46 f 0 a refl)
+      uns-point s t a (num 0 w) (sym r) (ap (num 0) (sym (take-at w (46 ∷ f) a refl))) (λ (z : a ≡ 0). omega arith) (λ (z : a ≡ length t). omega arith)
+      (getD-at w 46 f 0 a refl)
       (Number.Value (quotient s (num 0 (w ++ f)) (length f)))
-      (ap (λ (v : ℕ). Number.Value (quotient s v (length f))) (num-append w f 0) ∙ fraction-of (num 0 w) f d′ l′ h′ ∙ ap (fraction s (num 0 w)) (sym (tail-is t (a + 1) ∙ rest)))
+      (ap (λ (v : ℕ). Number.Value (quotient s v (length f))) (num-append w f 0)
+      ∙ fraction-of (num 0 w) f d′ l′ h′
+      ∙ ap (fraction s (num 0 w)) (sym (tail-is t (a + 1) ∙ rest)))
 
 no-sign : (w r : List ℕ) → T (allDigits w) → 1 ≤ length w → getD (w ++ r) 0 0 ≡ 45 → ⊥
 no-sign [] r d l e = omega arith
@@ -110,7 +114,9 @@ module _ (s : Bool) (x : Float) where
   unfolding fraction
   of-fraction w t d l h e = go (eqb (run 6 t) 0) (eqb (run 6 t) (length t)) refl refl e
     where
-      go : (a b : Bool) → eqb (run 6 t) 0 ≡ a → eqb (run 6 t) (length t) ≡ b → cond a Number.Bad (cond b (Number.Value (quotient s (num (num 0 w) (take (run 6 t) t)) (run 6 t))) Number.Bad) ≡ Number.Value x → Plain s (w ++ (46 ∷ t)) x
+      go : (a b : Bool) → eqb (run 6 t) 0 ≡ a → eqb (run 6 t) (length t) ≡ b
+          → cond a Number.Bad (cond b (Number.Value (quotient s (num (num 0 w) (take (run 6 t) t)) (run 6 t))) Number.Bad) ≡ Number.Value x
+          → Plain s (w ++ (46 ∷ t)) x
       go true b p q e = absurd (no-value x e)
       go false false p q e = absurd (no-value x e)
       go false true p q e =
@@ -122,7 +128,11 @@ module _ (s : Bool) (x : Float) where
             whole = num 0 (w ++ t);
             places = length t;
             form = point w t d l h (subst (λ (z : List ℕ). T (allDigits z)) k (all-run 6 t)) (omega arith) (omega arith);
-            value = inner x (quotient s (num (num 0 w) (take (run 6 t) t)) (run 6 t)) e ∙ ap (λ (z : List ℕ). quotient s (num (num 0 w) z) (run 6 t)) k ∙ ap (λ (z : ℕ). quotient s z (run 6 t)) (sym (num-append w t 0)) ∙ ap (quotient s (num 0 (w ++ t))) r;
+            value =
+                inner x (quotient s (num (num 0 w) (take (run 6 t) t)) (run 6 t)) e
+                ∙ ap (λ (z : List ℕ). quotient s (num (num 0 w) z) (run 6 t)) k
+                ∙ ap (λ (z : ℕ). quotient s z (run 6 t)) (sym (num-append w t 0))
+                ∙ ap (quotient s (num 0 (w ++ t))) r;
           }
 
   of-unsigned : (t : List ℕ) → unsigned s t ≡ Number.Value x → Plain s t x
@@ -136,7 +146,8 @@ module _ (s : Bool) (x : Float) where
       w = take (run 9 t) t
 
       go : (p q r : Bool) → eqb (run 9 t) 0 ≡ p → eqb (run 9 t) (length t) ≡ q → eqb (getD t (run 9 t) 0) 46 ≡ r
-          → cond p Number.Bad (cond q (Number.Value (quotient s (num 0 (take (run 9 t) t)) 0)) (cond r (fraction s (num 0 (take (run 9 t) t)) (drop (suc (run 9 t)) t)) Number.Bad)) ≡ Number.Value x → Plain s t x
+          → cond p Number.Bad (cond q (Number.Value (quotient s (num 0 (take (run 9 t) t)) 0)) (cond r (fraction s (num 0 (take (run 9 t) t)) (drop (suc (run 9 t)) t)) Number.Bad)) ≡ Number.Value x
+          → Plain s t x
       go true q r f g i e = absurd (no-value x e)
       go false true r f g i e =
           let k : run 9 t ≡ length t = eqb-true (run 9 t) (length t) g in
@@ -157,7 +168,8 @@ module _ (s : Bool) (x : Float) where
           let j : run 9 t ≤ length t = run-length 9 t in
           let l : length (take (run 9 t) t) ≡ run 9 t = length-take-le (run 9 t) t j in
           let p : getD t (run 9 t) 0 ≡ 46 = eqb-true (getD t (run 9 t) 0) 46 i in
-          let u : t ≡ take (run 9 t) t ++ (46 ∷ drop (suc (run 9 t)) t) = split-at t (run 9 t) 0 (omega arith) ∙ ap (λ (c : ℕ). take (run 9 t) t ++ (c ∷ drop (suc (run 9 t)) t)) p in
+          let u : t ≡ take (run 9 t) t ++ (46 ∷ drop (suc (run 9 t)) t) =
+          split-at t (run 9 t) 0 (omega arith) ∙ ap (λ (c : ℕ). take (run 9 t) t ++ (c ∷ drop (suc (run 9 t)) t)) p in
           subst (λ (z : List ℕ). Plain s z x) (sym u) (of-fraction (take (run 9 t) t) (drop (suc (run 9 t)) t) (all-run 9 t) (omega arith) (omega arith) e)
 
 pub read-form : (t : List ℕ) (x : Float) → number t ≡ Number.Value x → Formed t x
@@ -169,7 +181,13 @@ read-form t x e = go t (eqb (getD t 0 0) 45) refl e
     go [] true h e = absurd (mathlib.Core.Bool.false≢true h)
     go (c ∷ t) true h e =
         let p = of-unsigned true x t e in
-        record { sign = true; whole = p .whole; places = p .places; form = subst (λ (z : ℕ). Written (z ∷ t) true (p .whole) (p .places)) (sym (eqb-true c 45 h)) (minus (p .form)); value = p .value }
+        record {
+          sign = true;
+          whole = p .whole;
+          places = p .places;
+          form = subst (λ (z : ℕ). Written (z ∷ t) true (p .whole) (p .places)) (sym (eqb-true c 45 h)) (minus (p .form));
+          value = p .value;
+        }
 
 -- ---- line numbers
 pub line-form-read : (t : List ℕ) (n : ℕ) → Numbered t n → lineNumber t ≡ Line.At n

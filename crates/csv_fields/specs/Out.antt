@@ -14,7 +14,8 @@ pub record Wrote (o : List ℕ) (n : ℕ) (t : List ℕ) (o′ : List ℕ) (r : 
 
 pub sets-append : (s t l : List ℕ) (i : ℕ) → sets l i (s ++ t) ≡ sets (sets l i s) (i + length s) t
 sets-append [] t l i = ap (λ (k : ℕ). sets l k t) (sym (add-zero i))
-sets-append (a ∷ s) t l i = let e : suc i + length s ≡ i + suc (length s) = omega arith in sets-append s t (set l i a) (suc i) ∙ ap (λ (k : ℕ). sets (sets l i (a ∷ s)) k t) e
+sets-append (a ∷ s) t l i =
+    let e : suc i + length s ≡ i + suc (length s) = omega arith in sets-append s t (set l i a) (suc i) ∙ ap (λ (k : ℕ). sets (sets l i (a ∷ s)) k t) e
 
 -- one piece after another
 pub wrote-then : {o o′ o″ t t′ : List ℕ} {n r r′ : ℕ} → Wrote o n t o′ r → Wrote o′ r t′ o″ r′ → Wrote o n (t ++ t′) o″ r′

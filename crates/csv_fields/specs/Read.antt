@@ -1,4 +1,4 @@
--- Document 01, "Row text": what the texts of numbers and of line numbers stand for. Definitions only.
+-- DEFINITIONS. What the texts of numbers and of source lines stand for: rules 7.7, 7.8. Assumes nothing.
 use Prim.Native.Nat.{ℕ, zero, suc, _+_, _-_, _*_}
 use mathlib.Core.Bool.{Bool, true, false, cond}
 use mathlib.Core.List.{List, [], _∷_}
@@ -24,14 +24,14 @@ unfoldable pub num : ℕ → List ℕ → ℕ
 num n [] = n
 num n (c ∷ t) = num (n * 10 + (c - 48)) t
 
--- "optional point with 1 to 6 digits", and no more; n is what stands before it
+-- 7.8: 1 to 6 digits behind the point, and no more; n is what stands before it
 unfoldable pub fraction : Bool → ℕ → List ℕ → Number
 unfolding run num
 fraction s n t =
     cond (eqb (run 6 t) 0) Number.Bad
     (cond (eqb (run 6 t) (length t)) (Number.Value (quotient s (num n (take (run 6 t) t)) (run 6 t))) Number.Bad)
 
--- "1 to 9 digits", and then nothing, or a point and its digits
+-- 7.8: 1 to 9 digits, and then nothing, or a point and its digits
 unfoldable pub unsigned : Bool → List ℕ → Number
 unfolding run num fraction
 unsigned s t =
@@ -39,12 +39,12 @@ unsigned s t =
     (cond (eqb (run 9 t) (length t)) (Number.Value (quotient s (num 0 (take (run 9 t) t)) 0))
     (cond (eqb (getD t (run 9 t) 0) 46) (fraction s (num 0 (take (run 9 t) t)) (drop (suc (run 9 t)) t)) Number.Bad))
 
--- "optional minus"
+-- 7.8: a minus, or none
 unfoldable pub number : List ℕ → Number
 unfolding unsigned
 number t = cond (eqb (getD t 0 0) 45) (unsigned true (drop 1 t)) (unsigned false t)
 
--- "Line numbers 0 to 4294967295, 1 to 10 digits"
+-- 7.7: 1 to 10 digits, below 2 ^ 32
 unfoldable pub lineNumber : List ℕ → Line
 unfolding run num
 lineNumber t =

@@ -46,7 +46,8 @@ module _ (s : Bool) (t : List ℕ) (k v : ℕ) (e : k ≡ run 9 t) (w : v ≡ nu
   unfolding unsigned
   uns-whole z l x q = rw (← e, ne-eqb k 0 z, eq-eqb k (length t) l, ← w) (ap Number.Value q)
 
-  pub uns-point : (k ≡ 0 → ⊥) → (k ≡ length t → ⊥) → getD t k 0 ≡ 46 → (r : Number) → r ≡ fraction s v (take (length t - (k + 1)) (drop (k + 1) t)) → r ≡ unsigned s t
+  pub uns-point : (k ≡ 0 → ⊥) → (k ≡ length t → ⊥) → getD t k 0 ≡ 46 → (r : Number) → r ≡ fraction s v (take (length t - (k + 1)) (drop (k + 1) t))
+      → r ≡ unsigned s t
   unfolding unsigned
   uns-point z l p r q =
       rw (← e, ne-eqb k 0 z, ne-eqb k (length t) l, eq-eqb (getD t k 0) 46 p, ← w)

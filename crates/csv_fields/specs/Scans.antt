@@ -96,7 +96,8 @@ room {s} {most} {start} {i} {n} c h e =
     small : (i most : ℕ) → i ≤ most → most ≤ 10 → (i ≡ most → ⊥) → i ≤ 9
     small i most a b e = omega arith
 
-pub turns : (s : List ℕ) (most start i n : ℕ) → Scanning s most start i n → i < length s → (i ≡ most → ⊥) → 48 ≤ getD s i 0 → getD s i 0 < 58 → (d : ℕ) → d ≡ getD s i 0 - 48
+pub turns : (s : List ℕ) (most start i n : ℕ) → Scanning s most start i n → i < length s → (i ≡ most → ⊥) → 48 ≤ getD s i 0 → getD s i 0 < 58 → (d : ℕ)
+    → d ≡ getD s i 0 - 48
     → Scanning s most start (i + 1) (n * 10 + d)
 turns s most start i n c h e l u d w =
     let b = getD s i 0 in
@@ -165,4 +166,5 @@ num-low (suc m) (c ∷ t) n b h = go (isDigit c) (ltb c 48) (ltb c 58) refl refl
     go true l u e f g ih =
         let k = run m t in
         let x : c < 58 = borrow.Author.Tests.ltb-true c 58 (upper (ltb c 48) (ltb c 58) e) in
-        lt-of-lt-of-le (ih (n * 10 + (c - 48)) (b * 10) (omega arith)) (native.Mathlib.Nat.le-of-eq (mul-assoc b 10 (10 ^ k) ∙ ap (λ (z : ℕ). b * z) (native.Mathlib.Nat.mul-comm 10 (10 ^ k) ∙ sym (pow-suc 10 k))))
+        lt-of-lt-of-le (ih (n * 10 + (c - 48)) (b * 10) (omega arith))
+        (native.Mathlib.Nat.le-of-eq (mul-assoc b 10 (10 ^ k) ∙ ap (λ (z : ℕ). b * z) (native.Mathlib.Nat.mul-comm 10 (10 ^ k) ∙ sym (pow-suc 10 k))))

@@ -1,4 +1,4 @@
--- Document 01, "Row text": how numbers and line numbers are written. Definitions only.
+-- DEFINITIONS. How numbers and source lines are written: rules 7.7, 7.10, 7.11. Assumes nothing.
 use Prim.Native.Nat.{ℕ, zero, suc, _+_, _/_, _%_, _^_}
 use mathlib.Core.Bool.{Bool, cond, _&&_}
 use mathlib.Core.Path.{_≡_}
@@ -20,17 +20,17 @@ figures (suc k) v = (48 + v / 10 ^ k % 10) ∷ figures k v
 abbrev pub wholeText : ℕ → List ℕ
 wholeText v = figures (width v) v
 
--- n millionths, with "six decimals"
+-- n millionths, with six decimals
 unfoldable pub millionthsText : ℕ → List ℕ
 unfolding figures
 millionthsText n = wholeText (n / 1000000) ++ (46 ∷ figures 6 n)
 
--- "no sign on zero": a minus only in front of what is not all zeros
+-- 7.10: a minus only in front of what is not all zeros
 unfoldable pub numberText : Float → List ℕ
 unfolding millionthsText
 numberText x = cond (lt x (ofBits binary64 0) && ltb 0 (millionths x)) (45 ∷ millionthsText (millionths x)) (millionthsText (millionths x))
 
--- "an output number that rounds to 10^9 or more in size" is refused, and so are the infinities and NaN
+-- 7.11: what has a text; the infinities and NaN have none
 abbrev pub shown : Float → Bool
 shown x = ltb (millionths x) 1000000000000000
 

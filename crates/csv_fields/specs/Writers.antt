@@ -56,7 +56,8 @@ pub seven-left : {o o′ : List ℕ} {n r : ℕ} (v : ℕ) → Wrote o n (wholeT
 seven-left v w h l = omega (arith, w .next, whole-length v, width-nine v l, wrote-length w)
 
 -- ---- n millionths
-pub in-three : {o o₁ o₂ o₃ : List ℕ} {n a b r : ℕ} (v : ℕ) → Wrote o n (wholeText (v / 1000000)) o₁ a → Wrote o₁ a (46 ∷ []) o₂ b → Wrote o₂ b (figures 6 v) o₃ r
+pub in-three : {o o₁ o₂ o₃ : List ℕ} {n a b r : ℕ} (v : ℕ) → Wrote o n (wholeText (v / 1000000)) o₁ a → Wrote o₁ a (46 ∷ []) o₂ b
+    → Wrote o₂ b (figures 6 v) o₃ r
     → Wrote o n (millionthsText v) o₃ r
 unfolding millionthsText
 in-three v x y z = wrote-then x (wrote-then y z)
@@ -75,14 +76,17 @@ module _ (x : Float) (o : List ℕ) (n v : ℕ) (e : v ≡ millionths x) where
         text = rw (← e, lt-ltb v 1000000000000000 h, k) (w .text);
       }
 
-  pub not-below : (o′ : List ℕ) (r : ℕ) → v < 1000000000000000 → lt x (ofBits binary64 0) ≡ false → Wrote o n (millionthsText v) o′ r → Put x o n o′ (Placed.Upto r)
+  pub not-below : (o′ : List ℕ) (r : ℕ) → v < 1000000000000000 → lt x (ofBits binary64 0) ≡ false → Wrote o n (millionthsText v) o′ r
+      → Put x o n o′ (Placed.Upto r)
   unfolding numberText
   not-below o′ r h l w = put-text o′ (millionthsText v) r h (rw (l, ← e)) w
 
-  pub all-zeros : (o′ : List ℕ) (r : ℕ) → v < 1000000000000000 → v ≤ 0 → lt x (ofBits binary64 0) ≡ true → Wrote o n (millionthsText v) o′ r → Put x o n o′ (Placed.Upto r)
+  pub all-zeros : (o′ : List ℕ) (r : ℕ) → v < 1000000000000000 → v ≤ 0 → lt x (ofBits binary64 0) ≡ true → Wrote o n (millionthsText v) o′ r
+      → Put x o n o′ (Placed.Upto r)
   unfolding numberText
   all-zeros o′ r h z l w = put-text o′ (millionthsText v) r h (rw (l, ← e, le-ltb 0 v z)) w
 
-  pub with-minus : {o₁ o′ : List ℕ} {a r : ℕ} → v < 1000000000000000 → 0 < v → lt x (ofBits binary64 0) ≡ true → Wrote o n (45 ∷ []) o₁ a → Wrote o₁ a (millionthsText v) o′ r → Put x o n o′ (Placed.Upto r)
+  pub with-minus : {o₁ o′ : List ℕ} {a r : ℕ} → v < 1000000000000000 → 0 < v → lt x (ofBits binary64 0) ≡ true → Wrote o n (45 ∷ []) o₁ a
+      → Wrote o₁ a (millionthsText v) o′ r → Put x o n o′ (Placed.Upto r)
   unfolding numberText
   with-minus {o₁} {o′} {a} {r} h p l w z = put-text o′ (45 ∷ millionthsText v) r h (rw (l, ← e, lt-ltb 0 v p)) (wrote-then w z)

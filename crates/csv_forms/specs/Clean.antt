@@ -41,7 +41,14 @@ digit-clean c h = go (ltb c 48) refl h
     go true e h = absurd h
     go false e h =
         let l = ltb-false c 48 e in
-        rw (ne-eqb c 34 (λ (z : c ≡ 34). omega arith), ne-eqb c comma (λ (z : c ≡ 44). omega arith), ne-eqb c 13 (λ (z : c ≡ 13). omega arith), ne-eqb c 10 (λ (z : c ≡ 10). omega arith)) tt
+        rw (
+          ne-eqb c 34 (λ (z : c ≡ 34). omega arith),
+          ne-eqb c comma (λ (z : c ≡ 44). omega arith),
+          ne-eqb c 13 (λ (z : c ≡ 13). omega arith),
+          ne-eqb c 10
+              (λ (z : c ≡ 10). omega arith),
+        )
+        tt
 
 pub digits-clean : (t : List ℕ) → T (allDigits t) → T (clean t)
 digits-clean [] h = tt
@@ -69,7 +76,8 @@ alone : (f : List ℕ) → T (clean f) → parted f ≡ f ∷ []
 unfolding parted
 alone [] h = refl
 alone (c ∷ f) h =
-    ap (λ (b : Bool). cond b ([] ∷ parted f) (onFirst c (parted f))) (no-comma c (and-l (cleanByte c) (clean f) h)) ∙ ap (onFirst c) (alone f (and-r (cleanByte c) (clean f) h))
+    ap (λ (b : Bool). cond b ([] ∷ parted f) (onFirst c (parted f))) (no-comma c (and-l (cleanByte c) (clean f) h))
+    ∙ ap (onFirst c) (alone f (and-r (cleanByte c) (clean f) h))
 
 abbrev pub cleanAll : List (List ℕ) → Bool
 cleanAll [] = true
@@ -78,16 +86,19 @@ cleanAll (f ∷ fs) = clean f && cleanAll fs
 pub parted-joined : (f : List ℕ) (fs : List (List ℕ)) → T (clean f) → T (cleanAll fs) → parted (joined (f ∷ fs)) ≡ f ∷ fs
 unfolding joined tailed
 parted-joined f [] a b = ap parted (append-nil f) ∙ alone f a
-parted-joined f (g ∷ fs) a b = front f (g ++ tailed fs) a ∙ ap (λ (l : List (List ℕ)). f ∷ l) (parted-joined g fs (and-l (clean g) (cleanAll fs) b) (and-r (clean g) (cleanAll fs) b))
+parted-joined f (g ∷ fs) a b =
+    front f (g ++ tailed fs) a ∙ ap (λ (l : List (List ℕ)). f ∷ l) (parted-joined g fs (and-l (clean g) (cleanAll fs) b) (and-r (clean g) (cleanAll fs) b))
 
 pub clean-all-append : (fs gs : List (List ℕ)) → T (cleanAll fs) → T (cleanAll gs) → T (cleanAll (fs ++ gs))
 clean-all-append [] gs a b = b
-clean-all-append (f ∷ fs) gs a b = and-i (clean f) (cleanAll (fs ++ gs)) (and-l (clean f) (cleanAll fs) a) (clean-all-append fs gs (and-r (clean f) (cleanAll fs) a) b)
+clean-all-append (f ∷ fs) gs a b =
+    and-i (clean f) (cleanAll (fs ++ gs)) (and-l (clean f) (cleanAll fs) a) (clean-all-append fs gs (and-r (clean f) (cleanAll fs) a) b)
 
 pub clean-upto : (g : ℕ → List ℕ) (n : ℕ) → ((i : ℕ) → i < n → T (clean (g i))) → T (cleanAll (upto g n))
 unfolding upto
 clean-upto g zero h = tt
-clean-upto g (suc n) h = clean-all-append (upto g n) (g n ∷ []) (clean-upto g n (λ (i : ℕ) (l : i < n). h i (omega arith))) (and-i (clean (g n)) true (h n (omega arith)) tt)
+clean-upto g (suc n) h =
+    clean-all-append (upto g n) (g n ∷ []) (clean-upto g n (λ (i : ℕ) (l : i < n). h i (omega arith))) (and-i (clean (g n)) true (h n (omega arith)) tt)
 
 -- ---- and joined as it was parted
 first-joined : (c : ℕ) (fs : List (List ℕ)) → joined (onFirst c fs) ≡ c ∷ joined fs
@@ -125,6 +136,9 @@ joined-parted (c ∷ t) = go (eqb c comma) refl (some-parts t) (joined-parted t)
   where
     go : (b : Bool) → eqb c comma ≡ b → Some (parted t) → joined (parted t) ≡ t → joined (cond b ([] ∷ parted t) (onFirst c (parted t))) ≡ c ∷ t
     go true e s r =
-        ap (λ (fs : List (List ℕ)). joined ([] ∷ fs)) (s .is) ∙ gap-joined (s .head) (s .tail) ∙ ap (λ (fs : List (List ℕ)). comma ∷ joined fs) (sym (s .is)) ∙ ap (λ (u : List ℕ). comma ∷ u) r
+        ap (λ (fs : List (List ℕ)). joined ([] ∷ fs)) (s .is)
+        ∙ gap-joined (s .head) (s .tail)
+        ∙ ap (λ (fs : List (List ℕ)). comma ∷ joined fs) (sym (s .is))
+        ∙ ap (λ (u : List ℕ). comma ∷ u) r
         ∙ ap (λ (z : ℕ). z ∷ t) (sym (borrow.Author.Tests.eqb-true c comma e))
     go false e s r = first-joined c (parted t) ∙ ap (λ (u : List ℕ). c ∷ u) r

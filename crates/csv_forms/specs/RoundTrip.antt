@@ -113,7 +113,20 @@ text-at g (suc (suc (suc (suc (suc (suc (suc (suc (suc (suc (suc k))))))))))) h 
 cells-same : (cs ds : List (List ℕ)) → ((i : ℕ) → i < 11 → given (getD cs i []) ≡ given (getD ds i [])) → cellsIn cs ≡ cellsIn ds
 unfolding cellsIn cellIn upto
 cells-same cs ds h =
-    rw (h 0 (lit< tt), h 1 (lit< tt), h 2 (lit< tt), h 3 (lit< tt), h 4 (lit< tt), h 5 (lit< tt), h 6 (lit< tt), h 7 (lit< tt), h 8 (lit< tt), h 9 (lit< tt), h 10 (lit< tt))
+    rw (
+      h 0 (lit< tt),
+      h 1 (lit< tt),
+      h 2 (lit< tt),
+      h 3 (lit< tt),
+      h 4 (lit< tt),
+      h 5 (lit< tt),
+      h 6 (lit< tt),
+      h 7 (lit< tt),
+      h 8 (lit< tt),
+      h 9 (lit< tt),
+      h 10
+          (lit< tt),
+    )
 
 -- ---- a number that was read keeps its bits
 quotient-fits : (s : Bool) (n k : ℕ) → T (fits binary64 (quotient s n k))
@@ -137,7 +150,8 @@ module _ (r : List ℕ) (i : ℕ) where
   unfolding cellShown cellText cellOk given
   cell-absent h = record { may = rw h; good = rw h; same = rw h }
 
-  cell-present : (x : Float) → has (presentOf r) (codeAt i) ≡ true → num (getD r (rCells + codeAt i) 0) ≡ x → (shown x ≡ true) × (number (numberText x) ≡ Number.Value x) → Again r i (some (bits x))
+  cell-present : (x : Float) → has (presentOf r) (codeAt i) ≡ true → num (getD r (rCells + codeAt i) 0) ≡ x
+      → (shown x ≡ true) × (number (numberText x) ≡ Number.Value x) → Again r i (some (bits x))
   unfolding cellShown cellText cellOk given
   cell-present x h e a =
       let t = numberText x in
@@ -155,7 +169,8 @@ module _ (n a b : ℕ) (cs : List (List ℕ)) where
   again : (i : ℕ) → i < 11 → CellForm (getD cs i []) (given (getD cs i [])) → Again (rowOf n a b 0 0 (cellsIn cs)) i (given (getD cs i []))
   again i h c = go (getD cs i []) (given (getD cs i [])) c (present-is i h) (word-of n a b cs i h)
     where
-      go : (f : List ℕ) (o : Option ℕ) → CellForm f o → has (presentOf (rowOf n a b 0 0 (cellsIn cs))) (codeAt i) ≡ isSome o → getD (rowOf n a b 0 0 (cellsIn cs)) (rCells + codeAt i) 0 ≡ Option·getD o 0
+      go : (f : List ℕ) (o : Option ℕ) → CellForm f o → has (presentOf (rowOf n a b 0 0 (cellsIn cs))) (codeAt i) ≡ isSome o
+          → getD (rowOf n a b 0 0 (cellsIn cs)) (rCells + codeAt i) 0 ≡ Option·getD o 0
           → Again (rowOf n a b 0 0 (cellsIn cs)) i o
       go f o absent p w = cell-absent (rowOf n a b 0 0 (cellsIn cs)) i p
       go f o (present {t = t} {s = s} {n = m} {k = k} v) p w =
@@ -219,10 +234,12 @@ number-clean x = go (lt x (ofBits binary64 0) && ltb 0 (millionths x))
   where
     bare : T (clean (wholeText (millionths x / 1000000) ++ (46 ∷ figures 6 (millionths x))))
     bare =
-        clean-append (wholeText (millionths x / 1000000)) (46 ∷ figures 6 (millionths x)) (digits-clean (wholeText (millionths x / 1000000)) (figures-digits (width (millionths x / 1000000)) (millionths x / 1000000)))
+        clean-append (wholeText (millionths x / 1000000)) (46 ∷ figures 6 (millionths x))
+        (digits-clean (wholeText (millionths x / 1000000)) (figures-digits (width (millionths x / 1000000)) (millionths x / 1000000)))
         (and-i true (clean (figures 6 (millionths x))) tt (digits-clean (figures 6 (millionths x)) (figures-digits 6 (millionths x))))
 
-    go : (b : Bool) → T (clean (cond b (45 ∷ (wholeText (millionths x / 1000000) ++ (46 ∷ figures 6 (millionths x)))) (wholeText (millionths x / 1000000) ++ (46 ∷ figures 6 (millionths x)))))
+    go : (b : Bool)
+        → T (clean (cond b (45 ∷ (wholeText (millionths x / 1000000) ++ (46 ∷ figures 6 (millionths x)))) (wholeText (millionths x / 1000000) ++ (46 ∷ figures 6 (millionths x)))))
     go true = and-i true (clean (wholeText (millionths x / 1000000) ++ (46 ∷ figures 6 (millionths x)))) tt bare
     go false = bare
 
@@ -258,8 +275,11 @@ written-is-clean r e =
     let w : T (clean (wordAt (motionOf r))) = word-clean (motionOf r) (omega arith) in
     let v : T (clean (planeText (planeOf r))) = word-clean (planeOf r - 1) (omega arith) in
     let cs = upto (cellText r) columnCount in
-    let c : T (cleanAll (cs ++ (markText r ∷ []))) = clean-all-append cs (markText r ∷ []) (clean-upto (cellText r) columnCount (λ (i : ℕ) (h : i < columnCount). cell-text-clean r i)) (and-i (clean (markText r)) true (mark-clean r) tt) in
-    let rest : T (cleanAll (wordAt (motionOf r) ∷ planeText (planeOf r) ∷ (cs ++ (markText r ∷ [])))) = and-i (clean (wordAt (motionOf r))) _ w (and-i (clean (planeText (planeOf r))) _ v c) in
+    let c : T (cleanAll (cs ++ (markText r ∷ []))) =
+    clean-all-append cs (markText r ∷ []) (clean-upto (cellText r) columnCount (λ (i : ℕ) (h : i < columnCount). cell-text-clean r i))
+    (and-i (clean (markText r)) true (mark-clean r) tt) in
+    let rest : T (cleanAll (wordAt (motionOf r) ∷ planeText (planeOf r) ∷ (cs ++ (markText r ∷ [])))) =
+    and-i (clean (wordAt (motionOf r))) _ w (and-i (clean (planeText (planeOf r))) _ v c) in
     record {
       no-quote-comma-cr-lf = and-i (clean (wholeText (lineOf r))) _ l rest;
       fields = parted-joined (wholeText (lineOf r)) (wordAt (motionOf r) ∷ planeText (planeOf r) ∷ (cs ++ (markText r ∷ []))) l rest;

@@ -38,7 +38,7 @@ pub data CellForm : List ℕ → Option ℕ → Type 0 where
   absent : CellForm [] none
   present : {t : List ℕ} {s : Bool} {n k : ℕ} → Written t s n k → CellForm t (some (bits (quotient s n k)))
 
--- "Fields: source line, motion word, plane word, then cells as headed": fs are those fields, and row is their row
+-- 7.4: fs are the fields of a line, and row is their row
 pub record FieldsForm (fs : List (List ℕ)) (row : List ℕ) : Type 0 where
   pub lineField : List ℕ
   pub motionField : List ℕ
@@ -115,7 +115,8 @@ no-row row e = let z : _≡_ {A = ℕ} 0 1 = cc in omega arith
 same-row : (a b : List ℕ) → _≡_ {A = Option (List ℕ)} (some a) (some b) → b ≡ a
 same-row a b e = cc
 
-of-cells : (l m p : List ℕ) (n a b : ℕ) (cs : List (List ℕ)) (row : List ℕ) → Numbered l n → (wordAt a ≡ m) × (a < 16) → (planeText b ≡ p) × (planeOk b ≡ true) → fromCells n a b cs ≡ some row
+of-cells : (l m p : List ℕ) (n a b : ℕ) (cs : List (List ℕ)) (row : List ℕ) → Numbered l n → (wordAt a ≡ m) × (a < 16) → (planeText b ≡ p) × (planeOk b ≡ true)
+    → fromCells n a b cs ≡ some row
     → FieldsForm (l ∷ m ∷ p ∷ cs) row
 unfolding fromCells cellsOk
 of-cells l m p n a b cs row x y z e = go (cellsOk cs) refl e
@@ -141,7 +142,8 @@ of-cells l m p n a b cs row x y z e = go (cellsOk cs) refl e
           row-is = same-row (rowOf n a b 0 0 (cellsIn cs)) row e;
         }
 
-of-plane : (l m : List ℕ) (n a : ℕ) (fs : List (List ℕ)) (row : List ℕ) → Numbered l n → (wordAt a ≡ m) × (a < 16) → fromPlane n a fs ≡ some row → FieldsForm (l ∷ m ∷ fs) row
+of-plane : (l m : List ℕ) (n a : ℕ) (fs : List (List ℕ)) (row : List ℕ) → Numbered l n → (wordAt a ≡ m) × (a < 16) → fromPlane n a fs ≡ some row
+    → FieldsForm (l ∷ m ∷ fs) row
 of-plane l m n a [] row x y e = absurd (no-row row e)
 of-plane l m n a (p ∷ fs) row x y e = go (planeOf p) refl e
   where
@@ -179,19 +181,26 @@ pub fields-read : (fs : List (List ℕ)) (row : List ℕ) → FieldsForm fs row 
 unfolding fromCells cellsOk
 fields-read fs row f =
     let cs = f .cellFields in
-    let ok : cellsOk cs ≡ true = both (eqb (length cs) columnCount) _ (eq-eqb (length cs) columnCount (f .count)) (all-of columnCount (λ (i : ℕ). cellOk (getD cs i [])) (λ (i : ℕ) (k : i < columnCount). form-cell (getD cs i []) (given (getD cs i [])) (f .cells-are i k) .0)) in
+    let ok : cellsOk cs ≡ true =
+    both (eqb (length cs) columnCount) _ (eq-eqb (length cs) columnCount (f .count))
+    (all-of columnCount (λ (i : ℕ). cellOk (getD cs i [])) (λ (i : ℕ) (k : i < columnCount). form-cell (getD cs i []) (given (getD cs i [])) (f .cells-are i k) .0)) in
     ap fromLine (f .parts)
     ∙ ap (λ (x : Line). numbered x (λ (n : ℕ). fromMotion n (f .motionField ∷ f .planeField ∷ cs))) (line-form-read (f .lineField) (f .line) (f .line-is))
-    ∙ ap (λ (x : Found). coded x (λ (c : ℕ). fromPlane (f .line) c (f .planeField ∷ cs))) (ap motionOf (sym (f .motion-is .0)) ∙ motion-again (f .motion) (f .motion-is .1))
-    ∙ ap (λ (x : Found). coded x (λ (c : ℕ). fromCells (f .line) (f .motion) c cs)) (ap planeOf (sym (f .plane-is .0)) ∙ plane-is-read (f .plane) (f .plane-is .1))
+    ∙ ap (λ (x : Found). coded x (λ (c : ℕ). fromPlane (f .line) c (f .planeField ∷ cs)))
+    (ap motionOf (sym (f .motion-is .0)) ∙ motion-again (f .motion) (f .motion-is .1))
+    ∙ ap (λ (x : Found). coded x (λ (c : ℕ). fromCells (f .line) (f .motion) c cs))
+    (ap planeOf (sym (f .plane-is .0)) ∙ plane-is-read (f .plane) (f .plane-is .1))
     ∙ ap (λ (b : Bool). cond b (some (rowOf (f .line) (f .motion) (f .plane) 0 0 (cellsIn cs))) none) ok
     ∙ ap some (sym (f .row-is))
 
-pub fields-clean : (fs : List (List ℕ)) (row : List ℕ) (f : FieldsForm fs row) → T (clean (f .lineField)) × T (cleanAll (f .motionField ∷ f .planeField ∷ f .cellFields))
+pub fields-clean : (fs : List (List ℕ)) (row : List ℕ) (f : FieldsForm fs row)
+    → T (clean (f .lineField)) × T (cleanAll (f .motionField ∷ f .planeField ∷ f .cellFields))
 fields-clean fs row f =
     let m : T (clean (f .motionField)) = subst (λ (w : List ℕ). T (clean w)) (f .motion-is .0) (word-clean (f .motion) (omega (arith, f .motion-is .1))) in
     let p : T (clean (f .planeField)) = subst (λ (w : List ℕ). T (clean w)) (f .plane-is .0) (plane-clean (f .plane) (f .plane-is .1)) in
-    let c : T (cleanAll (f .cellFields)) = clean-list (f .cellFields) (λ (i : ℕ) (l : i < length (f .cellFields)). cell-clean (getD (f .cellFields) i []) (given (getD (f .cellFields) i [])) (f .cells-are i (subst (λ (n : ℕ). i < n) (f .count) l))) in
+    let c : T (cleanAll (f .cellFields)) =
+    clean-list (f .cellFields)
+    (λ (i : ℕ) (l : i < length (f .cellFields)). cell-clean (getD (f .cellFields) i []) (given (getD (f .cellFields) i [])) (f .cells-are i (subst (λ (n : ℕ). i < n) (f .count) l))) in
     (digits-clean (f .lineField) (f .line-is .digits), and-i (clean (f .motionField)) _ m (and-i (clean (f .planeField)) _ p c))
 
 -- The reader accepts all of it: a text of the layout's form is read as its row.
@@ -200,5 +209,8 @@ unfolding readRow
 form-is-accepted t row r =
     let f = r .form in
     let k = fields-clean (r .fields) row f in
-    let e : parted t ≡ r .fields = ap parted (r .text ∙ ap joined (f .parts)) ∙ parted-joined (f .lineField) (f .motionField ∷ f .planeField ∷ f .cellFields) (k .0) (k .1) ∙ sym (f .parts) in
+    let e : parted t ≡ r .fields =
+    ap parted (r .text ∙ ap joined (f .parts))
+    ∙ parted-joined (f .lineField) (f .motionField ∷ f .planeField ∷ f .cellFields) (k .0) (k .1)
+    ∙ sym (f .parts) in
     ap fromLine e ∙ fields-read (r .fields) row f

@@ -5,7 +5,7 @@ use csv_out::Run;
 use libc::STDERR_FILENO;
 use libc::STDOUT_FILENO;
 ghost use mathlib.Core.Path.{_≡_};
-ghost use Prim.Native.Nat.{ℕ, _≤_};
+ghost use Prim.Native.Nat.{_≤_};
 ghost use lib.ListN.{length};
 ghost use Rattle.csv_io.specs.Flush.{HandedOver, Flushed, Emptied};
 ghost use Rattle.csv_io.specs.Status.{ended, statusOf};

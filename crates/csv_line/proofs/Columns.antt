@@ -27,7 +27,9 @@ code-mid i l h = go (i - 3) (back i l) (omega arith)
     back i l = omega arith
 
     go : (k : ℕ) → k + 3 ≡ i → k < 7 → i + 12 ≡ codeAt i
-    go k e h = subst (λ (j : ℕ). j + 12 ≡ codeAt j) e (eqb-true (k + 3 + 12) (codeAt (k + 3)) (all-at 7 (λ (k : ℕ). eqb (k + 3 + 12) (codeAt (k + 3))) middle-codes k h))
+    go k e h =
+        subst (λ (j : ℕ). j + 12 ≡ codeAt j) e
+        (eqb-true (k + 3 + 12) (codeAt (k + 3)) (all-at 7 (λ (k : ℕ). eqb (k + 3 + 12) (codeAt (k + 3))) middle-codes k h))
 
 pub code-last : (i : ℕ) → 10 ≤ i → i < 11 → 11 ≡ codeAt i
 code-last i l h = let e : 10 ≡ i = omega arith in subst (λ (j : ℕ). 11 ≡ codeAt j) e refl

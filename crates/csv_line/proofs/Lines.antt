@@ -65,7 +65,10 @@ module _ {a b : List ℕ} {i : ℕ} (c : Comparing a b i) where
       record {
         within = omega arith;
         long = c .long;
-        left = parts h ∙ ap (λ (z : Bool). z && same (drop (suc i) a) (drop (suc i) b)) (eq-eqb (getD a i 0) (getD b i 0) e) ∙ ap (λ (k : ℕ). same (drop k a) (drop k b)) (sym (add-one i));
+        left =
+            parts h
+            ∙ ap (λ (z : Bool). z && same (drop (suc i) a) (drop (suc i) b)) (eq-eqb (getD a i 0) (getD b i 0) e)
+            ∙ ap (λ (k : ℕ). same (drop k a) (drop k b)) (sym (add-one i));
       }
 
   pub same-not : i < length a → (getD a i 0 ≡ getD b i 0 → ⊥) → false ≡ same a b
@@ -75,7 +78,12 @@ module _ {a b : List ℕ} {i : ℕ} (c : Comparing a b i) where
   same-all h =
       let e : i ≡ length a = omega (arith, c .within) in
       let f : i ≡ length b = omega (arith, c .long) in
-      sym (c .left ∙ ap (λ (k : ℕ). same (drop k a) (drop i b)) e ∙ ap (λ (k : ℕ). same (drop (length a) a) (drop k b)) f ∙ ap (λ (l : List ℕ). same l (drop (length b) b)) (drop-length a) ∙ ap (same []) (drop-length b))
+      sym
+      (c .left
+      ∙ ap (λ (k : ℕ). same (drop k a) (drop i b)) e
+      ∙ ap (λ (k : ℕ). same (drop (length a) a) (drop k b)) f
+      ∙ ap (λ (l : List ℕ). same l (drop (length b) b)) (drop-length a)
+      ∙ ap (same []) (drop-length b))
 
 -- ---- `put_bytes`: the first i bytes of s are stored
 pub record Storing (s o : List ℕ) (n i : ℕ) (o′ : List ℕ) : Type 0 where
@@ -104,7 +112,8 @@ stored-all {s} {o} {o′} {n} {i} c h =
     record { next = ap (λ (k : ℕ). n + k) e; text = c .text ∙ ap (λ (k : ℕ). sets o n (take k s)) e ∙ ap (sets o n) (take-length s) }
 
 -- ---- a line of standard error
-module _ {o o₁ o₂ o₃ : List ℕ} {n a b c : ℕ} (line number : ℕ) (u : Wrote o n (wholeText line) o₁ a) (v : Wrote o₁ a (comma ∷ []) o₂ b) (w : Wrote o₂ b (wholeText number) o₃ c) where
+module _ {o o₁ o₂ o₃ : List ℕ} {n a b c : ℕ} (line number : ℕ) (u : Wrote o n (wholeText line) o₁ a) (v : Wrote o₁ a (comma ∷ []) o₂ b)
+    (w : Wrote o₂ b (wholeText number) o₃ c) where
   pub warned : {o′ : List ℕ} {r : ℕ} → Wrote o₃ c crlf o′ r → Wrote o n (noticeText line number false) o′ r
   unfolding noticeText
   warned z = wrote-then u (wrote-then (wrote-then v w) z)

@@ -1,4 +1,4 @@
--- Document 01, "Row text", and RFC 4180, section 2: lines, fields and headers. Definitions only.
+-- DEFINITIONS. Lines, fields and headers: rules 7.2 to 7.4, and RFC 4180, section 2. Assumes nothing.
 use Prim.Native.Nat.{ℕ, suc, _+_, _-_}
 use mathlib.Core.Bool.{cond}
 use mathlib.Core.List.{List, [], _∷_, _++_}
@@ -11,7 +11,7 @@ use Rattle.csv_line.specs.declared.End.the-variants as End
 abbrev pub comma : ℕ
 comma = 44
 
--- "Every line ends CRLF"
+-- 7.3: the end of every line
 abbrev pub crlf : List ℕ
 crlf = 13 ∷ 10 ∷ []
 
@@ -21,14 +21,14 @@ endOf s =
     cond (ltb (length s) 2) End.Bad
     (cond (eqb (getD s (length s - 2) 0) 13) (cond (eqb (getD s (length s - 2 + 1) 0) 10) (End.Upto (length s - 2)) End.Bad) End.Bad)
 
--- "The headers are those shown"
+-- 7.2: the header in, and the one out
 abbrev pub header : List ℕ
 header = bytes "line_no,gg01_motion,gg06_plane_select,X,Y,Z,I,J,K,CR,TURN,PW,SD,F"
 
 abbrev pub headerOut : List ℕ
 headerOut = bytes "line_no,gg01_motion,gg06_plane_select,X,Y,Z,I,J,K,CR,TURN,PW,SD,F,flattened"
 
--- "Fields: source line, motion word, plane word, then cells as headed": the codes of X Y Z I J K CR TURN PW SD F
+-- 7.4: the codes of X Y Z I J K CR TURN PW SD F
 abbrev pub columns : List ℕ
 columns = 0 ∷ 1 ∷ 2 ∷ 15 ∷ 16 ∷ 17 ∷ 18 ∷ 19 ∷ 20 ∷ 21 ∷ 11 ∷ []
 

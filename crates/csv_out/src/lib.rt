@@ -1,15 +1,11 @@
 // What the row text program says to a line: bytes that are added to what waits for standard output, and bytes that are
 // added to what waits for standard error. Nothing is written to a descriptor here.
 use csv_fields::Placed;
-ghost use mathlib.Core.Path.{_≡_};
 ghost use mathlib.Core.Bool.{true, false};
-ghost use mathlib.Core.List.{_++_};
-ghost use Prim.Native.Nat.{ℕ, _+_, _*_, _≤_};
+ghost use Prim.Native.Nat.{_+_, _*_, _≤_};
 ghost use lib.ListN.{length};
-ghost use Rattle.layout.specs.Layout.{rowWords};
-ghost use Rattle.csv_line.specs.LineText.{crlf, headerOut};
 ghost use Rattle.csv_line.specs.Notice.{noticeText};
-ghost use Rattle.csv_out.specs.Say.{noticeRoom, headerRoom, rowRoom, refusal, heading, warningText, answer, nextLine};
+ghost use Rattle.csv_out.specs.Say.{noticeRoom, headerRoom, heading, warningText, answer};
 ghost use Rattle.csv_out.specs.Said.{Noted, Said, NextIs, AnswerFits};
 
 // How long the lines of standard error and those of rows never are longer than, and how many rows a call is lent room for.

@@ -68,7 +68,8 @@ module _ (t : List ℕ) (end : ℕ) (e : end ≡ 0 + reach (drop 0 t)) where
 
     pub go-on : (J : List (List ℕ) → Option (List ℕ)) → ((fs : List (List ℕ)) → K (take end t ∷ fs) ≡ J fs) → (end ≡ length t → ⊥) → (row′ : List ℕ) (r : Bool)
         → Answer (J (parted (take (length t - (end + 1)) (drop (end + 1) t)))) row row′ r → Answer (K (parted t)) row row′ r
-    go-on J h n row′ r a = subst (λ (o : Option (List ℕ)). Answer o row row′ r) (sym (ap K (more n) ∙ h (parted (take (length t - (end + 1)) (drop (end + 1) t))))) a
+    go-on J h n row′ r a =
+        subst (λ (o : Option (List ℕ)). Answer o row row′ r) (sym (ap K (more n) ∙ h (parted (take (length t - (end + 1)) (drop (end + 1) t))))) a
 
 -- ---- the cells, in a row that is blank but for its first three words
 abbrev pub blank : ℕ → ℕ → ℕ → List ℕ
@@ -107,7 +108,8 @@ module _ (t : List ℕ) (end : ℕ) (e : end ≡ 0 + reach (drop 0 t)) (row : Li
 
     pub plane-on : (c : ℕ) → Found.Code c ≡ planeOf (take end t) → (end ≡ length t → ⊥) → (row′ : List ℕ) (r : Bool)
         → Answer (fromCells l m c (parted (take (length t - (end + 1)) (drop (end + 1) t)))) row row′ r → Answer (fromPlane l m (parted t)) row row′ r
-    plane-on c q = go-on t end e (fromPlane l m) row (fromCells l m c) (λ (fs : List (List ℕ)). ap (λ (f : Found). coded f (λ (c : ℕ). fromCells l m c fs)) (sym q))
+    plane-on c q =
+        go-on t end e (fromPlane l m) row (fromCells l m c) (λ (fs : List (List ℕ)). ap (λ (f : Found). coded f (λ (c : ℕ). fromCells l m c fs)) (sym q))
 
   module _ (l : ℕ) where
     pub motion-nowhere : Found.Nowhere ≡ motionOf (take end t) → Answer (fromMotion l (parted t)) row row false

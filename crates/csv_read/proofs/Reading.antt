@@ -50,7 +50,8 @@ seek-end {t} {at} {i} s h = let e : i ≡ length t = omega (arith, s .within) in
 
 -- ---- `at_code`
 pub one-shifted : (b c : ℕ) → b ≤ 1 → c < 23 → b * 2 ^ c % 2 ^ 64 ≡ b * 2 ^ c
-one-shifted b c h l = mod-eq-of-lt (lt-of-le-of-lt (mul-le-mul h (pow-le-pow-right {n = 2} (lit< tt) {i = c} {j = 22} (omega arith))) (lit< {m = 1 * 2 ^ 22} {n = 2 ^ 64} tt))
+one-shifted b c h l =
+    mod-eq-of-lt (lt-of-le-of-lt (mul-le-mul h (pow-le-pow-right {n = 2} (lit< tt) {i = c} {j = 22} (omega arith))) (lit< {m = 1 * 2 ^ 22} {n = 2 ^ 64} tt))
 
 -- ---- `read_cell`
 module _ (f : List ℕ) where
@@ -74,7 +75,8 @@ pub cell-bit : {f : List ℕ} {c : Cell} → CellIs f c → c .bit ≤ 1
 cell-bit {f} {c} h = subst (λ (b : ℕ). b ≤ 1) (sym (h .present)) (bit-one (given f))
 
 -- ---- `take_cell`
-pub took : (t : List ℕ) (at i mask : ℕ) (row : List ℕ) (end code b : ℕ) (cell : Cell) → end ≡ at + reach (drop at t) → CellIs (take (end - at) (drop at t)) cell → code ≡ codeAt i → b ≡ cell .bit * 2 ^ code
+pub took : (t : List ℕ) (at i mask : ℕ) (row : List ℕ) (end code b : ℕ) (cell : Cell) → end ≡ at + reach (drop at t) → CellIs (take (end - at) (drop at t)) cell
+    → code ≡ codeAt i → b ≡ cell .bit * 2 ^ code
     → Took t at i mask row (set row (rCells + code) (cell .word)) (record { ok = cell .ok; next = end + 1; mask = mask + b })
 took t at i mask row end code b cell e is k d =
     let n : end - at ≡ reach (drop at t) = omega arith in
@@ -117,18 +119,23 @@ unfolding placed masked all
 takes-none t row =
     record { few = zero-le; rest = sym (rest-within t 0 zero-le); enough = zero-le; ok = refl; words = refl; bits = refl; low = zero-le; same = refl }
 
-pub takes-more : (t row₀ : List ℕ) (at mask i : ℕ) (row row′ : List ℕ) (r : Taken) → Taking t row₀ at mask i row → at ≤ length t → i < 11 → Took t at i mask row row′ r → r .ok ≡ true
+pub takes-more : (t row₀ : List ℕ) (at mask i : ℕ) (row row′ : List ℕ) (r : Taken) → Taking t row₀ at mask i row → at ≤ length t → i < 11
+    → Took t at i mask row row′ r → r .ok ≡ true
     → Taking t row₀ (r .next) (r .mask) (i + 1) row′
 unfolding placed masked
 takes-more t row₀ at mask i row row′ r s h l k g =
     let fs = parted t in
-    let w : Rest fs i [] (fieldAt t at) (restAt t (at + reach (drop at t) + 1)) = rest-of fs i [] (fieldAt t at) (restAt t (at + reach (drop at t) + 1)) (s .rest ∙ rest-step t at h) in
-    let bound : bitOf (given (fieldAt t at)) * 2 ^ codeAt i ≤ 4194304 = bit-low i (codeAt i) (bitOf (given (fieldAt t at))) l refl (bit-one (given (fieldAt t at))) in
+    let w : Rest fs i [] (fieldAt t at) (restAt t (at + reach (drop at t) + 1)) =
+    rest-of fs i [] (fieldAt t at) (restAt t (at + reach (drop at t) + 1)) (s .rest ∙ rest-step t at h) in
+    let bound : bitOf (given (fieldAt t at)) * 2 ^ codeAt i ≤ 4194304 =
+    bit-low i (codeAt i) (bitOf (given (fieldAt t at))) l refl (bit-one (given (fieldAt t at))) in
     record {
       few = omega arith;
       rest = ap (λ (n : ℕ). drop n fs) (add-one i) ∙ w .further ∙ ap (restAt t) (sym (k .after));
       enough = omega (arith, w .inside);
-      ok = ap (λ (n : ℕ). all n (λ (j : ℕ). cellOk (getD fs j []))) (add-one i) ∙ all-more i (λ (j : ℕ). cellOk (getD fs j [])) (s .ok) (ap cellOk (w .here) ∙ sym (k .good) ∙ g);
+      ok =
+          ap (λ (n : ℕ). all n (λ (j : ℕ). cellOk (getD fs j []))) (add-one i)
+          ∙ all-more i (λ (j : ℕ). cellOk (getD fs j [])) (s .ok) (ap cellOk (w .here) ∙ sym (k .good) ∙ g);
       words =
           k .words
           ∙ ap (λ (l : List ℕ). set l (rCells + codeAt i) (wordOf (given (fieldAt t at)))) (s .words)
@@ -158,14 +165,16 @@ module _ (t row₀ : List ℕ) (at mask i : ℕ) (row : List ℕ) (s : Taking t 
   unfolding cellsOk
   ends-bad row′ r h l k g =
       let fs = parted t in
-      let w : Rest fs i [] (fieldAt t at) (restAt t (at + reach (drop at t) + 1)) = rest-of fs i [] (fieldAt t at) (restAt t (at + reach (drop at t) + 1)) (s .rest ∙ rest-step t at h) in
+      let w : Rest fs i [] (fieldAt t at) (restAt t (at + reach (drop at t) + 1)) =
+      rest-of fs i [] (fieldAt t at) (restAt t (at + reach (drop at t) + 1)) (s .rest ∙ rest-step t at h) in
       wrong row′ (not-right (eqb (length fs) 11) _ (all-not 11 (λ (j : ℕ). cellOk (getD fs j [])) i l (ap cellOk (w .here) ∙ sym (k .good) ∙ g)))
 
   pub ends-long : 11 ≤ i → at ≤ length t → CellsRead (parted t) row₀ row false
   unfolding cellsOk
   ends-long l h =
       let fs = parted t in
-      let w : Rest fs i [] (fieldAt t at) (restAt t (at + reach (drop at t) + 1)) = rest-of fs i [] (fieldAt t at) (restAt t (at + reach (drop at t) + 1)) (s .rest ∙ rest-step t at h) in
+      let w : Rest fs i [] (fieldAt t at) (restAt t (at + reach (drop at t) + 1)) =
+      rest-of fs i [] (fieldAt t at) (restAt t (at + reach (drop at t) + 1)) (s .rest ∙ rest-step t at h) in
       wrong row (not-left (eqb (length fs) 11) _ (ne-eqb (length fs) 11 (λ (e : length fs ≡ 11). omega (arith, w .inside))))
 
   pub ends-well : 11 ≤ i → length t < at → CellsRead (parted t) row₀ (set row 5 mask) true
@@ -177,7 +186,10 @@ module _ (t row₀ : List ℕ) (at mask i : ℕ) (row : List ℕ) (s : Taking t 
       let f : length fs ≡ 11 = omega (arith, s .enough) in
       record {
         good = sym (both (eqb (length fs) 11) _ (eq-eqb (length fs) 11 f) (subst (λ (z : ℕ). all z (λ (j : ℕ). cellOk (getD fs j [])) ≡ true) e (s .ok)));
-        words = λ _. ap (λ (l : List ℕ). set l 5 mask) (s .words) ∙ ap (set (placed fs row₀ i) 5) (s .bits) ∙ ap (λ (z : ℕ). set (placed fs row₀ z) 5 (masked fs z)) e;
+        words =
+            λ _. ap (λ (l : List ℕ). set l 5 mask) (s .words)
+            ∙ ap (set (placed fs row₀ i) 5) (s .bits)
+            ∙ ap (λ (z : ℕ). set (placed fs row₀ z) 5 (masked fs z)) e;
       }
 
 -- ---- `copy_row`

@@ -1,4 +1,4 @@
--- Document 01, "Row text": the row that a line of the input is. Definitions only.
+-- DEFINITIONS. The row that a line of the input is: rules 7.4, 7.5. Assumes nothing.
 use Prim.Native.Nat.{ℕ, suc}
 use mathlib.Core.Bool.{Bool, true, false, cond, _&&_}
 use mathlib.Core.List.{List, [], _∷_}
@@ -19,7 +19,7 @@ use Rattle.csv_words.specs.declared.Found.the-variants as Found
 use Rattle.csv_words.specs.Words.{motionOf, planeOf}
 use Rattle.csv_line.specs.LineText.{columns, columnCount, parted}
 
--- "empty is absent"; the bits of a cell's number
+-- 7.5: an empty field is an absent cell; the bits of a cell's number
 abbrev pub wordIn : Number → Option ℕ
 wordIn (Number.Value x) = some (bits x)
 wordIn Number.Bad = none
@@ -34,7 +34,7 @@ isNumber Number.Bad = false
 unfoldable pub cellOk : List ℕ → Bool
 cellOk f = cond (eqb (length f) 0) true (isNumber (number f))
 
--- "then cells as headed"
+-- 7.4: the cells, in the order of the header
 unfoldable pub cellsOk : List (List ℕ) → Bool
 cellsOk fs = eqb (length fs) columnCount && all columnCount (λ (i : ℕ). cellOk (getD fs i []))
 
@@ -70,6 +70,6 @@ abbrev pub fromLine : List (List ℕ) → Option (List ℕ)
 fromLine [] = none
 fromLine (f ∷ fs) = numbered (lineNumber f) (λ (n : ℕ). fromMotion n fs)
 
--- the row that the text of a line, without its CRLF, is; none where it "is not the layout"
+-- the row that the text of a line, without its CRLF, is; none where it is no row text
 unfoldable pub readRow : List ℕ → Option (List ℕ)
 readRow t = fromLine (parted t)

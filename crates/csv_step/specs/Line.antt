@@ -1,12 +1,10 @@
 -- DEFINITIONS. What the row text program does with one line, and with the end of its input. Assumes nothing.
-use Prim.Native.Nat.{ℕ, _*_, _+_, _≤_}
-use mathlib.Core.Path.{_≡_}
+use Prim.Native.Nat.{ℕ}
 use mathlib.Core.Bool.{Bool, cond}
 use mathlib.Core.List.{List}
 use mathlib.Core.Option.{Option, none, some}
 use lib.Dec.{eqb}
 use lib.ListN.{take}
-use Rattle.layout.specs.Layout.{rowWords}
 use Rattle.row_cells.specs.Row.{lineOf}
 use Rattle.call_reply.specs.Replies.{After}
 use Rattle.call_push.specs.Push.{pushSpec}
@@ -15,9 +13,7 @@ use Rattle.csv_line.specs.declared.End.{End}
 use Rattle.csv_line.specs.declared.End.the-variants as End
 use Rattle.csv_line.specs.LineText.{endOf}
 use Rattle.csv_read.specs.Reader.{readRow}
-use Rattle.csv_out.specs.declared.Run.{Run}
-use Rattle.csv_out.specs.Say.{Say, badText, noticeRoom, rowRoom, refusal, heading, answer, nextLine}
-use Rattle.csv_out.specs.Said.{Adds}
+use Rattle.csv_out.specs.Say.{Say, badText, refusal, heading, answer, nextLine}
 
 -- what stands before a line: the state and the store, the words of the lent rows, the number of the line, the source line of
 -- the last block, and whether there was a refusal

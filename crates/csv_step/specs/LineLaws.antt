@@ -1,5 +1,5 @@
 -- LAWS. From what each part of a line promises to the step that is done. Assumes nothing.
-use Prim.Native.Nat.{ℕ, _+_, _-_, _*_, _/_, _≤_}
+use Prim.Native.Nat.{ℕ, _+_, _-_, _/_, _≤_}
 use mathlib.Core.Path.{_≡_, refl, sym, ap, _∙_, subst}
 use mathlib.Core.Bool.{Bool, true, false, cond, false≢true}
 use mathlib.Core.List.{List}
@@ -23,7 +23,7 @@ use Rattle.csv_line.specs.LineText.{endOf}
 use Rattle.csv_line.specs.Notice.{noticeText}
 use Rattle.csv_read.specs.Reader.{readRow}
 use Rattle.csv_out.specs.declared.Run.{Run}
-use Rattle.csv_out.specs.Say.{Say, badText, noticeRoom, rowRoom, lentRows, refusal, heading, answer, nextLine}
+use Rattle.csv_out.specs.Say.{Say, badText, lentRows, refusal, heading, answer, nextLine}
 use Rattle.csv_out.specs.Said.{Adds, Noted, Said, NextIs, AnswerFits}
 use Rattle.csv_out.specs.SayLaws.{say-noted}
 use Rattle.csv_step.specs.Line.{Stand, Step, spoken, called, unread, onRow, onRead, onText, onEnd, counted, csvLine, csvClose, csvEnd}

@@ -2,7 +2,6 @@
 use Prim.Native.Nat.{ℕ, _+_, _*_, _≤_}
 use mathlib.Core.Path.{_≡_}
 use mathlib.Core.List.{List}
-use lib.ListN.{length}
 use Rattle.layout.specs.Layout.{rowWords}
 use Rattle.csv_out.specs.declared.Run.{Run}
 use Rattle.csv_out.specs.Say.{noticeRoom, lentRows, callRoom}

@@ -1,7 +1,8 @@
 -- A text as one number, and back. Assumes nothing.
 use mathlib.Core.Path.{_≡_, refl, sym, ap, _∙_, subst}
 use Prim.Native.Nat.{ℕ, zero, suc, _+_, _-_, _*_, _/_, _%_, _^_, _≤_, _<_}
-use native.Mathlib.Nat.{mul-assoc, mul-comm, mul-suc, add-mul, zero-add, add-zero, add-assoc, mul-one, lt-of-lt-of-le, mod-eq-of-lt, mul-add-div-right, mul-add-mod-self-right}
+use native.Mathlib.Nat.{mul-assoc, mul-comm, mul-suc, add-mul, zero-add, add-zero, add-assoc, mul-one, lt-of-lt-of-le, mod-eq-of-lt, mul-add-div-right}
+use native.Mathlib.Nat.{mul-add-mod-self-right}
 use native.Mathlib.Omega.{arith}
 use native.Mathlib.Numerals.{add-one}
 use mathlib.Core.List.{List, [], _∷_, _++_}
@@ -53,7 +54,8 @@ chars-low zero a p = refl
 chars-low (suc k) a p =
     let Q = 2 ^ (8 * k) in
     let e : a * 2 ^ (8 * suc k) + p ≡ a * 256 * Q + p = ap (λ (z : ℕ). a * z + p) (more k) ∙ ap (λ (z : ℕ). z + p) (sym (mul-assoc a 256 Q)) in
-    let d : (a * 256 * Q + p) / Q % 256 ≡ p / Q % 256 = ap (λ (z : ℕ). z % 256) (mul-add-div-right (pow-pos (8 * k)) (a * 256) p) ∙ mul-add-mod-self-right a 256 (p / Q) in
+    let d : (a * 256 * Q + p) / Q % 256 ≡ p / Q % 256 =
+    ap (λ (z : ℕ). z % 256) (mul-add-div-right (pow-pos (8 * k)) (a * 256) p) ∙ mul-add-mod-self-right a 256 (p / Q) in
     ap (chars (suc k)) e ∙ ap (λ (z : ℕ). z ∷ chars k (a * 256 * Q + p)) d ∙ ap (λ (l : List ℕ). (p / Q % 256) ∷ l) (chars-low k (a * 256) p)
 
 pub chars-pack : (t : List ℕ) → Bytes t → chars (length t) (pack 0 t) ≡ t

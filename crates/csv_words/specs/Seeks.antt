@@ -47,14 +47,16 @@ seeks-first t from count p h e =
     let z : from + count - from ≡ count = omega arith in
     record { ahead = omega arith; bound = h; left = ap (λ (k : ℕ). seek from k t) (sym z); number = e }
 
-pub seeks-hit : (t : List ℕ) (from count p end i : ℕ) → Seeking t from count p end i → i < end → Bytes t → length t ≤ 7 → (w : ℕ) → w ≡ wordNumber (wordAt i) → w ≡ p → i ≡ seek from count t
+pub seeks-hit : (t : List ℕ) (from count p end i : ℕ) → Seeking t from count p end i → i < end → Bytes t → length t ≤ 7 → (w : ℕ) → w ≡ wordNumber (wordAt i)
+    → w ≡ p → i ≡ seek from count t
 unfolding seek
 seeks-hit t from count p end i c h b l w v e =
     let z : end - i ≡ suc (end - suc i) = omega arith in
     let k : i < 19 = omega (arith, c .bound) in
     sym (c .left ∙ ap (λ (k : ℕ). seek i k t) z ∙ ap (λ (x : Bool). cond x i (seek (suc i) (end - suc i) t)) (hit i t k b l (sym v ∙ e ∙ c .number)))
 
-pub seeks-miss : (t : List ℕ) (from count p end i : ℕ) → Seeking t from count p end i → i < end → (w : ℕ) → w ≡ wordNumber (wordAt i) → (w ≡ p → ⊥) → Seeking t from count p end (i + 1)
+pub seeks-miss : (t : List ℕ) (from count p end i : ℕ) → Seeking t from count p end i → i < end → (w : ℕ) → w ≡ wordNumber (wordAt i) → (w ≡ p → ⊥)
+    → Seeking t from count p end (i + 1)
 unfolding seek
 seeks-miss t from count p end i c h w v n =
     let z : end - i ≡ suc (end - suc i) = omega arith in

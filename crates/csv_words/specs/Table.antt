@@ -10,7 +10,9 @@ use lib.Ieee.Fits.{and-l, and-r}
 use Rattle.csv_words.specs.Words.{words, wordAt, same, pack, wordNumber, chars}
 
 abbrev pub numbers : List ℕ
-numbers = 0 ∷ 145794 ∷ 145802 ∷ 145810 ∷ 145818 ∷ 147099822628434479 ∷ 149351622442119727 ∷ 151603422255804975 ∷ 35277443 ∷ 137890 ∷ 10778993356 ∷ 37329307 ∷ 37329315 ∷ 37329323 ∷ 2518775110333 ∷ 644806428203710 ∷ 37325243 ∷ 37325251 ∷ 37325259 ∷ []
+numbers =
+    0 ∷ 145794 ∷ 145802 ∷ 145810 ∷ 145818 ∷ 147099822628434479 ∷ 149351622442119727 ∷ 151603422255804975 ∷ 35277443 ∷ 137890 ∷ 10778993356 ∷ 37329307 ∷ 37329315
+    ∷ 37329323 ∷ 2518775110333 ∷ 644806428203710 ∷ 37325243 ∷ 37325251 ∷ 37325259 ∷ []
 
 pub entry-is : (i : ℕ) → getD numbers i 0 ≡ wordNumber (wordAt i)
 unfolding wordNumber pack
@@ -34,7 +36,8 @@ pub same-is : (s t : List ℕ) → T (same s t) → s ≡ t
 same-is [] [] h = refl
 same-is [] (c ∷ t) h = absurd h
 same-is (a ∷ s) [] h = absurd h
-same-is (a ∷ s) (c ∷ t) h = ap (λ (x : ℕ). x ∷ s) (eqb→eq a c (and-l (eqb a c) (same s t) h)) ∙ ap (λ (l : List ℕ). c ∷ l) (same-is s t (and-r (eqb a c) (same s t) h))
+same-is (a ∷ s) (c ∷ t) h =
+    ap (λ (x : ℕ). x ∷ s) (eqb→eq a c (and-l (eqb a c) (same s t) h)) ∙ ap (λ (l : List ℕ). c ∷ l) (same-is s t (and-r (eqb a c) (same s t) h))
 
 pub same-self : (s : List ℕ) → T (same s s)
 same-self [] = tt

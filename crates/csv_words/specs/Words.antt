@@ -1,4 +1,4 @@
--- Document 01, "Row text" and "Row, axes, codes": the motion words, whose places are their codes, and then the plane words; the spare codes 16 to 31 have
+-- DEFINITIONS. The motion words, whose places are their codes, and then the plane words: rules 1.9, 7.6. The spare codes 16 to 31 have
 -- none. Definitions only.
 use Prim.Native.Nat.{ℕ, zero, suc, _+_, _-_, _*_, _/_, _%_, _^_}
 use mathlib.Core.Bool.{Bool, true, false, cond, _&&_}
@@ -9,8 +9,8 @@ use Rattle.csv_words.specs.Text.{bytes}
 use Rattle.csv_words.specs.declared.Found.{Found}
 use Rattle.csv_words.specs.declared.Found.the-variants as Found
 
--- "Motion: 0 none, 1 G0, 2 G1, 3 G2, 4 G3, 5 ASPLINE, 6 BSPLINE, 7 CSPLINE, .. 8 CIP, 9 CT, 10 POLY, 11 G33, 12 G34, 13 G35, 14 INVCW, 15 INVCCW"; "empty is
--- absent": an empty field is the word of no motion and of no plane
+-- 7.5, 7.6: each motion word at its number, then the plane words;
+-- an empty field is the word of no motion and of no plane
 abbrev pub words : List (List ℕ)
 words =
     [] ∷

@@ -53,7 +53,8 @@ upto-none a e = let z : _≡_ {A = ℕ} 0 1 = cc in omega arith
 upto-same : (a b : ℕ) → Placed.Upto a ≡ Placed.Upto b → a ≡ b
 upto-same a b e = cc
 
-number-tried : {o o₁ o₂ : List ℕ} {n a : ℕ} {r : Placed} (x : Float) → Wrote o n (comma ∷ []) o₁ a → Put x o₁ a o₂ r → Tried (shown x) (comma ∷ numberText x) o n o₂ r
+number-tried : {o o₁ o₂ : List ℕ} {n a : ℕ} {r : Placed} (x : Float) → Wrote o n (comma ∷ []) o₁ a → Put x o₁ a o₂ r
+    → Tried (shown x) (comma ∷ numberText x) o n o₂ r
 unfolding placed stored
 number-tried {o} {o₁} {o₂} {n} {a} {r} x w p =
     let t = numberText x in
@@ -61,7 +62,10 @@ number-tried {o} {o₁} {o₂} {n} {a} {r} x w p =
     record {
       answer = p .answer ∙ ap (λ (k : ℕ). cond (shown x) (Placed.Upto k) Placed.Refused) e;
       text = λ (h : shown x ≡ true).
-          p .text ∙ ap (λ (b : Bool). cond b (sets o₁ a t) o₁) h ∙ ap (λ (l : List ℕ). sets l a t) (w .text) ∙ ap (λ (k : ℕ). sets (set o n comma) k t) (w .next ∙ add-one n);
+          p .text
+          ∙ ap (λ (b : Bool). cond b (sets o₁ a t) o₁) h
+          ∙ ap (λ (l : List ℕ). sets l a t) (w .text)
+          ∙ ap (λ (k : ℕ). sets (set o n comma) k t) (w .next ∙ add-one n);
       kept = λ (m : ℕ) (h : m ≤ n). ap (take m) (p .text) ∙ keeps (shown x) m h;
       same = ap length (p .text) ∙ sized (shown x);
     }
@@ -75,12 +79,15 @@ number-tried {o} {o₁} {o₂} {n} {a} {r} x w p =
     sized false = wrote-length w
 
 module _ (row : List ℕ) (i code : ℕ) (k : code ≡ codeAt i) where
-  pub cell-present : {o o₁ o₂ : List ℕ} {n a : ℕ} {r : Placed} → true ≡ has (presentOf row) code → Wrote o n (comma ∷ []) o₁ a → (y : Float) → y ≡ num (getD row (rCells + code) 0) → Put y o₁ a o₂ r
+  pub cell-present : {o o₁ o₂ : List ℕ} {n a : ℕ} {r : Placed} → true ≡ has (presentOf row) code → Wrote o n (comma ∷ []) o₁ a → (y : Float)
+      → y ≡ num (getD row (rCells + code) 0) → Put y o₁ a o₂ r
       → Tried (cellShown row i) (comma ∷ cellText row i) o n o₂ r
   unfolding cellShown cellText
-  cell-present {o} {o₁} {o₂} {n} {a} {r} h w y q p = rw (← k, ← h) (number-tried (num (getD row (rCells + code) 0)) w (subst (λ (z : Float). Put z o₁ a o₂ r) q p))
+  cell-present {o} {o₁} {o₂} {n} {a} {r} h w y q p =
+      rw (← k, ← h) (number-tried (num (getD row (rCells + code) 0)) w (subst (λ (z : Float). Put z o₁ a o₂ r) q p))
 
-  pub cell-absent : {o o₁ : List ℕ} {n a : ℕ} → false ≡ has (presentOf row) code → Wrote o n (comma ∷ []) o₁ a → Tried (cellShown row i) (comma ∷ cellText row i) o n o₁ (Placed.Upto a)
+  pub cell-absent : {o o₁ : List ℕ} {n a : ℕ} → false ≡ has (presentOf row) code → Wrote o n (comma ∷ []) o₁ a
+      → Tried (cellShown row i) (comma ∷ cellText row i) o n o₁ (Placed.Upto a)
   unfolding cellShown cellText
   cell-absent h w = rw (← k, ← h) (tried refl w)
 
@@ -97,10 +104,12 @@ module _ (ok : ℕ → Bool) (f : ℕ → List ℕ) (w : ℕ) where
   unfolding all upto flatten
   puts-none o n = record { good = refl; wrote = record { next = omega arith; text = refl }; room = omega arith; ahead = omega arith; same = refl }
 
-  pub puts-more : {o o′ o″ : List ℕ} {n i at a : ℕ} → Putting ok f w o n i o′ at → Tried (ok i) (f i) o′ at o″ (Placed.Upto a) → (ok i ≡ true → length (f i) ≤ w) → Putting ok f w o n (i + 1) o″ a
+  pub puts-more : {o o′ o″ : List ℕ} {n i at a : ℕ} → Putting ok f w o n i o′ at → Tried (ok i) (f i) o′ at o″ (Placed.Upto a)
+      → (ok i ≡ true → length (f i) ≤ w) → Putting ok f w o n (i + 1) o″ a
   puts-more {o} {o′} {o″} {n} {i} {at} {a} p t short =
       let g : ok i ≡ true = passed (ok i) (t .answer) in
-      let e : a ≡ at + length (f i) = upto-same a (at + length (f i)) (t .answer ∙ ap (λ (b : Bool). cond b (Placed.Upto (at + length (f i))) Placed.Refused) g) in
+      let e : a ≡ at + length (f i) =
+      upto-same a (at + length (f i)) (t .answer ∙ ap (λ (b : Bool). cond b (Placed.Upto (at + length (f i))) Placed.Refused) g) in
       let v : Wrote o′ at (f i) o″ a = record { next = e; text = t .text g } in
       record {
         good = ap (λ (k : ℕ). all k ok) (add-one i) ∙ all-more i ok (p .good) g;
@@ -114,7 +123,8 @@ module _ (ok : ℕ → Bool) (f : ℕ → List ℕ) (w : ℕ) where
       passed true h = refl
       passed false h = absurd (upto-none a h)
 
-  pub puts-not : {o o′ o″ : List ℕ} {n i at : ℕ} (k : ℕ) → Putting ok f w o n i o′ at → i < k → Tried (ok i) (f i) o′ at o″ Placed.Refused → Tried (all k ok) (flatten (upto f k)) o n o″ Placed.Refused
+  pub puts-not : {o o′ o″ : List ℕ} {n i at : ℕ} (k : ℕ) → Putting ok f w o n i o′ at → i < k → Tried (ok i) (f i) o′ at o″ Placed.Refused
+      → Tried (all k ok) (flatten (upto f k)) o n o″ Placed.Refused
   puts-not {o} {o′} {o″} {n} {i} {at} k p h t =
       let g : all k ok ≡ false = all-not k ok i h (missed (ok i) (t .answer)) in
       record {
@@ -129,26 +139,31 @@ module _ (ok : ℕ → Bool) (f : ℕ → List ℕ) (w : ℕ) where
       missed false h = refl
 
   -- the same, for an answer that was matched
-  pub puts-on : {o o′ o″ : List ℕ} {n i at : ℕ} {r : Placed} (a : ℕ) → Putting ok f w o n i o′ at → r ≡ Placed.Upto a → Tried (ok i) (f i) o′ at o″ r → (ok i ≡ true → length (f i) ≤ w) → Putting ok f w o n (i + 1) o″ a
+  pub puts-on : {o o′ o″ : List ℕ} {n i at : ℕ} {r : Placed} (a : ℕ) → Putting ok f w o n i o′ at → r ≡ Placed.Upto a → Tried (ok i) (f i) o′ at o″ r
+      → (ok i ≡ true → length (f i) ≤ w) → Putting ok f w o n (i + 1) o″ a
   puts-on {o} {o′} {o″} {n} {i} {at} {r} a p e t = puts-more p (subst (λ (z : Placed). Tried (ok i) (f i) o′ at o″ z) e t)
 
-  pub puts-off : {o o′ o″ : List ℕ} {n i at : ℕ} {r : Placed} (k : ℕ) → Putting ok f w o n i o′ at → i < k → r ≡ Placed.Refused → Tried (ok i) (f i) o′ at o″ r → Tried (all k ok) (flatten (upto f k)) o n o″ Placed.Refused
+  pub puts-off : {o o′ o″ : List ℕ} {n i at : ℕ} {r : Placed} (k : ℕ) → Putting ok f w o n i o′ at → i < k → r ≡ Placed.Refused → Tried (ok i) (f i) o′ at o″ r
+      → Tried (all k ok) (flatten (upto f k)) o n o″ Placed.Refused
   puts-off {o} {o′} {o″} {n} {i} {at} {r} k p h e t = puts-not k p h (subst (λ (z : Placed). Tried (ok i) (f i) o′ at o″ z) e t)
 
   pub puts-all : {o o′ : List ℕ} {n i at : ℕ} (k : ℕ) → Putting ok f w o n i o′ at → i ≡ k → Tried (all k ok) (flatten (upto f k)) o n o′ (Placed.Upto at)
   puts-all {o} {o′} {n} {i} {at} k p e = subst (λ (j : ℕ). Tried (all j ok) (flatten (upto f j)) o n o′ (Placed.Upto at)) e (tried (p .good) (p .wrote))
 
 -- ---- the whole line
-pub cells-tried : {o o′ : List ℕ} {n : ℕ} {r : Placed} (row : List ℕ) → Tried (all 11 (cellShown row)) (flatten (upto (λ (i : ℕ). comma ∷ cellText row i) 11)) o n o′ r
+pub cells-tried : {o o′ : List ℕ} {n : ℕ} {r : Placed} (row : List ℕ)
+    → Tried (all 11 (cellShown row)) (flatten (upto (λ (i : ℕ). comma ∷ cellText row i) 11)) o n o′ r
     → Tried (all 11 (cellShown row)) (tailed (cellTexts row 11)) o n o′ r
 unfolding cellTexts
 cells-tried {o} {o′} {n} {r} row t = subst (λ (l : List ℕ). Tried (all 11 (cellShown row)) l o n o′ r) (sym (tailed-upto (cellText row) 11)) t
 
-pub in-five : {o o₁ o₂ o₃ o₄ o₅ : List ℕ} {n a b c d e : ℕ} (row : List ℕ) → Wrote o n (wholeText (lineOf row)) o₁ a → Wrote o₁ a (comma ∷ []) o₂ b → Wrote o₂ b (wordAt (motionOf row)) o₃ c → Wrote o₃ c (comma ∷ []) o₄ d
+pub in-five : {o o₁ o₂ o₃ o₄ o₅ : List ℕ} {n a b c d e : ℕ} (row : List ℕ) → Wrote o n (wholeText (lineOf row)) o₁ a → Wrote o₁ a (comma ∷ []) o₂ b
+    → Wrote o₂ b (wordAt (motionOf row)) o₃ c → Wrote o₃ c (comma ∷ []) o₄ d
     → Wrote o₄ d (planeText (planeOf row)) o₅ e → Wrote o n (joined (headFields row)) o₅ e
 unfolding joined tailed
 in-five {o} {o₁} {o₂} {o₃} {o₄} {o₅} {n} {a} {b} {c} {d} {e} row u v w x y =
-    subst (λ (l : List ℕ). Wrote o n (wholeText (lineOf row) ++ (comma ∷ (wordAt (motionOf row) ++ (comma ∷ l)))) o₅ e) (sym (append-nil (planeText (planeOf row)))) (wrote-then u (wrote-then v (wrote-then w (wrote-then x y))))
+    subst (λ (l : List ℕ). Wrote o n (wholeText (lineOf row) ++ (comma ∷ (wordAt (motionOf row) ++ (comma ∷ l)))) o₅ e)
+    (sym (append-nil (planeText (planeOf row)))) (wrote-then u (wrote-then v (wrote-then w (wrote-then x y))))
 
 -- the room that is left behind each piece
 module _ {o o₁ : List ℕ} {n a : ℕ} (v : ℕ) (h : n + 26 ≤ length o) (u : Wrote o n (wholeText v) o₁ a) where
@@ -164,13 +179,29 @@ module _ {o o₁ : List ℕ} {n a : ℕ} (v : ℕ) (h : n + 26 ≤ length o) (u 
       room-3 = omega (arith, u .next, whole-length v, width-ten v, wrote-length u, w .next, wrote-length w, y .next, wrote-length y, short i (omega arith))
 
       pub room-4 : {o₄ : List ℕ} {d : ℕ} → Wrote o₃ c (comma ∷ []) o₄ d → d + 7 ≤ length o₄
-      room-4 z = omega (arith, u .next, whole-length v, width-ten v, wrote-length u, w .next, wrote-length w, y .next, wrote-length y, short i (omega arith), z .next, wrote-length z)
+      room-4 z =
+          omega (
+            arith,
+            u .next,
+            whole-length v,
+            width-ten v,
+            wrote-length u,
+            w .next,
+            wrote-length w,
+            y .next,
+            wrote-length y,
+            short i (omega arith),
+            z .next,
+            wrote-length z,
+          )
 
-pub unmarked : {o o₁ o₂ : List ℕ} {n a r : ℕ} (row : List ℕ) → markOf row ≡ 0 → Wrote o n (comma ∷ []) o₁ a → Wrote o₁ a crlf o₂ r → Wrote o n (comma ∷ (markText row ++ crlf)) o₂ r
+pub unmarked : {o o₁ o₂ : List ℕ} {n a r : ℕ} (row : List ℕ) → markOf row ≡ 0 → Wrote o n (comma ∷ []) o₁ a → Wrote o₁ a crlf o₂ r
+    → Wrote o n (comma ∷ (markText row ++ crlf)) o₂ r
 unfolding markText
 unmarked row e u v = rw (eq-eqb (markOf row) 0 e) (wrote-then u v)
 
-pub marked : {o o₁ o₂ o₃ : List ℕ} {n a b r : ℕ} (row : List ℕ) → (markOf row ≡ 0 → ⊥) → Wrote o n (comma ∷ []) o₁ a → Wrote o₁ a (49 ∷ []) o₂ b → Wrote o₂ b crlf o₃ r
+pub marked : {o o₁ o₂ o₃ : List ℕ} {n a b r : ℕ} (row : List ℕ) → (markOf row ≡ 0 → ⊥) → Wrote o n (comma ∷ []) o₁ a → Wrote o₁ a (49 ∷ []) o₂ b
+    → Wrote o₂ b crlf o₃ r
     → Wrote o n (comma ∷ (markText row ++ crlf)) o₃ r
 unfolding markText
 marked row e u v w = rw (ne-eqb (markOf row) 0 e) (wrote-then u (wrote-then v w))
@@ -196,7 +227,8 @@ module _ (row o : List ℕ) (n : ℕ) where
     pub behind-head : {o₁ : List ℕ} {a : ℕ} → Wrote o n (joined (headFields row)) o₁ a → a ≤ n + 26
     behind-head w = omega (arith, w .next, head-length row m (plane-low (planeOf row) p))
 
-    pub number-refused : {o₁ o₂ : List ℕ} {a : ℕ} {r : Placed} → Wrote o n (joined (headFields row)) o₁ a → r ≡ Placed.Refused → Tried (all 11 (cellShown row)) (tailed (cellTexts row 11)) o₁ a o₂ r
+    pub number-refused : {o₁ o₂ : List ℕ} {a : ℕ} {r : Placed} → Wrote o n (joined (headFields row)) o₁ a → r ≡ Placed.Refused
+        → Tried (all 11 (cellShown row)) (tailed (cellTexts row 11)) o₁ a o₂ r
         → Tried (writable row) (rowText row) o n o₂ Placed.Refused
     unfolding writable
     number-refused {o₁} {o₂} {a} {r} w q t =
@@ -212,20 +244,26 @@ module _ (row o : List ℕ) (n : ℕ) where
         missed true h = absurd (upto-none (a + length (tailed (cellTexts row 11))) (sym h))
         missed false h = refl
 
-    cells-wrote : {o₁ o₂ : List ℕ} {a b : ℕ} {r : Placed} → r ≡ Placed.Upto b → Tried (all 11 (cellShown row)) (tailed (cellTexts row 11)) o₁ a o₂ r → (all 11 (cellShown row) ≡ true) × Wrote o₁ a (tailed (cellTexts row 11)) o₂ b
+    cells-wrote : {o₁ o₂ : List ℕ} {a b : ℕ} {r : Placed} → r ≡ Placed.Upto b → Tried (all 11 (cellShown row)) (tailed (cellTexts row 11)) o₁ a o₂ r
+        → (all 11 (cellShown row) ≡ true) × Wrote o₁ a (tailed (cellTexts row 11)) o₂ b
     cells-wrote {o₁} {o₂} {a} {b} {r} q t =
-        let g = passed (all 11 (cellShown row)) (sym q ∙ t .answer) in
-        (g, record { next = upto-same b (a + length (tailed (cellTexts row 11))) (sym q ∙ t .answer ∙ ap (λ (z : Bool). cond z (Placed.Upto (a + length (tailed (cellTexts row 11)))) Placed.Refused) g); text = t .text g })
+        let g = passed (all 11 (cellShown row)) (sym q ∙ t .answer) in (
+          g,
+          record
+              { next = upto-same b (a + length (tailed (cellTexts row 11))) (sym q ∙ t .answer ∙ ap (λ (z : Bool). cond z (Placed.Upto (a + length (tailed (cellTexts row 11)))) Placed.Refused) g); text = t .text g },
+        )
       where
         passed : (z : Bool) → Placed.Upto b ≡ cond z (Placed.Upto (a + length (tailed (cellTexts row 11)))) Placed.Refused → z ≡ true
         passed true h = refl
         passed false h = absurd (upto-none b h)
 
-    pub behind-cells : {o₁ o₂ : List ℕ} {a b : ℕ} {r : Placed} → Wrote o n (joined (headFields row)) o₁ a → r ≡ Placed.Upto b → Tried (all 11 (cellShown row)) (tailed (cellTexts row 11)) o₁ a o₂ r
+    pub behind-cells : {o₁ o₂ : List ℕ} {a b : ℕ} {r : Placed} → Wrote o n (joined (headFields row)) o₁ a → r ≡ Placed.Upto b
+        → Tried (all 11 (cellShown row)) (tailed (cellTexts row 11)) o₁ a o₂ r
         → (b ≤ n + 224) × (length o₂ ≡ length o)
     behind-cells w q t = let c = cells-wrote q t in (omega (arith, c .1 .next, behind-head w, cells-length row (c .0)), t .same ∙ wrote-length w)
 
-    pub row-written : {o₁ o₂ o₃ : List ℕ} {a b c : ℕ} {r : Placed} → Wrote o n (joined (headFields row)) o₁ a → r ≡ Placed.Upto b → Tried (all 11 (cellShown row)) (tailed (cellTexts row 11)) o₁ a o₂ r
+    pub row-written : {o₁ o₂ o₃ : List ℕ} {a b c : ℕ} {r : Placed} → Wrote o n (joined (headFields row)) o₁ a → r ≡ Placed.Upto b
+        → Tried (all 11 (cellShown row)) (tailed (cellTexts row 11)) o₁ a o₂ r
         → Wrote o₂ b (comma ∷ (markText row ++ crlf)) o₃ c → Tried (writable row) (rowText row) o n o₃ (Placed.Upto c)
     unfolding writable
     row-written {o₁} {o₂} {o₃} {a} {b} {c} {r} w q t z =
@@ -238,5 +276,6 @@ pub row-part : (rows : List ℕ) (i from to : ℕ) → from ≡ i * 29 → to �
 row-part rows i from to e f = let k : to - from ≡ 29 = omega arith in ap (λ (z : ℕ). take z (drop from rows)) k ∙ ap (λ (z : ℕ). take 29 (drop z rows)) e
 
 pub part-tried : {o o′ : List ℕ} {n : ℕ} {r : Placed} (rows : List ℕ) (i from to : ℕ) → from ≡ i * 29 → to ≡ from + 29
-    → Tried (writable (take (to - from) (drop from rows))) (rowText (take (to - from) (drop from rows))) o n o′ r → Tried (writable (rowAt rows i)) (rowText (rowAt rows i)) o n o′ r
+    → Tried (writable (take (to - from) (drop from rows))) (rowText (take (to - from) (drop from rows))) o n o′ r
+    → Tried (writable (rowAt rows i)) (rowText (rowAt rows i)) o n o′ r
 part-tried {o} {o′} {n} {r} rows i from to e f t = subst (λ (z : List ℕ). Tried (writable z) (rowText z) o n o′ r) (row-part rows i from to e f) t

@@ -39,7 +39,8 @@ flatten-more f n = flatten-append (upto f n) (f n ∷ []) ∙ ap (λ (l : List �
 pub tailed-append : (fs gs : List (List ℕ)) → tailed (fs ++ gs) ≡ tailed fs ++ tailed gs
 unfolding tailed
 tailed-append [] gs = refl
-tailed-append (f ∷ fs) gs = ap (λ (l : List ℕ). comma ∷ (f ++ l)) (tailed-append fs gs) ∙ ap (λ (l : List ℕ). comma ∷ l) (sym (append-assoc f (tailed fs) (tailed gs)))
+tailed-append (f ∷ fs) gs =
+    ap (λ (l : List ℕ). comma ∷ (f ++ l)) (tailed-append fs gs) ∙ ap (λ (l : List ℕ). comma ∷ l) (sym (append-assoc f (tailed fs) (tailed gs)))
 
 pub tailed-upto : (g : ℕ → List ℕ) (n : ℕ) → tailed (upto g n) ≡ flatten (upto (λ (i : ℕ). comma ∷ g i) n)
 unfolding tailed upto flatten
@@ -60,7 +61,10 @@ row-text r =
     let w : List ℕ = wholeText (lineOf r) in
     let cs = cellTexts r columnCount in
     let m = markText r in
-    ap (λ (l : List ℕ). l ++ crlf) (joined-append w (h ++ cs) (m ∷ []) ∙ ap (λ (l : List ℕ). l ++ (comma ∷ (m ++ []))) (joined-append w h cs) ∙ ap (λ (l : List ℕ). (joined (w ∷ h) ++ tailed cs) ++ (comma ∷ l)) (append-nil m))
+    ap (λ (l : List ℕ). l ++ crlf)
+    (joined-append w (h ++ cs) (m ∷ [])
+    ∙ ap (λ (l : List ℕ). l ++ (comma ∷ (m ++ []))) (joined-append w h cs)
+    ∙ ap (λ (l : List ℕ). (joined (w ∷ h) ++ tailed cs) ++ (comma ∷ l)) (append-nil m))
     ∙ append-assoc (joined (w ∷ h) ++ tailed cs) (comma ∷ m) crlf
     ∙ append-assoc (joined (w ∷ h)) (tailed cs) (comma ∷ (m ++ crlf))
 
@@ -70,7 +74,8 @@ unfolding upto flatten
 several-length f w zero h = zero-le
 several-length f w (suc n) h =
     let r = several-length f w n (λ (i : ℕ) (l : i < n). h i (omega arith)) in
-    let e : length (flatten (upto f (suc n))) ≡ length (flatten (upto f n)) + length (f n) = ap length (flatten-more f n) ∙ length-append (flatten (upto f n)) (f n) in
+    let e : length (flatten (upto f (suc n))) ≡ length (flatten (upto f n)) + length (f n) =
+    ap length (flatten-more f n) ∙ length-append (flatten (upto f n)) (f n) in
     omega (arith, h n (omega arith), mul-suc w n)
 
 pub number-length : (x : Float) → shown x ≡ true → length (numberText x) ≤ 17
@@ -85,9 +90,17 @@ number-length x e = go (lt x (ofBits binary64 0) && ltb 0 v)
 
     bare : length (wholeText (millionths x / 1000000) ++ (46 ∷ figures 6 (millionths x))) ≤ 16
     bare =
-        omega (arith, length-append (wholeText (millionths x / 1000000)) (46 ∷ figures 6 (millionths x)), whole-length (millionths x / 1000000), width-nine (millionths x / 1000000) small, figures-length 6 (millionths x))
+        omega (
+          arith,
+          length-append (wholeText (millionths x / 1000000)) (46 ∷ figures 6 (millionths x)),
+          whole-length (millionths x / 1000000),
+          width-nine
+              (millionths x / 1000000) small,
+          figures-length 6 (millionths x),
+        )
 
-    go : (b : Bool) → length (cond b (45 ∷ (wholeText (millionths x / 1000000) ++ (46 ∷ figures 6 (millionths x)))) (wholeText (millionths x / 1000000) ++ (46 ∷ figures 6 (millionths x)))) ≤ 17
+    go : (b : Bool)
+        → length (cond b (45 ∷ (wholeText (millionths x / 1000000) ++ (46 ∷ figures 6 (millionths x)))) (wholeText (millionths x / 1000000) ++ (46 ∷ figures 6 (millionths x)))) ≤ 17
     go true = omega (arith, bare)
     go false = omega (arith, bare)
 
@@ -98,7 +111,8 @@ cell-length r i e = go (has (presentOf r) (codeAt i)) e
     x : Float
     x = num (getD r (rCells + codeAt i) 0)
 
-    go : (b : Bool) → cond b (shown (num (getD r (rCells + codeAt i) 0))) true ≡ true → suc (length (cond b (numberText (num (getD r (rCells + codeAt i) 0))) [])) ≤ 18
+    go : (b : Bool) → cond b (shown (num (getD r (rCells + codeAt i) 0))) true ≡ true
+        → suc (length (cond b (numberText (num (getD r (rCells + codeAt i) 0))) [])) ≤ 18
     go true e = omega (arith, number-length (num (getD r (rCells + codeAt i) 0)) e)
     go false e = omega arith
 
@@ -114,7 +128,17 @@ head-length r m p =
     let w : List ℕ = wholeText (lineOf r) in
     let a : List ℕ = wordAt (motionOf r) in
     let b : List ℕ = planeText (planeOf r) in
-    omega (arith, length-append w (comma ∷ (a ++ (comma ∷ (b ++ [])))), length-append a (comma ∷ (b ++ [])), length-append b [], whole-length (lineOf r), width-ten (lineOf r), short (motionOf r) (omega arith), short (planeOf r - 1) (omega arith))
+    omega (
+      arith,
+      length-append w (comma ∷ (a ++ (comma ∷ (b ++ [])))),
+      length-append a (comma ∷ (b ++ [])),
+      length-append b [],
+      whole-length (lineOf r),
+      width-ten
+          (lineOf r),
+      short (motionOf r) (omega arith),
+      short (planeOf r - 1) (omega arith),
+    )
 
 pub row-length : (r : List ℕ) → writable r ≡ true → length (rowText r) ≤ 256
 unfolding writable headOk markText

@@ -1,4 +1,4 @@
--- Document 01, "Row text": the line that a row is written as. Definitions only.
+-- DEFINITIONS. The line that a row is written as: rules 7.11, 7.12. Assumes nothing.
 use Prim.Native.Nat.{ℕ, _+_, _*_, _≤_}
 use mathlib.Core.Bool.{Bool, true, cond, _&&_}
 use mathlib.Core.Path.{_≡_}
@@ -18,7 +18,7 @@ use Rattle.csv_fields.specs.declared.Placed.the-variants as Placed
 use Rattle.csv_words.specs.Words.{wordAt, planeText}
 use Rattle.csv_line.specs.LineText.{crlf, columnCount, codeAt, joined}
 
--- "empty is absent"
+-- 7.5: an empty field is an absent cell
 unfoldable pub cellText : List ℕ → ℕ → List ℕ
 cellText r i = cond (has (presentOf r) (codeAt i)) (numberText (num (getD r (rCells + codeAt i) 0))) []
 
@@ -28,14 +28,14 @@ cellShown r i = cond (has (presentOf r) (codeAt i)) (shown (num (getD r (rCells 
 unfoldable pub cellTexts : List ℕ → ℕ → List (List ℕ)
 cellTexts r n = upto (cellText r) n
 
--- "Fields: source line, motion word, plane word, then cells as headed"
+-- 7.12: the fields of a line, but for the mark
 abbrev pub headFields : List ℕ → List (List ℕ)
 headFields r = wholeText (lineOf r) ∷ wordAt (motionOf r) ∷ planeText (planeOf r) ∷ []
 
 unfoldable pub rowFields : List ℕ → List (List ℕ)
 rowFields r = headFields r ++ cellTexts r columnCount
 
--- "Last field: 1 if marked"
+-- 7.12: 1 on a marked row
 unfoldable pub markText : List ℕ → List ℕ
 markText r = cond (eqb (markOf r) 0) [] (49 ∷ [])
 

@@ -82,7 +82,7 @@ past-place st h = past-point st wKnown (test st 5 h)
 pub past-start : (st : List ℕ) → stateOk st ≡ true → (k : ℕ) → axisCodes ≤ k → curveStart st k ≡ none
 past-start st h = past-point st wStart (test st 6 h)
 
--- "blocks held while motion is no spline" is refused
+-- 2.13: no block is held while the motion is no spline
 pub held-spline : (st : List ℕ) → stateOk st ≡ true → (held st ≡ 0 → ⊥) → isSpline (motionNow st) ≡ true
 unfolding heldOk
 held-spline st h d =

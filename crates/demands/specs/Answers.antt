@@ -18,7 +18,7 @@ use Rattle.call_push.specs.Push.{pushRows, pushDone, pushSpec}
 use Rattle.call_close.specs.Close.{untouched, closeRows, closeState, closeSpec}
 use Rattle.demands.specs.Laws.{cond-both}
 
--- ---- "two replies allowed for one input agree"
+-- ---- 8.4: two answers that are allowed for one call are one
 pub one-answer : {p : After} {r r′ : Reply} {s s′ t t′ u u′ : List ℕ} → PushIs p r s t u → PushIs p r′ s′ t′ u′
     → (r ≡ r′) × (s ≡ s′) × (t ≡ t′) × (u ≡ u′)
 one-answer a b = (a .reply ∙ sym (b .reply), a .state ∙ sym (b .state), a .store ∙ sym (b .store), a .rows ∙ sym (b .rows))
@@ -112,12 +112,12 @@ module _ (st store r : List ℕ) where
   push-seven rows (few e f) z = (e, ap (λ (a : After). a .reply .count) (push-few rows e f))
   push-seven rows (turned d) z = absurd (not-seven st store r (sym (ap (λ (a : After). a .reply .code) (push-turned rows d)) ∙ z))
 
-  -- "the reply has the needed count"
+  -- 2.11: the reply has the count that the call needs
   pub push-count : (rows : List ℕ) → pushSpec st store rows r .reply .code ≡ 7
       → (pushCheck st store r ≡ 0) × (pushSpec st store rows r .reply .count ≡ length (pushRows st store r))
   push-count rows = push-seven rows (outcome _ _ _)
 
-  -- "it is the rows the same call writes given room"
+  -- 8.6: and that is what the same call writes given room
   pub push-needs : (rows : List ℕ) → pushSpec st store rows r .reply .code ≡ 7 → (lent : List ℕ) → pushSpec st store rows r .reply .count ≤ places lent
       → (pushSpec st store lent r .reply .code ≡ 0) × (pushSpec st store lent r .reply .count ≡ pushSpec st store rows r .reply .count)
   unfolding pushDone

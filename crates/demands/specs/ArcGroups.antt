@@ -1,11 +1,11 @@
 -- The group of a block of no spline has the shape that demand 3 asks for: a row passed on, or an arc's rows. Assumes nothing.
 use Prim.Native.Nat.{ℕ, _+_, _-_, _<_}
 use mathlib.Core.Path.{_≡_, refl, sym, _∙_, ap, subst}
-use mathlib.Core.Bool.{Bool, true, false, _&&_, false≢true, true≢false}
+use mathlib.Core.Bool.{Bool, true, false, false≢true}
 use mathlib.Core.List.{List}
 use mathlib.Core.Option.{Option, none, some, Option·getD}
 use native.Mathlib.Omega.{arith}
-use lib.Dec.{leb, eqb}
+use lib.Dec.{eqb}
 use borrow.Author.Tests.{eqb-true, eqb-false, eq-eqb, ne-eqb}
 use lib.Ieee.{Float, eq}
 use Rattle.floats.specs.Numbers.{num, bits, ofNat, _⊘_}
@@ -25,7 +25,8 @@ use Rattle.demands.specs.Demands.{Formed, Bare, Carries}
 use Rattle.demands.specs.Laws.{none-some, cond-both}
 use Rattle.demands.specs.Accepted.{Fine}
 use Rattle.demands.specs.InRange.{shown-bits}
-use Rattle.demands.specs.Shapes.{Shaped, upto-shaped, made-line, made-mark, made-formed, made-shows, made-bare, made-carries, out-shaped, programmed, same-number}
+use Rattle.demands.specs.Shapes.{Shaped, upto-shaped, made-line, made-mark, made-formed, made-shows, made-bare, made-carries, out-shaped, programmed}
+use Rattle.demands.specs.Shapes.{same-number}
 
 module _ (gs r : List ℕ) (fine : Fine r) (small : (k : ℕ) → member k gs ≡ true → k < axisCodes) (plane : ℕ) (pos : ℕ → Option ℕ) where
   -- ---- the rows of an arc whose plane axes are listed

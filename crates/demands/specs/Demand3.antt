@@ -34,7 +34,7 @@ started old tol axes =
     (λ b. rw (a, b) (λ z. absurd (omega arith))))
     (λ a. rw a (λ z. absurd (omega arith)))
 
--- "one group of rows for each block, in block order"
+-- 8.7: one group for each block, in block order
 in-order : (tol : ℕ) (gs : List ℕ) (s : Standing) (es : List Event) → map (λ (p : Piece). p .block) (piecesFrom tol gs s es) ≡ blocksOf es
 unfolding piecesFrom pieceOf blocksOf
 in-order tol gs s [] = refl

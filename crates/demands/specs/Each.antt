@@ -110,7 +110,15 @@ no-points gs (r ∷ rs) (more f fs) e = by-point (hasPoint gs r) refl (no-points
 module _ (tol : ℕ) (gs : List ℕ) (small : (k : ℕ) → member k gs ≡ true → k < axisCodes) where
   shaped-group : (p : Piece) → Shaped gs (p .block) (p .last ≡ true → eq (weightOf (p .block)) f1 ≡ true) (p .rows) → Group gs p
   shaped-group p h =
-      record { filled = h .filled; formed = h .formed; lines = h .lines; carries = h .carries; bare = h .bare; marked = h .marked; ends = λ u a. record { equal = h .ends u a } }
+      record {
+        filled = h .filled;
+        formed = h .formed;
+        lines = h .lines;
+        carries = h .carries;
+        bare = h .bare;
+        marked = h .marked;
+        ends = λ u a. record { equal = h .ends u a };
+      }
 
   -- the shape of the row that came, by that of the row that the store holds
   came-shaped : (r : List ℕ) {asks : Type 0} {g : List (List ℕ)} → Shaped gs (outRow r) asks g → Shaped gs r asks g
@@ -172,7 +180,7 @@ module _ (tol : ℕ) (gs : List ℕ) (small : (k : ℕ) → member k gs ≡ true
           (omega (arith, ap length blocks-are, length-append (map outRow (goesOn s r)) (outRow r ∷ map outRow later), length-map (goesOn s r) outRow))
           ∙ ap (heldGroup whole (runsOf whole)) (sym (length-map (goesOn s r) outRow))
 
-      -- "on the last point of a B-spline this needs weight 1"
+      -- 8.9: on the last point of a B-spline this asks for weight 1
       asked : pieceOf tol gs s r es .last ≡ (isBasis (now .motion) && (hasPoint gs r && not (anyOf (hasPoint gs) later)))
       unfolding pieceOf now later
       asked = refl

@@ -1,4 +1,4 @@
--- "Refused calls in between change none of it": the same calls without them leave and write the same. Assumes nothing.
+-- LAWS. 8.10: the same calls without the refused ones leave and write the same. Assumes nothing.
 use Prim.Native.Nat.{ℕ}
 use mathlib.Core.Path.{_≡_, refl, sym, _∙_, ap}
 use mathlib.Core.Bool.{false, cond}

@@ -1,4 +1,4 @@
--- "Done replies give the rows written; places beyond them stay", "closing again writes nothing", and when a start and a seed are done. Assumes nothing.
+-- LAWS. 2.2: places beyond the rows stay; 3.15: closing again writes nothing; and when a start and a seed are done. Assumes nothing.
 use Prim.Native.Nat.{ℕ, _+_, _*_, _≤_}
 use mathlib.Core.Path.{_≡_, refl, sym, _∙_, ap, subst}
 use mathlib.Core.Bool.{true}
@@ -29,7 +29,7 @@ use Rattle.demands.specs.Answers.{places, push-done, push-accepted, clos
 use Rattle.demands.specs.StateWords.{forgotten-held}
 use Rattle.demands.specs.Written.{take-written}
 
--- ---- start and seed: "9 (length only), 1, 2"; "9 (state fields), 2, 3"
+-- ---- 2.17, 2.18: when a start and a seed are done
 pub start-done : (st : List ℕ) (tol : ℕ) (axes : List ℕ) → length st ≡ stateWords → tolOk tol ≡ true → codesOk axes ≡ true
     → startSpec st tol axes ≡ record { reply = plain 0; state = fresh tol axes }
 unfolding startSpec
@@ -77,7 +77,7 @@ close-places st store rows z =
       beyond = drop-written rows (closeRows st store) (closeRows-long st store);
     })
 
--- ---- "closing again writes nothing"
+-- ---- 3.15: closing again writes nothing
 none-left : (st store : List ℕ) → Saved st store → held (closeState st) ≡ 0
 unfolding closeState
 none-left st store p = by-bit (eqb (held st) 0) (λ b. rw b (eqb-true _ 0 b)) (λ b. rw b (forgotten-held st (p .words)))

@@ -153,7 +153,8 @@ module _ (gs r : List ℕ) (fine : Fine r) where
 
   -- it goes out unchanged
   pub out-shaped : {asks : Type 0} → Shaped gs r asks (outRow r ∷ [])
-  out-shaped = one-shaped (outRow r) (out-formed r) (out-line r) (out-carries gs r) (λ a k v w h pv cw. same-number k v w h pv (sym (out-cell r k (omega arith)) ∙ cw))
+  out-shaped =
+      one-shaped (outRow r) (out-formed r) (out-line r) (out-carries gs r) (λ a k v w h pv cw. same-number k v w h pv (sym (out-cell r k (omega arith)) ∙ cw))
 
   -- a made row shows what was programmed, if its listed axes do: the others ride on a first row, and are on no other
   module _ (first : Bool) (motion : ℕ) (marked : Bool) (f : ℕ → Option ℕ) (off : (k : ℕ) → member k gs ≡ false → f k ≡ none) where

@@ -1,11 +1,11 @@
--- Wrong programs that document 01 names, each shut out by what a push has to answer: refusing always, writing nothing, one fixed row for every block, only the first block's rows, an invented needed count. Assumes nothing.
+-- LAWS. 8.12: five wrong programs, each shut out by what a push has to answer. Assumes nothing.
 use Prim.Native.Nat.{ℕ, _*_, _≤_, _<_}
 use mathlib.Core.Path.{_≡_, refl, sym, _∙_, ap}
 use mathlib.Core.List.{List, [], _∷_}
 use native.Mathlib.Omega.{arith}
 use lib.ListN.{length, getD, replicate, set, length-append, length-map}
 use Rattle.row_cells.specs.Codes.{geometricOf}
-use Rattle.demands.specs.Demands.{Group, Formed, rowAt, Written}
+use Rattle.demands.specs.Demands.{Group, rowAt, Written}
 use Rattle.demands.specs.Groups.{Event, Piece, pieces, groups, blocksOf}
 use Rattle.demands.specs.Laws.{Every, nil, more, flatten-append}
 use Rattle.layout.specs.Layout.{rowWords, rLine}
@@ -82,7 +82,7 @@ module _ (f : Program) (m : Meets f) where
       let e : _≡_ {A = ℕ} 7 1 = ap (λ (l : List ℕ). getD l 0 0) (sym (h begun [] room (line 1)) ∙ rowsOf begun [] room (line 1)) ∙ word 1 in
       omega arith
 
-  -- "one fixed row for every block"
+  -- one fixed row for every block, by any program that meets the contract
   pub one-fixed-row : (row : List ℕ) → ((st store rows r : List ℕ) → f st store rows r .reply .code ≡ 0 → f st store rows r .rows ≡ spliced rows 0 row) → ⊥
   one-fixed-row row h =
       let e : _≡_ {A = ℕ} 1 2 =
@@ -98,7 +98,7 @@ module _ (f : Program) (m : Meets f) where
       code : (n : ℕ) → pushedLine n .reply .code ≡ 0 → f begun [] room (line n) .reply .code ≡ 0
       code n e = ap (λ (a : After). a .reply .code) (m begun [] room (line n)) ∙ e
 
-  -- "or only the first block's rows": a second push, on what the first left, that writes nothing
+  -- only the first block's rows: a second push, on what the first left, that writes nothing
   pub only-the-first : ((st store rows r r′ : List ℕ) → f (f st store rows r .state) (f st store rows r .store) rows r′ .rows ≡ rows) → ⊥
   only-the-first h =
       let a : After = f begun [] room (line 1) in

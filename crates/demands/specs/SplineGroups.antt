@@ -39,7 +39,8 @@ use Rattle.demands.specs.Demands.{Bare}
 use Rattle.demands.specs.Laws.{some-same, none-some, Every, every-head, every-tail, every-keep}
 use Rattle.demands.specs.Accepted.{Fine}
 use Rattle.demands.specs.InRange.{in-range, tidy-eq, num-bits, shown-bits}
-use Rattle.demands.specs.Shapes.{Shaped, one-shaped, upto-shaped, made-line, made-mark, made-formed, made-shows, made-bare, made-carries, out-shaped, programmed}
+use Rattle.demands.specs.Shapes.{Shaped, one-shaped, upto-shaped, made-line, made-mark, made-formed, made-shows, made-bare, made-carries, out-shaped}
+use Rattle.demands.specs.Shapes.{programmed}
 use Rattle.demands.specs.Shapes.{same-number}
 use Rattle.demands.specs.SplineRuns.{fit-length, fit-ends, points-length, PointOf, point-of, place-of, Placed, point-number}
 use Rattle.demands.specs.SplinePoints.{channels-listed, Word, word-modest, word-fits, Words, start-words, all-words, all-weights}
@@ -231,7 +232,7 @@ module _ (sp : Spline) (B : List (List ℕ)) (r : List ℕ) (M : List (List ℕ)
       unfolding pts startPoint
       start-length = length-map (channels sp) _
 
-      -- "on the last point of a B-spline this needs weight 1"
+      -- 8.9: on the last point of a B-spline this asks for weight 1
       basis-number : isBasis sp ≡ true → length Y ≡ 0 → eq (weightOf r) f1 ≡ true → (k v : ℕ) → member k (channels sp) ≡ true → cell r k ≡ some v
           → tidy (at end (placeOf k (channels sp))) ≡ tidy (num v)
       basis-number b z one k v m e =
@@ -326,7 +327,8 @@ module _ (sp : Spline) (B : List (List ℕ)) (r : List ℕ) (M : List (List ℕ)
         unfolding row end
         made-shaped has =
             let p : 0 < length run = omega (arith, has) in
-            upto-shaped row (length run) p (λ i h. made-formed (sp .axes) r _ _ _ _) (λ i h. made-line (sp .axes) r _ _ _ _) (made-carries (sp .axes) r word0 _ _) (λ i q h. row-bare i q) row-marked
+            upto-shaped row (length run) p (λ i h. made-formed (sp .axes) r _ _ _ _) (λ i h. made-line (sp .axes) r _ _ _ _)
+            (made-carries (sp .axes) r word0 _ _) (λ i q h. row-bare i q) row-marked
             (λ u a. made-shows (sp .axes) r fine _ word0 _ _ (off end) (end-shows (row-end p u) has a))
 
         bare-shaped : Shaped (sp .axes) r asks (madeRow (sp .axes) r true word0 false (ownCell sp r) ∷ [])

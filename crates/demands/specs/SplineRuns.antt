@@ -39,7 +39,7 @@ fit-length cubic ms tol pts =
     (λ b. rw b (length-upto _ _))
     (λ b. rw b (length-upto _ _))
 
--- "A group's last row is the programmed point": each run is empty or ends on its point
+-- 5.15: each run is empty or ends on its point
 pub fit-ends : (cubic : Bool) (ms : List ℕ) (tol : Float) (pts : List (List Float)) (j : ℕ) → j < length pts - 1
     → (getD (fitRuns cubic ms tol pts) j [] ≡ []) ⊎ EndsWith (getD (fitRuns cubic ms tol pts) j []) (pointOf pts (j + 1))
 unfolding fitRuns

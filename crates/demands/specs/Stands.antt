@@ -358,7 +358,7 @@ module _ {tol : ℕ} {gs : List ℕ} {s : Standing} {st store : List ℕ} (c x :
       past = λ k l. (seed-past k l, t .past k l .1);
     }
 
-  -- "Seeding codes 10-14 or an axis not listed .. changes nothing"
+  -- 2.21: a seed of a code that is no geometric axis changes nothing
   unlisted : member c gs ≡ false → (k : ℕ) → movedBySeed gs (s .place) c x k ≡ s .place k
   unfolding movedBySeed
   unlisted f k =

@@ -1,4 +1,4 @@
--- Document 01, "Rows to check by hand": the starred rows, through the four calls, as one theorem over the list. Assumes nothing.
+-- LAWS. 8.13: rows worked out by hand, through the four calls, as one theorem over the list. Assumes nothing.
 use Prim.Native.Nat.{ℕ, _+_, _^_}
 use mathlib.Core.Path.{_≡_, refl}
 use mathlib.Core.List.{List, [], _∷_, _++_, map}
@@ -76,7 +76,8 @@ unfolding Lists.upto Lists.keep Lists.member Lists.anyOf Lists.flatten Lists.row
     Whole.ceilCount Whole.halfUpCount Whole.truncCount Trig.sinSteps Trig.cosSteps Trig.atanFrom Trig.atanRight Trig.atanLeft Trig.atanUp Trig.atan2Steps
     Trig.acosSteps Motion.kindOf Motion.isSpline Motion.isOther Motion.isBasis Motion.isCubic Codes.planeU Codes.planeV Codes.planeOk Codes.geometricOf
     Bits.has Lists.all Row.cell Row.number Row.shown Row.axesOf Row.maskOf Row.rowOf Row.outRow Row.hasPoint Made.rides Made.withRiders Made.madeRow
-    Check.shapeOk Check.within Check.cellOk Check.numbersOk Check.above1000 Check.turnOk Check.rowCheck Arc.passed Arc.silent Arc.sideOf Arc.crCentre Arc.centreOf
+    Check.shapeOk Check.within Check.cellOk Check.numbersOk Check.above1000 Check.turnOk Check.rowCheck Arc.passed Arc.silent Arc.sideOf Arc.crCentre
+    Arc.centreOf
     Arc.radius Arc.wideCentre Arc.agree Arc.sweepLeft Arc.sweepOf Arc.turned Arc.arcOf Arc.stepOf Arc.wantedOf Arc.countOf Arc.ramp Arc.lastCell
     Arc.midCell Arc.arcRow Arc.heldAxes Arc.arcRows Arc.fromCentre Arc.fromStart Arc.arcAnswer Metric.dotTo Metric.lenTo Metric.along Metric.distTo
     Metric.deviationOf Metric.chordTo Metric.chords Walk.near Walk.flat Walk.samples Basis.degreeOf Basis.knots Basis.share Basis.raisedAt Basis.levels
@@ -95,23 +96,23 @@ asked t cs = lastOf (Start.startSpec (replicate 44 7) t xyz .state) (replicate 1
 unfoldable pub from : ℕ → ℕ → Call
 from x y = pushing (replicate 29 7) (row 1 2 (0 ∷ x ∷ 1 ∷ y ∷ []))
 
--- "Tolerance 0, -1, NaN, infinity"
+-- a start with this tolerance: its reply
 unfoldable pub started : ℕ → ℕ
 started t = Start.startSpec (replicate 44 7) t xyz .reply .code
 
--- "TURN"
+-- a block with this TURN: its reply
 unfoldable pub turning : ℕ → ℕ
 turning t = getD (asked w0·1 (pushing (replicate 29 7) (row 1 2 (19 ∷ t ∷ [])) ∷ [])) 0 9
 
--- "(0,0) to (10,0): CR", by G2 and G3: the warning
+-- from (0,0) to (10,0) with this CR, by G2 and G3: the warning
 unfoldable pub chord : ℕ → ℕ → ℕ
 chord motion cr = getD (asked w0·1 (from 0 0 ∷ pushing (replicate 261 7) (row 2 motion (0 ∷ w10 ∷ 1 ∷ 0 ∷ 18 ∷ cr ∷ [])) ∷ [])) 2 9
 
--- "Same full circle": the count
+-- the full circle of radius 10 at this tolerance: the count
 unfoldable pub circle : ℕ → ℕ
 circle t = getD (asked t (from w10 0 ∷ pushing (replicate 87 7) (row 2 4 (0 ∷ w10 ∷ 1 ∷ 0 ∷ 15 ∷ -w10 ∷ [])) ∷ [])) 1 9
 
--- "BSPLINE from (0,0) by (10,0) to (10,10), tolerance 100"
+-- a B-spline from (0,0) by (10,0) to (10,10), at tolerance 100
 unfoldable pub bent : List ℕ
 bent =
     asked w100
@@ -120,17 +121,17 @@ bent =
     ∷ pushing [] (row 3 0 (0 ∷ w10 ∷ 1 ∷ w10 ∷ []))
     ∷ closing (replicate 87 7) ∷ [])
 
--- "*Tolerance 0, -1, NaN, infinity: 1"
+-- 0, -1, NaN and infinity are refused by 1
 tolerances : map started (0 ∷ 0xbff0000000000000 ∷ 0x7ff8000000000000 ∷ 0x7ff0000000000000 ∷ []) ≡ 1 ∷ 1 ∷ 1 ∷ 1 ∷ []
 unfolding started Start.startSpec State.tolOk
 tolerances = refl
 
--- "*TURN 1,000 passes rule 5; *1,000.4 doesn't"
+-- 1,000 turns pass, 1,000.4 do not
 turns : map turning (0x408f400000000000 ∷ 0x408f433333333333 ∷ []) ≡ 0 ∷ 5 ∷ []
 unfolding asked turning row
 turns = refl
 
--- "*CR 4.999 warns 3; *CR 4.9999999995 doesn't"
+-- CR 4.999 warns 3, CR 4.9999999995 does not
 chords-2 : map (chord 3) (0x4013fef9db22d0e5 ∷ 0x4013fffffff768fa ∷ []) ≡ 3 ∷ 0 ∷ []
 unfolding asked chord from row
 chords-2 = refl
@@ -139,12 +140,12 @@ chords-3 : map (chord 4) (0x4013fef9db22d0e5 ∷ 0x4013fffffff768fa ∷ []) ≡ 
 unfolding asked chord from row
 chords-3 = refl
 
--- "*Same full circle, tolerance 10: 2; *30: 1"
+-- 2 rows at tolerance 10, 1 at 30
 circles : map circle (w10 ∷ w30 ∷ []) ≡ 2 ∷ 1 ∷ []
 unfolding asked circle from row
 circles = refl
 
--- "*BSPLINE ..: a row with no axes, then (10,10) unmarked"
+-- a row with no axes, then (10,10), unmarked
 bspline : bent ≡ 0 ∷ 2 ∷ 0 ∷ row 2 2 [] ++ row 3 0 (0 ∷ w10 ∷ 1 ∷ w10 ∷ [])
 unfolding asked bent from row
 bspline = refl

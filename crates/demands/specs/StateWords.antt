@@ -290,7 +290,7 @@ module _ (st r : List ℕ) (n : length st ≡ stateWords) where
       (λ (g : k < m). track-there k m (omega arith) g (track-in m (omega arith) k g))
       (eq-or-lt-of-le (le-of-suc-le-suc l))
 
-  -- "positions take the geometric cells present"
+  -- 3.13: positions take the geometric cells present
   pub track-takes : (k : ℕ) → k < axisCodes
       → position (trackTo axisCodes st r) k ≡ cond (has (presentOf r) k && member k (geometric st)) (some (getD r (rCells + k) 0)) (position st k)
   unfolding tracked takes cellWord

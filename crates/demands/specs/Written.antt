@@ -10,7 +10,7 @@ use lib.ListN.{length, take}
 use lib.Seq.{take-at}
 use lib.Dec.{leb, eqb}
 use lib.Ieee.{Float}
-use borrow.Author.Tests.{eqb-true, eqb-false, leb-true}
+use borrow.Author.Tests.{eqb-true, eqb-false}
 use Rattle.floats.specs.Numbers.{num}
 use Rattle.floats.specs.Lists.{flatten, spliced}
 use Rattle.floats.specs.Fill.{lt-or-le}
@@ -18,7 +18,7 @@ use Rattle.layout.specs.Layout.{axisCodes, lastCode, rowWords}
 use Rattle.motion.specs.Motion.{isSpline, kindOf}
 use Rattle.row_cells.specs.Row.{planeOf, outRow}
 use Rattle.row_check.specs.Check.{within}
-use Rattle.floats.specs.Truth.{by-bit, cond-t, cond-f, and-left, and-right}
+use Rattle.floats.specs.Truth.{by-bit, cond-t, cond-f}
 use Rattle.spline_emission.specs.Emission.{Spline, splineGroups}
 use Rattle.saved_state.specs.State.{stateOk, held, position, curveStart, tolerance, motionNow, degree, savedCheck}
 use Rattle.call_close.specs.Held.{heldSpline, emission}

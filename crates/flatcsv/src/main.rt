@@ -24,7 +24,7 @@ ghost use mathlib.Core.Path.{_≡_};
 ghost use Prim.Native.Nat.{_<_, _≤_};
 ghost use lib.ListN.{length};
 ghost use Rattle.call_start.specs.Start.{startSpec};
-ghost use Rattle.csv_io.specs.Status.{goesOn, ended};
+ghost use Rattle.csv_io.specs.Status.{goesOn};
 ghost use Rattle.csv_step.specs.Csv.{tolerance, axes, begun};
 ghost use Rattle.csv_step.specs.Steps.{Room, slices};
 ghost use Rattle.flatcsv.specs.Reading.{goingOf, behind, firstReading};

@@ -1,4 +1,4 @@
--- Document 01, "Steps of a push" and the order of refusals: a block's motion and plane, the spline that it ends, and what it is refused for. Assumes nothing.
+-- DEFINITIONS. A block's motion and plane, the spline that it ends, what it is refused for: rules 2.10, 2.19, 3.2, 3.3, 3.5, 3.8. Assumes nothing.
 use Prim.Native.Nat.{ℕ, _/_, min}
 use mathlib.Core.Bool.{Bool, _&&_, not, cond}
 use mathlib.Core.List.{List}
@@ -11,7 +11,7 @@ use Rattle.row_cells.specs.Row.{motionOf, planeOf}
 use Rattle.row_check.specs.Check.{rowCheck}
 use Rattle.saved_state.specs.State.{motionNow, planeNow, held, savedCheck}
 
--- "1. A motion cell sets the motion", "2. A plane cell sets the plane": 0 is no cell
+-- 3.2, 3.5: a block's own word, or the one in force where it has none
 unfoldable pub orNow : ℕ → ℕ → ℕ
 orNow v now = cond (eqb v 0) now v
 
@@ -21,7 +21,7 @@ motionThen st r = orNow (motionOf r) (motionNow st)
 abbrev pub planeThen : List ℕ → List ℕ → ℕ
 planeThen st r = orNow (planeOf r) (planeNow st)
 
--- "If blocks are held and the new motion differs, the spline is emitted first"
+-- 3.3: a held spline goes out before this block
 unfoldable pub emits : List ℕ → List ℕ → Bool
 emits st r = not (eqb (held st) 0) && not (eqb (motionThen st r) (motionNow st))
 
@@ -29,15 +29,15 @@ emits st r = not (eqb (held st) 0) && not (eqb (motionThen st r) (motionNow st))
 unfoldable pub kept : List ℕ → List ℕ → ℕ
 kept st r = cond (emits st r) 0 (held st)
 
--- "A motion cell with another word warns 7 once per word"
+-- 3.8: a curve word that is not flattened, and was not said yet
 unfoldable pub news : List ℕ → List ℕ → Bool
 news st r = isOther (motionOf r) && not (has (getD st wWarned 0) (motionOf r))
 
--- reply 6: "the block would be buffered and the spline store, after any spline this call emits, is full (256 blocks, or the lent whole blocks if fewer)"
+-- 2.10: 6, the store has no place for this block
 unfoldable pub isFull : List ℕ → List ℕ → List ℕ → Bool
 isFull st store r = isSpline (motionThen st r) && leb (min mostHeld (length store / rowWords)) (kept st r)
 
--- "Order: state fields (9), 8, held rows (9), 4, 3, 5, 6": 0, or the number of the refusal
+-- 2.19: 0, or the number of the refusal, in the order 9, 8, 9, 4, 3, 5, 6
 unfoldable pub pushCheck : List ℕ → List ℕ → List ℕ → ℕ
 pushCheck st store r =
     cond (eqb (savedCheck st store) 0)

@@ -1,4 +1,4 @@
--- Document 01, step 3 of a push: a block's own rows. Assumes nothing.
+-- DEFINITIONS. A block's own rows: rules 3.6, 3.9, 3.10. Assumes nothing.
 use Prim.Native.Nat.{ℕ}
 use mathlib.Core.Bool.{true, false}
 use mathlib.Core.List.{List, []}
@@ -11,7 +11,7 @@ use Rattle.saved_state.specs.State.{tolerance, geometric, position}
 use Rattle.push_check.specs.Blocks.{motionThen, planeThen}
 use Rattle.arc_rows.specs.Arc.{Answer, passed, arcAnswer}
 
--- "3. Linear, or another word: the row goes out unchanged"; arcs by their section; a block of a spline has no row yet
+-- 3.6, 3.9, 3.10: unchanged, an arc, or no row yet
 unfoldable pub answerAs : Kind → Float → List ℕ → ℕ → (ℕ → Option ℕ) → List ℕ → Answer
 answerAs Same tol gs plane pos r = passed 0 r
 answerAs Linear tol gs plane pos r = passed 0 r

@@ -96,7 +96,8 @@ pub turn-planned : (st r : List ℕ) (cw : Bool) (p : Plan) (gs plane : ℕ) (po
     → gs ≡ geometricMask st → plane ≡ planeThen st r → tol ≡ tolerance st → pos ≡ position st
     → Planned (axesOf gs) plane pos r (arcAnswer tol (axesOf gs) plane cw pos r) p → TurnPlanned st r cw p
 turn-planned st r cw p gs plane pos tol eg ep et es h =
-    let q : Planned (axesOf (geometricMask st)) (planeThen st r) (position st) r (arcAnswer (tolerance st) (axesOf (geometricMask st)) (planeThen st r) cw (position st) r) p =
+    let q : Planned (axesOf (geometricMask st)) (planeThen st r) (position st) r
+    (arcAnswer (tolerance st) (axesOf (geometricMask st)) (planeThen st r) cw (position st) r) p =
     rw (eg, ep, et, es) at h in
     subst (λ (a : Answer). Planned (axesOf (geometricMask st)) (planeThen st r) (position st) r a p)
     (arc-same (axesOf (geometricMask st)) (geometric st) (mask-members st) (tolerance st) (planeThen st r) cw (position st) r) q

@@ -11,10 +11,8 @@ use motion::Kind;
 use push_check::Resolved;
 use row_put::put_row;
 ghost use mathlib.Core.Path.{_≡_};
-ghost use Prim.Native.Nat.{_+_, _*_, _<_, _≤_};
-ghost use lib.ListN.{length};
+ghost use Prim.Native.Nat.{_+_, _<_};
 ghost use Rattle.floats.specs.Lists.{flatten, spliced};
-ghost use Rattle.layout.specs.Layout.{rowWords};
 ghost use Rattle.arc_rows.specs.Plan.{passPlan};
 ghost use Rattle.push_rows.specs.Own.{Ready, Writes, nonePlan, ownRows, OwnPlanned, TurnPlanned};
 

@@ -11,7 +11,8 @@ use Rattle.layout.specs.Layout.{rowWords}
 use Rattle.curve_runs.specs.Runs.{curveRuns}
 pub use Rattle.spline_points.specs.Points.{Spline}
 pub use Rattle.spline_places.specs.Groups.{isBasis}
-unfoldable pub use Rattle.spline_points.specs.Points.{pointRows, channelsFrom, channels, firstCell, startPoint, nextPoint, pointsFrom, metricOf, weightOf, placeOf}
+unfoldable pub use Rattle.spline_points.specs.Points.{pointRows, channelsFrom, channels, firstCell, startPoint, nextPoint, pointsFrom, metricOf, weightOf}
+unfoldable pub use Rattle.spline_points.specs.Points.{placeOf}
 unfoldable pub use Rattle.spline_places.specs.Groups.{sampleCell, ownCell, isMarked, pointGroup, heldGroup}
 
 -- the run of points of each point block; none where the curve gives it no sample

@@ -1,7 +1,7 @@
 // Lines of standard input, in a buffer of a fixed size: each turn of a program's reading loop is `next_turn`.
 use libc::STDIN_FILENO;
 ghost use Prim.Native.Nat.{_+_, _-_, _<_, _≤_};
-ghost use lib.ListN.{length, take};
+ghost use lib.ListN.{length};
 ghost use mathlib.Core.Path.{_≡_};
 ghost use Rattle.text_lines.specs.Cut.{cut, between};
 ghost use Rattle.text_lines.specs.Turns.{More, AtFront, Turned};

@@ -1,3 +1,4 @@
+-- `call_push::push` meets its contract. Assumes nothing.
 use mathlib.Core.Path.{sym, _∙_}
 use Rattle.call_push.proofs.Calls.{turned-answer, passed}
 use borrow.Author.Needs.{needs}

@@ -1,3 +1,4 @@
+-- `call_push::push_block` meets its contract. Assumes nothing.
 use native.Mathlib.Omega.{arith}
 use Rattle.push_rows.specs.Few.{few-own}
 use Rattle.call_push.proofs.Calls.{passes, passes-ready, few-answer, settles, done-answer}

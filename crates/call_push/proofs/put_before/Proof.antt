@@ -1,3 +1,4 @@
+-- `call_push::put_before` meets its contract. Assumes nothing.
 use Rattle.call_push.proofs.Calls.{put-before-some, put-before-none}
 use borrow.Author.Needs.{needs}
 use Rattle.call_push.proofs.put_before.Statement.{statement}

@@ -1,3 +1,4 @@
+-- `csv_decimal::half_even` meets its contract. Assumes nothing.
 use mathlib.Core.Path.{sym, _∙_}
 use Prim.Native.Nat.{_^_}
 use native.Mathlib.Nat.{div-le-self}

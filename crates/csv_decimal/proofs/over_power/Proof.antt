@@ -1,3 +1,4 @@
+-- `csv_decimal::over_power` meets its contract. Assumes nothing.
 use borrow.Author.Tests.{lt-ltb, le-ltb}
 use Rattle.csv_decimal.specs.Decimal.{quotient}
 use borrow.Author.Needs.{needs}
@@ -15,15 +16,26 @@ nearest-u64-to-f64-requires-2 c κs = search needs
 
 returns : tie.Need-returns
 unfolding quotient
-returns c = rw ((c .before .if1 .taken), lt-ltb _ _ (c .if2 .taken), (c .before .before .before .before .nearest-u64-to-f64 .ensures), (c .before .before .nearest-u64-to-f642 .ensures), (c .before .before .before .power .ensures))
+returns c =
+    let b2 = c .before .before in
+    let b3 = b2 .before in
+    let b4 = b3 .before in
+    rw ((c .before .if1 .taken), lt-ltb _ _ (c .if2 .taken), (b4 .nearest-u64-to-f64 .ensures), (b2 .nearest-u64-to-f642 .ensures), (b3 .power .ensures))
 
 returns-2 : tie.Need-returns-2
 unfolding quotient
-returns-2 c = rw ((c .before .if1 .taken), le-ltb _ _ (c .if2 .left), (c .before .before .before .before .nearest-u64-to-f64 .ensures), (c .before .before .nearest-u64-to-f642 .ensures), (c .before .before .before .power .ensures))
+returns-2 c =
+    let b2 = c .before .before in
+    let b3 = b2 .before in
+    let b4 = b3 .before in
+    rw ((c .before .if1 .taken), le-ltb _ _ (c .if2 .left), (b4 .nearest-u64-to-f64 .ensures), (b2 .nearest-u64-to-f642 .ensures), (b3 .power .ensures))
 
 returns-3 : tie.Need-returns-3
 unfolding quotient
-returns-3 c = rw ((c .if1 .left), (c .before .before .before .nearest-u64-to-f64 .ensures), (c .before .nearest-u64-to-f642 .ensures), (c .before .before .power .ensures))
+returns-3 c =
+    let b2 = c .before .before in
+    let b3 = b2 .before in
+    rw ((c .if1 .left), (b3 .nearest-u64-to-f64 .ensures), (c .before .nearest-u64-to-f642 .ensures), (b2 .power .ensures))
 
 pub over-power-spec : {M : Type 1} → statement M
 over-power-spec =

@@ -1,3 +1,4 @@
+-- `csv_decimal::power` meets its contract. Assumes nothing.
 use mathlib.Core.Path.{sym, ap}
 use Prim.Native.Nat.{ℕ, _^_}
 use Rattle.csv_decimal.proofs.Powers.{nine}

@@ -1,3 +1,4 @@
+-- `csv_decimal::scaled` meets its contract. Assumes nothing.
 use mathlib.Core.Path.{_∙_}
 use Rattle.csv_decimal.specs.Near.{in-parts}
 use borrow.Author.Needs.{needs}

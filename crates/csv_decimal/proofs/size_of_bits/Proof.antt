@@ -1,3 +1,4 @@
+-- `csv_decimal::size_of_bits` meets its contract. Assumes nothing.
 use mathlib.Core.Path.{sym, ap, _∙_}
 use native.Mathlib.Omega.{arith}
 use Rattle.csv_decimal.specs.Decimal.{millionths}
@@ -22,10 +23,18 @@ scaled-requires : tie.Need-scaled-requires
 scaled-requires c κs = search needs
 
 returns-3 : tie.Need-returns-3
-returns-3 c = let e = ap millionths (by-fields (c .before .before .before .before .args .b)) ∙ mid-fields _ _ _ (c .before .before .before .if1 .left) (c .before .before .if2 .left) in let f = (c .before .scaled .ensures) in omega arith
+returns-3 c =
+    let b2 = c .before .before in
+    let b3 = b2 .before in
+    let b4 = b3 .before in
+    let e = ap millionths (by-fields (b4 .args .b)) ∙ mid-fields _ _ _ (b3 .if1 .left) (b2 .if2 .left) in let f = (c .before .scaled .ensures) in omega arith
 
 returns-4 : tie.Need-returns-4
-returns-4 c = let e = ap millionths (by-fields (c .before .before .before .before .args .b)) ∙ mid-fields _ _ _ (c .before .before .before .if1 .left) (c .before .before .if2 .left) in let f = (c .before .scaled .ensures) in omega arith
+returns-4 c =
+    let b2 = c .before .before in
+    let b3 = b2 .before in
+    let b4 = b3 .before in
+    let e = ap millionths (by-fields (b4 .args .b)) ∙ mid-fields _ _ _ (b3 .if1 .left) (b2 .if2 .left) in let f = (c .before .scaled .ensures) in omega arith
 
 pub size-of-bits-spec : {M : Type 1} → statement M
 size-of-bits-spec =

@@ -1,3 +1,4 @@
+-- `csv_decimal::sticky` meets its contract. Assumes nothing.
 use Rattle.csv_decimal.specs.Near.{sticky-even, sticky-odd}
 use borrow.Author.Needs.{needs}
 use Rattle.csv_decimal.proofs.sticky.Statement.{statement}

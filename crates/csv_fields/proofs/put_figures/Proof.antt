@@ -1,3 +1,4 @@
+-- `csv_fields::put_figures` meets its contract. Assumes nothing.
 use native.Mathlib.Omega.{arith}
 use Rattle.csv_fields.specs.Figures.{Storing, starts, stores, ends}
 use borrow.Author.Needs.{needs}

@@ -1,3 +1,4 @@
+-- `csv_fields::put_number` meets its contract. Assumes nothing.
 use Prim.Native.Nat.{_-_}
 use Rattle.csv_fields.specs.Writers.{refused, not-below, all-zeros, with-minus}
 use borrow.Author.Needs.{needs}
@@ -20,7 +21,14 @@ same-length : tie.Need-same-length
 same-length c = search needs
 
 returns-2 : tie.Need-returns-2
-returns-2 c = with-minus _ _ _ _ (c .before .before .before .before .before .before .before .before .before .before .before .in-millionths .ensures) (c .before .before .before .before .before .before .before .before .before .before .if1 .left) (c .before .before .before .before .before .before .before .before .if3 .taken) (c .before .before .before .before .before .before .before .before .before .if2 .taken) (c .before .before .before .before .before .before .put-byte .ensures) (c .before .before .put-millionths .ensures)
+returns-2 c =
+    let b2 = c .before .before in
+    let b6 = b2 .before .before .before .before in
+    let b8 = b6 .before .before in
+    let b9 = b8 .before in
+    let b10 = b9 .before in
+    let b11 = b10 .before in
+    with-minus _ _ _ _ (b11 .in-millionths .ensures) (b10 .if1 .left) (b8 .if3 .taken) (b9 .if2 .taken) (b6 .put-byte .ensures) (b2 .put-millionths .ensures)
 
 put-millionths-requires-2 : tie.Need-put-millionths-requires-2
 put-millionths-requires-2 c κs = search needs
@@ -29,7 +37,13 @@ same-length-2 : tie.Need-same-length-2
 same-length-2 c = search needs
 
 returns-3 : tie.Need-returns-3
-returns-3 c = all-zeros _ _ _ _ (c .before .before .before .before .before .before .before .in-millionths .ensures) _ _ (c .before .before .before .before .before .before .if1 .left) (c .before .before .before .before .if3 .left) (c .before .before .before .before .before .if2 .taken) (c .before .before .put-millionths2 .ensures)
+returns-3 c =
+    let b2 = c .before .before in
+    let b4 = b2 .before .before in
+    let b5 = b4 .before in
+    let b6 = b5 .before in
+    let b7 = b6 .before in
+    all-zeros _ _ _ _ (b7 .in-millionths .ensures) _ _ (b6 .if1 .left) (b4 .if3 .left) (b5 .if2 .taken) (b2 .put-millionths2 .ensures)
 
 put-millionths-requires-3 : tie.Need-put-millionths-requires-3
 put-millionths-requires-3 c κs = search needs
@@ -38,7 +52,12 @@ same-length-3 : tie.Need-same-length-3
 same-length-3 c = search needs
 
 returns-4 : tie.Need-returns-4
-returns-4 c = not-below _ _ _ _ (c .before .before .before .before .before .before .in-millionths .ensures) _ _ (c .before .before .before .before .before .if1 .left) (c .before .before .before .before .if2 .left) (c .before .before .put-millionths3 .ensures)
+returns-4 c =
+    let b2 = c .before .before in
+    let b4 = b2 .before .before in
+    let b5 = b4 .before in
+    let b6 = b5 .before in
+    not-below _ _ _ _ (b6 .in-millionths .ensures) _ _ (b5 .if1 .left) (b4 .if2 .left) (b2 .put-millionths3 .ensures)
 
 pub put-number-spec : {M : Type 1} → statement M
 put-number-spec =

@@ -1,3 +1,4 @@
+-- `csv_fields::put_whole` meets its contract. Assumes nothing.
 use Prim.Native.Nat.{_-_}
 use native.Mathlib.Omega.{arith}
 use Rattle.csv_fields.specs.Writers.{width-ten, as-whole}

@@ -1,3 +1,4 @@
+-- `csv_fields::read_line` meets its contract. Assumes nothing.
 use Prim.Native.Nat.{_-_}
 use Rattle.csv_fields.specs.Readers.{line-none, line-at, line-high, line-more}
 use borrow.Author.Needs.{needs}
@@ -14,10 +15,16 @@ cast-t8 : tie.Need-cast-t8
 cast-t8 c = search needs
 
 returns-2 : tie.Need-returns-2
-returns-2 c = line-at _ _ _ (c .before .before .before .scan .ensures .0) (c .before .before .before .scan .ensures .1) (c .before .before .if1 .left) (c .before .if2 .taken) (c .if3 .taken)
+returns-2 c =
+    let b2 = c .before .before in
+    let b3 = b2 .before in
+    line-at _ _ _ (b3 .scan .ensures .0) (b3 .scan .ensures .1) (b2 .if1 .left) (c .before .if2 .taken) (c .if3 .taken)
 
 returns-3 : tie.Need-returns-3
-returns-3 c = line-high _ _ _ (c .before .before .before .scan .ensures .0) (c .before .before .before .scan .ensures .1) (c .before .before .if1 .left) (c .before .if2 .taken) (c .if3 .left)
+returns-3 c =
+    let b2 = c .before .before in
+    let b3 = b2 .before in
+    line-high _ _ _ (b3 .scan .ensures .0) (b3 .scan .ensures .1) (b2 .if1 .left) (c .before .if2 .taken) (c .if3 .left)
 
 returns-4 : tie.Need-returns-4
 returns-4 c = line-more _ _ _ (c .before .before .scan .ensures .0) (c .before .before .scan .ensures .1) (c .before .if1 .left) (c .if2 .left)

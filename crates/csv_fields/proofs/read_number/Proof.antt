@@ -1,3 +1,4 @@
+-- `csv_fields::read_number` meets its contract. Assumes nothing.
 use Prim.Native.Nat.{_-_}
 use Rattle.csv_fields.specs.Readers.{nothing, minus-in, no-minus}
 use borrow.Author.Needs.{needs}

@@ -1,3 +1,4 @@
+-- `csv_fields::read_unsigned` meets its contract. Assumes nothing.
 use Prim.Native.Nat.{_+_, _-_, _≤_}
 use native.Mathlib.Omega.{arith}
 use lib.ListN.{length}
@@ -16,7 +17,10 @@ over-power-requires : tie.Need-over-power-requires
 over-power-requires c κs = search needs
 
 returns-2 : tie.Need-returns-2
-returns-2 c = uns-whole _ _ _ _ (c .before .before .before .scan .ensures .0) (c .before .before .before .scan .ensures .1) (c .before .before .if1 .left) (c .before .if2 .taken) _ (c .over-power .ensures)
+returns-2 c =
+    let b2 = c .before .before in
+    let b3 = b2 .before in
+    uns-whole _ _ _ _ (b3 .scan .ensures .0) (b3 .scan .ensures .1) (b2 .if1 .left) (c .before .if2 .taken) _ (c .over-power .ensures)
 
 shared-slice-read-if3 : tie.Need-shared-slice-read-if3
 shared-slice-read-if3 c = uns-inside _ _ (c .before .before .before .scan .ensures .0) (c .before .if2 .left)
@@ -28,19 +32,34 @@ sub-read-fraction : tie.Need-sub-read-fraction
 sub-read-fraction c = omega (arith, uns-inside _ _ (c .before .before .before .before .scan .ensures .0) (c .before .before .if2 .left))
 
 part-read-fraction-start : tie.Need-part-read-fraction-start
-part-read-fraction-start c = let h : (c .before .before .before .before .scan .result .count) + 1 ≤ length (c .before .before .before .before .before .before .args .s .now) = omega (arith, uns-inside _ _ (c .before .before .before .before .scan .ensures .0) (c .before .before .if2 .left)) in search needs
+part-read-fraction-start c =
+    let b2 = c .before .before in
+    let b4 = b2 .before .before in
+    let b6 = b4 .before .before in
+    let h : (b4 .scan .result .count) + 1 ≤ length (b6 .args .s .now) = omega (arith, uns-inside _ _ (b4 .scan .ensures .0) (b2 .if2 .left)) in search needs
 
 part-read-fraction-end : tie.Need-part-read-fraction-end
 part-read-fraction-end c = search needs
 
 read-fraction-requires : tie.Need-read-fraction-requires
-read-fraction-requires c κs = uns-low _ _ _ (c .before .before .before .before .before .scan .ensures .0) (c .before .before .before .before .before .scan .ensures .1)
+read-fraction-requires c κs =
+    let b5 = c .before .before .before .before .before in
+    uns-low _ _ _ (b5 .scan .ensures .0) (b5 .scan .ensures .1)
 
 returns-3 : tie.Need-returns-3
-returns-3 c = uns-point _ _ _ _ (c .before .before .before .before .before .before .scan .ensures .0) (c .before .before .before .before .before .before .scan .ensures .1) (c .before .before .before .before .before .if1 .left) (c .before .before .before .before .if2 .left) (c .before .before .if3 .taken) _ (c .read-fraction .ensures)
+returns-3 c =
+    let b2 = c .before .before in
+    let b4 = b2 .before .before in
+    let b5 = b4 .before in
+    let b6 = b5 .before in
+    uns-point _ _ _ _ (b6 .scan .ensures .0) (b6 .scan .ensures .1) (b5 .if1 .left) (b4 .if2 .left) (b2 .if3 .taken) _ (c .read-fraction .ensures)
 
 returns-4 : tie.Need-returns-4
-returns-4 c = uns-other _ _ _ _ (c .before .before .before .before .scan .ensures .0) (c .before .before .before .before .scan .ensures .1) (c .before .before .before .if1 .left) (c .before .before .if2 .left) (c .if3 .left)
+returns-4 c =
+    let b2 = c .before .before in
+    let b3 = b2 .before in
+    let b4 = b3 .before in
+    uns-other _ _ _ _ (b4 .scan .ensures .0) (b4 .scan .ensures .1) (b3 .if1 .left) (b2 .if2 .left) (c .if3 .left)
 
 pub read-unsigned-spec : {M : Type 1} → statement M
 read-unsigned-spec =

@@ -1,3 +1,4 @@
+-- `csv_fields::scan` meets its contract. Assumes nothing.
 use Prim.Native.Nat.{_-_}
 use native.Mathlib.Omega.{arith}
 use lib.ListN.{length}
@@ -25,16 +26,27 @@ returns-2 : tie.Need-returns-2 Inv-loop μ-loop
 returns-2 c = no-digit _ _ _ _ _ (c .before .before .before .before .loop .inv) (c .before .before .before .loop-test .taken) (digit-under _ (c .if2 .taken))
 
 returns-3 : tie.Need-returns-3 Inv-loop μ-loop
-returns-3 c = no-digit _ _ _ _ _ (c .before .before .before .before .before .loop .inv) (c .before .before .before .before .loop-test .taken) (digit-over _ (c .if3 .taken))
+returns-3 c =
+    let b4 = c .before .before .before .before in
+    let b5 = b4 .before in
+    no-digit _ _ _ _ _ (b5 .loop .inv) (b4 .loop-test .taken) (digit-over _ (c .if3 .taken))
 
 mul-n : tie.Need-mul-n Inv-loop μ-loop
-mul-n c = omega (arith, room (c .before .before .before .before .before .loop .inv) (c .before .before .before .before .before .before .before .pre .0) (c .before .before .before .if1 .left))
+mul-n c =
+    let b3 = c .before .before .before in
+    let b5 = b3 .before .before in
+    let b7 = b5 .before .before in
+    omega (arith, room (b5 .loop .inv) (b7 .pre .0) (b3 .if1 .left))
 
 wide-requires : tie.Need-wide-requires Inv-loop μ-loop
 wide-requires c κs = search needs
 
 add-n : tie.Need-add-n Inv-loop μ-loop
-add-n c = omega (arith, (c .wide .ensures), room (c .before .before .before .before .before .before .loop .inv) (c .before .before .before .before .before .before .before .before .pre .0) (c .before .before .before .before .if1 .left))
+add-n c =
+    let b4 = c .before .before .before .before in
+    let b6 = b4 .before .before in
+    let b8 = b6 .before .before in
+    omega (arith, (c .wide .ensures), room (b6 .loop .inv) (b8 .pre .0) (b4 .if1 .left))
 
 add-i : tie.Need-add-i Inv-loop μ-loop
 add-i c = search needs
@@ -43,7 +55,12 @@ loop-less : tie.Need-loop-less Inv-loop μ-loop
 loop-less c = search needs
 
 loop-again : tie.Need-loop-again Inv-loop μ-loop
-loop-again c = turns _ _ _ _ _ (c .before .before .before .before .before .before .loop .inv) (c .before .before .before .before .before .loop-test .taken) (c .before .before .before .before .if1 .left) (c .before .before .if2 .left) (c .before .if3 .left) _ (c .wide .ensures)
+loop-again c =
+    let b2 = c .before .before in
+    let b4 = b2 .before .before in
+    let b5 = b4 .before in
+    let b6 = b5 .before in
+    turns _ _ _ _ _ (b6 .loop .inv) (b5 .loop-test .taken) (b4 .if1 .left) (b2 .if2 .left) (c .before .if3 .left) _ (c .wide .ensures)
 
 returns-4 : tie.Need-returns-4 Inv-loop μ-loop
 returns-4 c = at-end _ _ _ _ _ (c .before .loop .inv) (omega arith)

@@ -1,3 +1,4 @@
+-- `csv_line::code_at` meets its contract. Assumes nothing.
 use Prim.Native.Nat.{_-_}
 use native.Mathlib.Omega.{arith}
 use Rattle.csv_line.proofs.Columns.{code-low, code-mid, code-last}

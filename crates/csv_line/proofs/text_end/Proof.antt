@@ -1,3 +1,4 @@
+-- `csv_line::text_end` meets its contract. Assumes nothing.
 use Prim.Native.Nat.{_-_}
 use Rattle.csv_line.proofs.Lines.{end-short, end-no-cr, end-no-lf, end-found}
 use borrow.Author.Needs.{needs}

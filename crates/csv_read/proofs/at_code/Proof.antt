@@ -1,3 +1,4 @@
+-- `csv_read::at_code` meets its contract. Assumes nothing.
 use Prim.Native.Nat.{_-_}
 use Rattle.csv_read.proofs.Reading.{one-shifted}
 use borrow.Author.Needs.{needs}

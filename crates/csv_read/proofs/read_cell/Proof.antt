@@ -1,3 +1,4 @@
+-- `csv_read::read_cell` meets its contract. Assumes nothing.
 use Prim.Native.Nat.{_-_}
 use Rattle.csv_read.proofs.Reading.{cell-absent, cell-given, cell-bad}
 use borrow.Author.Needs.{needs}
@@ -20,7 +21,11 @@ enum-told : tie.Need-enum-told
 enum-told c = search needs
 
 returns-2 : tie.Need-returns-2
-returns-2 c = cell-given _ (c .before .before .before .before .before .if1 .left) _ (cc ((c .before .before .x .given .1), (c .before .before .before .before .read-number .ensures))) _ (c .bits .ensures)
+returns-2 c =
+    let b2 = c .before .before in
+    let b4 = b2 .before .before in
+    let b5 = b4 .before in
+    cell-given _ (b5 .if1 .left) _ (cc ((b2 .x .given .1), (b4 .read-number .ensures))) _ (c .bits .ensures)
 
 returns-3 : tie.Need-returns-3
 returns-3 c = cell-bad _ (c .before .before .before .if1 .left) (cc ((c .enum-told .given .1), (c .before .before .read-number .ensures)))

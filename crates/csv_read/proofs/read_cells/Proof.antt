@@ -1,3 +1,4 @@
+-- `csv_read::read_cells` meets its contract. Assumes nothing.
 use Prim.Native.Nat.{_-_}
 use native.Mathlib.Omega.{arith}
 use borrow.Author.Tests.{not-true, not-false}
@@ -28,7 +29,12 @@ same-length-2 : tie.Need-same-length-2 Inv-loop μ-loop
 same-length-2 c = search needs
 
 returns-2 : tie.Need-returns-2 Inv-loop μ-loop
-returns-2 c = ends-bad _ _ _ _ _ _ (c .before .before .before .before .before .before .before .before .loop .inv) _ _ (c .before .before .before .before .before .before .if1 .left) (c .before .before .before .before .before .before .before .loop-test .taken) (c .before .before .before .before .take-cell .ensures) (not-true _ (c .if2 .taken))
+returns-2 c =
+    let b4 = c .before .before .before .before in
+    let b6 = b4 .before .before in
+    let b7 = b6 .before in
+    let b8 = b7 .before in
+    ends-bad _ _ _ _ _ _ (b8 .loop .inv) _ _ (b6 .if1 .left) (b7 .loop-test .taken) (b4 .take-cell .ensures) (not-true _ (c .if2 .taken))
 
 add-i : tie.Need-add-i Inv-loop μ-loop
 add-i c = search needs
@@ -37,7 +43,12 @@ loop-less : tie.Need-loop-less Inv-loop μ-loop
 loop-less c = search needs
 
 loop-again : tie.Need-loop-again Inv-loop μ-loop
-loop-again c = takes-more _ _ _ _ _ _ _ _ (c .before .before .before .before .before .before .before .before .loop .inv) (c .before .before .before .before .before .before .if1 .left) (c .before .before .before .before .before .before .before .loop-test .taken) (c .before .before .before .before .take-cell .ensures) (not-false _ (c .if2 .left))
+loop-again c =
+    let b4 = c .before .before .before .before in
+    let b6 = b4 .before .before in
+    let b7 = b6 .before in
+    let b8 = b7 .before in
+    takes-more _ _ _ _ _ _ _ _ (b8 .loop .inv) (b6 .if1 .left) (b7 .loop-test .taken) (b4 .take-cell .ensures) (not-false _ (c .if2 .left))
 
 same-length-3 : tie.Need-same-length-3 Inv-loop μ-loop
 same-length-3 c = search needs

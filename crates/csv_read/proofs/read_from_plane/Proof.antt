@@ -1,3 +1,4 @@
+-- `csv_read::read_from_plane` meets its contract. Assumes nothing.
 use mathlib.Core.Path.{sym, _∙_}
 use Prim.Native.Nat.{_-_}
 use native.Mathlib.Omega.{arith}
@@ -23,10 +24,17 @@ enum-told : tie.Need-enum-told
 enum-told c = search needs
 
 returns : tie.Need-returns
-returns c = plane-nowhere _ _ (c .before .before .before .before .field-end .ensures) _ _ _ (sym (c .enum-told .given .1) ∙ c .before .before .read-plane .ensures)
+returns c =
+    let b2 = c .before .before in
+    let b4 = b2 .before .before in
+    plane-nowhere _ _ (b4 .field-end .ensures) _ _ _ (sym (c .enum-told .given .1) ∙ b2 .read-plane .ensures)
 
 returns-2 : tie.Need-returns-2
-returns-2 c = plane-last _ _ (c .before .before .before .before .before .before .field-end .ensures) _ _ _ (c .before .before .plane .given .0 .0) (sym (c .before .before .plane .given .1) ∙ c .before .before .before .before .read-plane .ensures) (c .if1 .taken)
+returns-2 c =
+    let b2 = c .before .before in
+    let b4 = b2 .before .before in
+    let b6 = b4 .before .before in
+    plane-last _ _ (b6 .field-end .ensures) _ _ _ (b2 .plane .given .0 .0) (sym (b2 .plane .given .1) ∙ b4 .read-plane .ensures) (c .if1 .taken)
 
 array-write-words : tie.Need-array-write-words
 array-write-words c = search needs
@@ -65,10 +73,26 @@ same-length : tie.Need-same-length
 same-length c = search needs
 
 returns-3 : tie.Need-returns-3
-returns-3 c = plane-on _ _ (c .before .before .before .before .before .before .before .before .before .before .before .before .before .before .before .before .field-end .ensures) _ _ _ (c .before .before .before .before .before .before .before .before .before .before .before .before .plane .given .0 .0) (sym (c .before .before .before .before .before .before .before .before .before .before .before .before .plane .given .1) ∙ c .before .before .before .before .before .before .before .before .before .before .before .before .before .before .read-plane .ensures) (c .before .before .before .before .before .before .before .before .before .before .if1 .left) _ _ (cells-read _ _ _ _ _ _ _ (c .before .before .before .before .before .if2 .taken) (c .before .before .before .before .before .before .before .read-cells .ensures) _ (c .before .before .copy-row .ensures))
+returns-3 c =
+    let b2 = c .before .before in
+    let b5 = b2 .before .before .before in
+    let b7 = b5 .before .before in
+    let b10 = b7 .before .before .before in
+    let b12 = b10 .before .before in
+    let b14 = b12 .before .before in
+    let b16 = b14 .before .before in
+    plane-on _ _ (b16 .field-end .ensures) _ _ _ (b12 .plane .given .0 .0) (sym (b12 .plane .given .1) ∙ b14 .read-plane .ensures) (b10 .if1 .left) _ _
+    (cells-read _ _ _ _ _ _ _ (b5 .if2 .taken) (b7 .read-cells .ensures) _ (b2 .copy-row .ensures))
 
 returns-4 : tie.Need-returns-4
-returns-4 c = plane-on _ _ (c .before .before .before .before .before .before .before .before .before .before .before .field-end .ensures) _ _ _ (c .before .before .before .before .before .before .before .plane .given .0 .0) (sym (c .before .before .before .before .before .before .before .plane .given .1) ∙ c .before .before .before .before .before .before .before .before .before .read-plane .ensures) (c .before .before .before .before .before .if1 .left) _ _ (cells-not _ _ _ _ _ _ _ (c .if2 .left) (c .before .before .read-cells .ensures))
+returns-4 c =
+    let b2 = c .before .before in
+    let b5 = b2 .before .before .before in
+    let b7 = b5 .before .before in
+    let b9 = b7 .before .before in
+    let b11 = b9 .before .before in
+    plane-on _ _ (b11 .field-end .ensures) _ _ _ (b7 .plane .given .0 .0) (sym (b7 .plane .given .1) ∙ b9 .read-plane .ensures) (b5 .if1 .left) _ _
+    (cells-not _ _ _ _ _ _ _ (c .if2 .left) (b2 .read-cells .ensures))
 
 pub read-from-plane-spec : {M : Type 1} → statement M
 read-from-plane-spec =

@@ -1,3 +1,4 @@
+-- `csv_read::take_cell` meets its contract. Assumes nothing.
 use Prim.Native.Nat.{_-_}
 use native.Mathlib.Omega.{arith}
 use Rattle.csv_read.proofs.Reading.{took, end-within, bit-low, cell-bit}
@@ -39,13 +40,19 @@ at-code-requires : tie.Need-at-code-requires
 at-code-requires c κs = (cell-bit (c .before .read-cell .ensures), (c .code-at .ensures .1))
 
 add-t17 : tie.Need-add-t17
-add-t17 c = let h = bit-low _ _ _ (c .before .before .before .before .before .before .before .pre .1 .0) (c .before .code-at .ensures .0) (cell-bit (c .before .before .read-cell .ensures)) in omega (arith, (c .at-code .ensures))
+add-t17 c =
+    let b2 = c .before .before in
+    let b7 = b2 .before .before .before .before .before in
+    let h = bit-low _ _ _ (b7 .pre .1 .0) (c .before .code-at .ensures .0) (cell-bit (b2 .read-cell .ensures)) in omega (arith, (c .at-code .ensures))
 
 same-length : tie.Need-same-length
 same-length c = search needs
 
 returns : tie.Need-returns
-returns c = took _ _ _ _ _ _ _ _ _ (c .before .before .before .before .field-end .ensures) (c .before .before .read-cell .ensures) (c .before .code-at .ensures .0) (c .at-code .ensures)
+returns c =
+    let b2 = c .before .before in
+    let b4 = b2 .before .before in
+    took _ _ _ _ _ _ _ _ _ (b4 .field-end .ensures) (b2 .read-cell .ensures) (c .before .code-at .ensures .0) (c .at-code .ensures)
 
 pub take-cell-spec : {M : Type 1} → statement M
 take-cell-spec =

@@ -1,3 +1,4 @@
+-- `csv_words::entry` meets its contract. Assumes nothing.
 use Prim.Native.Nat.{_-_}
 use Rattle.csv_words.specs.Table.{entry-is}
 use borrow.Author.Needs.{needs}

@@ -1,3 +1,4 @@
+-- `csv_words::find` meets its contract. Assumes nothing.
 use Prim.Native.Nat.{ℕ, _-_}
 use native.Mathlib.Omega.{arith}
 use Rattle.csv_words.specs.Seeks.{Seeking, as-number, seeks-first, seeks-hit, seeks-miss, seeks-end}
@@ -30,7 +31,13 @@ entry-requires : tie.Need-entry-requires Inv-loop μ-loop
 entry-requires c κs = search needs
 
 returns : tie.Need-returns Inv-loop μ-loop
-returns c = seeks-hit _ _ _ _ _ _ (c .before .before .before .loop .inv) (c .before .before .loop-test .taken) (λ (k : ℕ). ((c .before .before .before .before .before .shared-slice-known .given) k) .fits) (c .before .before .before .before .before .before .pre .1) _ (c .before .entry .ensures) (c .if1 .taken)
+returns c =
+    let b2 = c .before .before in
+    let b3 = b2 .before in
+    let b5 = b3 .before .before in
+    let b6 = b5 .before in
+    seeks-hit _ _ _ _ _ _ (b3 .loop .inv) (b2 .loop-test .taken) (λ (k : ℕ). ((b5 .shared-slice-known .given) k) .fits) (b6 .pre .1) _
+    (c .before .entry .ensures) (c .if1 .taken)
 
 add-i : tie.Need-add-i Inv-loop μ-loop
 add-i c = search needs

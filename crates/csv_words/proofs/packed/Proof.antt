@@ -1,3 +1,4 @@
+-- `csv_words::packed` meets its contract. Assumes nothing.
 use Prim.Native.Nat.{_-_}
 use native.Mathlib.Omega.{arith}
 use lib.ListN.{length}
@@ -25,7 +26,12 @@ wide-requires : tie.Need-wide-requires Inv-loop μ-loop
 wide-requires c κs = search needs
 
 add-n : tie.Need-add-n Inv-loop μ-loop
-add-n c = omega (arith, (c .wide .ensures), packs-room (c .before .before .before .loop .inv) (c .before .before .before .before .before .pre) (c .before .before .loop-test .taken), (c .before .before .before .before .shared-slice-known .given) (c .before .before .before .loop .i))
+add-n c =
+    let b2 = c .before .before in
+    let b3 = b2 .before in
+    let b4 = b3 .before in
+    let b5 = b4 .before in
+    omega (arith, (c .wide .ensures), packs-room (b3 .loop .inv) (b5 .pre) (b2 .loop-test .taken), (b4 .shared-slice-known .given) (b3 .loop .i))
 
 add-i : tie.Need-add-i Inv-loop μ-loop
 add-i c = search needs
@@ -34,7 +40,12 @@ loop-less : tie.Need-loop-less Inv-loop μ-loop
 loop-less c = search needs
 
 loop-again : tie.Need-loop-again Inv-loop μ-loop
-loop-again c = packs-more _ _ _ _ (c .before .before .before .loop .inv) (c .before .before .loop-test .taken) (c .wide .ensures) (omega (arith, (c .wide .ensures), (c .before .before .before .before .shared-slice-known .given) (c .before .before .before .loop .i)))
+loop-again c =
+    let b2 = c .before .before in
+    let b3 = b2 .before in
+    let b4 = b3 .before in
+    packs-more _ _ _ _ (b3 .loop .inv) (b2 .loop-test .taken) (c .wide .ensures)
+    (omega (arith, (c .wide .ensures), (b4 .shared-slice-known .given) (b3 .loop .i)))
 
 returns : tie.Need-returns Inv-loop μ-loop
 returns c = (packs-all _ _ _ (c .before .loop .inv) (omega arith), packs-low (c .before .loop .inv) (c .before .before .before .pre))

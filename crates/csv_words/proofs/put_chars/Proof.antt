@@ -1,3 +1,4 @@
+-- `csv_words::put_chars` meets its contract. Assumes nothing.
 use Prim.Native.Nat.{_-_}
 use native.Mathlib.Omega.{arith}
 use Rattle.csv_words.specs.Chars.{Storing, starts, stores, ends}

@@ -1,3 +1,4 @@
+-- `csv_words::put_plane` meets its contract. Assumes nothing.
 use Prim.Native.Nat.{_-_}
 use Rattle.csv_words.specs.Seeks.{as-plane}
 use borrow.Author.Needs.{needs}

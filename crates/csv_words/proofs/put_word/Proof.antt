@@ -1,3 +1,4 @@
+-- `csv_words::put_word` meets its contract. Assumes nothing.
 use Prim.Native.Nat.{_-_}
 use Rattle.csv_words.specs.Seeks.{as-word}
 use borrow.Author.Needs.{needs}
@@ -14,7 +15,11 @@ same-length : tie.Need-same-length
 same-length c = search needs
 
 returns : tie.Need-returns
-returns c = as-word _ _ (c .before .before .before .before .before .before .pre .1) (c .before .before .before .before .entry .ensures) (c .before .before .put-chars .ensures)
+returns c =
+    let b2 = c .before .before in
+    let b4 = b2 .before .before in
+    let b6 = b4 .before .before in
+    as-word _ _ (b6 .pre .1) (b4 .entry .ensures) (b2 .put-chars .ensures)
 
 pub put-word-spec : {M : Type 1} → statement M
 put-word-spec = tie.close (tie.spec entry-requires put-chars-requires same-length returns)

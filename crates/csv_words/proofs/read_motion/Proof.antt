@@ -1,3 +1,4 @@
+-- `csv_words::read_motion` meets its contract. Assumes nothing.
 use Prim.Native.Nat.{_-_}
 use Rattle.csv_words.specs.Seeks.{motion-long, motion-at, motion-none}
 use borrow.Author.Needs.{needs}

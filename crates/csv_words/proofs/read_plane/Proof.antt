@@ -1,3 +1,4 @@
+-- `csv_words::read_plane` meets its contract. Assumes nothing.
 use Prim.Native.Nat.{_-_}
 use Rattle.csv_words.specs.Seeks.{plane-empty, plane-long, plane-at, plane-none}
 use borrow.Author.Needs.{needs}

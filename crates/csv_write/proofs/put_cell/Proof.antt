@@ -1,3 +1,4 @@
+-- `csv_write::put_cell` meets its contract. Assumes nothing.
 use mathlib.Core.Path.{sym, _∙_}
 use Prim.Native.Nat.{_-_}
 use Rattle.csv_write.proofs.Writing.{cell-present, cell-absent}
@@ -36,13 +37,24 @@ same-length : tie.Need-same-length
 same-length c = search needs
 
 returns : tie.Need-returns
-returns c = cell-present _ _ _ (c .before .before .before .before .before .before .before .before .before .code-at .ensures .0) (sym (c .before .before .before .before .before .before .if1 .taken) ∙ (c .before .before .before .before .before .before .before .has-bit .ensures)) (c .before .before .before .before .before .before .before .before .before .before .before .before .put-byte .ensures) _ (c .before .before .before .of-bits .ensures) (c .before .before .put-number .ensures)
+returns c =
+    let b2 = c .before .before in
+    let b3 = b2 .before in
+    let b6 = b3 .before .before .before in
+    let b7 = b6 .before in
+    let b9 = b7 .before .before in
+    let b12 = b9 .before .before .before in
+    cell-present _ _ _ (b9 .code-at .ensures .0) (sym (b6 .if1 .taken) ∙ (b7 .has-bit .ensures)) (b12 .put-byte .ensures) _ (b3 .of-bits .ensures)
+    (b2 .put-number .ensures)
 
 same-length-2 : tie.Need-same-length-2
 same-length-2 c = search needs
 
 returns-2 : tie.Need-returns-2
-returns-2 c = cell-absent _ _ _ (c .before .before .before .code-at .ensures .0) (sym (c .if1 .left) ∙ (c .before .has-bit .ensures)) (c .before .before .before .before .before .before .put-byte .ensures)
+returns-2 c =
+    let b3 = c .before .before .before in
+    let b6 = b3 .before .before .before in
+    cell-absent _ _ _ (b3 .code-at .ensures .0) (sym (c .if1 .left) ∙ (c .before .has-bit .ensures)) (b6 .put-byte .ensures)
 
 pub put-cell-spec : {M : Type 1} → statement M
 put-cell-spec =

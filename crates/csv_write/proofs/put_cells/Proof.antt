@@ -1,3 +1,4 @@
+-- `csv_write::put_cells` meets its contract. Assumes nothing.
 use mathlib.Core.Path.{_≡_, _∙_}
 use Prim.Native.Nat.{ℕ, _-_, _≤_}
 use mathlib.Core.List.{_∷_}
@@ -20,7 +21,10 @@ loop-holds : tie.Need-loop-holds Inv-loop μ-loop
 loop-holds c = (omega arith, puts-none _ _ _ _ _)
 
 put-cell-requires : tie.Need-put-cell-requires Inv-loop μ-loop
-put-cell-requires c κs = ((c .before .before .before .before .before .pre .0), ((c .before .loop-test .taken), omega (arith, (c .before .before .loop .inv .1 .room), (c .before .before .loop .inv .1 .same))))
+put-cell-requires c κs =
+    let b2 = c .before .before in
+    let b5 = b2 .before .before .before in
+    ((b5 .pre .0), ((c .before .loop-test .taken), omega (arith, (b2 .loop .inv .1 .room), (b2 .loop .inv .1 .same))))
 
 enum-known-next : tie.Need-enum-known-next Inv-loop μ-loop
 enum-known-next c = search needs
@@ -32,7 +36,11 @@ same-length : tie.Need-same-length Inv-loop μ-loop
 same-length c = (c .before .before .before .before .put-cell .ensures .same) ∙ (c .before .before .before .before .before .before .before .loop .inv .1 .same)
 
 returns : tie.Need-returns Inv-loop μ-loop
-returns c = cells-tried _ (puts-off _ _ _ 11 (c .before .before .before .before .before .before .before .loop .inv .1) (c .before .before .before .before .before .before .loop-test .taken) (c .enum-told .given .1) (c .before .before .before .before .put-cell .ensures))
+returns c =
+    let b4 = c .before .before .before .before in
+    let b6 = b4 .before .before in
+    let b7 = b6 .before in
+    cells-tried _ (puts-off _ _ _ 11 (b7 .loop .inv .1) (b6 .loop-test .taken) (c .enum-told .given .1) (b4 .put-cell .ensures))
 
 add-i : tie.Need-add-i Inv-loop μ-loop
 add-i c = search needs
@@ -41,7 +49,10 @@ loop-less : tie.Need-loop-less Inv-loop μ-loop
 loop-less c = search needs
 
 loop-again : tie.Need-loop-again Inv-loop μ-loop
-loop-again c = (omega arith, puts-on _ _ _ _ (c .before .before .before .before .before .before .before .before .loop .inv .1) (c .before .next .given .1) (c .before .before .before .before .before .put-cell .ensures) (cell-length _ _))
+loop-again c =
+    let b5 = c .before .before .before .before .before in
+    let b8 = b5 .before .before .before in
+    (omega arith, puts-on _ _ _ _ (b8 .loop .inv .1) (c .before .next .given .1) (b5 .put-cell .ensures) (cell-length _ _))
 
 same-length-2 : tie.Need-same-length-2 Inv-loop μ-loop
 same-length-2 c = (c .before .loop .inv .1 .same)

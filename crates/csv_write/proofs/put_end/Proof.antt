@@ -1,3 +1,4 @@
+-- `csv_write::put_end` meets its contract. Assumes nothing.
 use Prim.Native.Nat.{_-_}
 use Rattle.csv_write.proofs.Writing.{unmarked, marked}
 use borrow.Author.Needs.{needs}
@@ -17,7 +18,11 @@ same-length : tie.Need-same-length
 same-length c = search needs
 
 returns : tie.Need-returns
-returns c = unmarked _ (c .before .before .before .before .if1 .taken) (c .before .before .before .before .before .before .before .before .put-byte .ensures) (c .before .before .put-crlf .ensures)
+returns c =
+    let b2 = c .before .before in
+    let b4 = b2 .before .before in
+    let b8 = b4 .before .before .before .before in
+    unmarked _ (b4 .if1 .taken) (b8 .put-byte .ensures) (b2 .put-crlf .ensures)
 
 put-byte-requires-2 : tie.Need-put-byte-requires-2
 put-byte-requires-2 c κs = search needs
@@ -29,7 +34,12 @@ same-length-2 : tie.Need-same-length-2
 same-length-2 c = search needs
 
 returns-2 : tie.Need-returns-2
-returns-2 c = marked _ (c .before .before .before .before .before .before .before .before .if1 .left) (c .before .before .before .before .before .before .before .before .before .before .before .before .put-byte .ensures) (c .before .before .before .before .before .before .put-byte2 .ensures) (c .before .before .put-crlf2 .ensures)
+returns-2 c =
+    let b2 = c .before .before in
+    let b6 = b2 .before .before .before .before in
+    let b8 = b6 .before .before in
+    let b12 = b8 .before .before .before .before in
+    marked _ (b8 .if1 .left) (b12 .put-byte .ensures) (b6 .put-byte2 .ensures) (b2 .put-crlf2 .ensures)
 
 pub put-end-spec : {M : Type 1} → statement M
 put-end-spec =

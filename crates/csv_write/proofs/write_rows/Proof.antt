@@ -1,3 +1,4 @@
+-- `csv_write::write_rows` meets its contract. Assumes nothing.
 use mathlib.Core.Path.{_≡_, refl, _∙_}
 use Prim.Native.Nat.{ℕ, _-_, _≤_}
 use native.Mathlib.Omega.{arith}
@@ -45,11 +46,20 @@ enum-told : tie.Need-enum-told Inv-loop μ-loop
 enum-told c = search needs
 
 same-length : tie.Need-same-length Inv-loop μ-loop
-same-length c = (c .before .before .before .before .write-row .ensures .same) ∙ (c .before .before .before .before .before .before .before .before .loop .inv .1 .same)
+same-length c =
+    let b4 = c .before .before .before .before in
+    let b8 = b4 .before .before .before .before in
+    (b4 .write-row .ensures .same) ∙ (b8 .loop .inv .1 .same)
 
 returns : tie.Need-returns Inv-loop μ-loop
 unfolding rowsText rowsWritable
-returns c = puts-off _ _ _ (c .before .before .before .before .before .before .before .before .before .before .before .args .count) (c .before .before .before .before .before .before .before .before .loop .inv .1) (c .before .before .before .before .before .before .before .loop-test .taken) (c .enum-told .given .1) (part-tried (c .before .before .before .before .before .before .before .before .before .before .before .args .rows .now) (c .before .before .before .before .before .before .before .before .loop .i) _ _ refl refl (c .before .before .before .before .write-row .ensures))
+returns c =
+    let b4 = c .before .before .before .before in
+    let b7 = b4 .before .before .before in
+    let b8 = b7 .before in
+    let b11 = b8 .before .before .before in
+    puts-off _ _ _ (b11 .args .count) (b8 .loop .inv .1) (b7 .loop-test .taken) (c .enum-told .given .1)
+    (part-tried (b11 .args .rows .now) (b8 .loop .i) _ _ refl refl (b4 .write-row .ensures))
 
 add-i : tie.Need-add-i Inv-loop μ-loop
 add-i c = search needs
@@ -58,14 +68,23 @@ loop-less : tie.Need-loop-less Inv-loop μ-loop
 loop-less c = search needs
 
 loop-again : tie.Need-loop-again Inv-loop μ-loop
-loop-again c = (omega arith, puts-on _ _ _ _ (c .before .before .before .before .before .before .before .before .before .loop .inv .1) (c .before .next .given .1) (part-tried (c .before .before .before .before .before .before .before .before .before .before .before .before .args .rows .now) (c .before .before .before .before .before .before .before .before .before .loop .i) _ _ refl refl (c .before .before .before .before .before .write-row .ensures)) (row-length _))
+loop-again c =
+    let b5 = c .before .before .before .before .before in
+    let b9 = b5 .before .before .before .before in
+    let b12 = b9 .before .before .before in (
+      omega arith,
+      puts-on _ _ _ _ (b9 .loop .inv .1) (c .before .next .given .1) (part-tried (b12 .args .rows .now) (b9 .loop .i) _ _ refl refl (b5 .write-row .ensures))
+          (row-length _),
+    )
 
 same-length-2 : tie.Need-same-length-2 Inv-loop μ-loop
 same-length-2 c = (c .before .loop .inv .1 .same)
 
 returns-2 : tie.Need-returns-2 Inv-loop μ-loop
 unfolding rowsText rowsWritable
-returns-2 c = let e : (c .before .loop .i) ≡ (c .before .before .before .before .args .count) = omega (arith, (c .before .loop .inv .0)) in puts-all _ _ _ (c .before .before .before .before .args .count) (c .before .loop .inv .1) e
+returns-2 c =
+    let b4 = c .before .before .before .before in
+    let e : (c .before .loop .i) ≡ (b4 .args .count) = omega (arith, (c .before .loop .inv .0)) in puts-all _ _ _ (b4 .args .count) (c .before .loop .inv .1) e
 
 pub write-rows-spec : {M : Type 1} → statement M
 write-rows-spec =

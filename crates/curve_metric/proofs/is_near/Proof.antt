@@ -4,8 +4,6 @@ use borrow.Author.Needs.{needs}
 use Rattle.curve_metric.proofs.Sums.{near-is}
 use Rattle.curve_metric.proofs.is_near.Statement.{statement}
 use Rattle.curve_metric.proofs.is_near.Tie as tie
-use Rattle.curve_metric.proofs.deviation2.Reads as deviation2-reads
-use Rattle.root.proofs.at_most.root_at_most.Reads as root-at-most-reads
 
 deviation2-requires : tie.Need-deviation2-requires
 deviation2-requires c κs = search needs

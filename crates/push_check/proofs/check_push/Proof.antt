@@ -1,3 +1,4 @@
+-- `push_check::check_push` meets its contract. Assumes nothing.
 use mathlib.Core.Path.{sym, _∙_}
 use Rattle.push_check.specs.BlockLaws.{block, due-saved, due-row, due-full, due-block}
 use Rattle.saved_state.specs.Checked.{saved-ok}

@@ -1,4 +1,5 @@
-use mathlib.Core.Path.{sym, ap, _∙_}
+-- `push_check::ends_spline` meets its contract. Assumes nothing.
+use mathlib.Core.Path.{sym, ap}
 use mathlib.Core.Bool.{not}
 use borrow.Author.Tests.{eq-eqb, ne-eqb}
 use Rattle.floats.specs.Truth.{and-t, and-f}

@@ -1,3 +1,4 @@
+-- `push_check::is_full` meets its contract. Assumes nothing.
 use mathlib.Core.Path.{sym, refl, ap₂, _∙_}
 use lib.Dec.{leb}
 use Rattle.floats.specs.Truth.{and-t, and-f}

@@ -1,3 +1,4 @@
+-- `push_check::is_news` meets its contract. Assumes nothing.
 use mathlib.Core.Path.{sym, ap, _∙_}
 use mathlib.Core.Bool.{not}
 use Rattle.floats.specs.Truth.{and-t, and-f}

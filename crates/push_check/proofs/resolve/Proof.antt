@@ -1,4 +1,4 @@
-use mathlib.Core.Path.{refl}
+-- `push_check::resolve` meets its contract. Assumes nothing.
 use Rattle.push_check.specs.BlockLaws.{block-listed, resolved-is}
 use borrow.Author.Needs.{needs}
 use Rattle.push_check.proofs.resolve.Statement.{statement}

@@ -1,3 +1,4 @@
+-- `push_rows::plan_turn` meets its contract. Assumes nothing.
 use native.Mathlib.Omega.{arith}
 use lib.ListN.{length-take, length-drop}
 use Rattle.push_rows.specs.Own.{place-is, turn-planned, ready-axes, ready-plane, ready-small}

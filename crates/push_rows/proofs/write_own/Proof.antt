@@ -1,3 +1,4 @@
+-- `push_rows::write_own` meets its contract. Assumes nothing.
 use native.Mathlib.Omega.{arith}
 use Rattle.push_rows.proofs.Writing.{unwritten}
 use borrow.Author.Needs.{needs}

@@ -1,3 +1,4 @@
+-- `push_rows::write_some` meets its contract. Assumes nothing.
 use native.Mathlib.Omega.{arith}
 use Rattle.push_rows.proofs.Writing.{passed-on}
 use borrow.Author.Needs.{needs}

@@ -1,3 +1,4 @@
+-- `push_rows::write_turn` meets its contract. Assumes nothing.
 use native.Mathlib.Omega.{arith}
 use lib.ListN.{length-take, length-drop}
 use Rattle.push_rows.specs.Own.{place-is, ready-axes, ready-plane, ready-small}

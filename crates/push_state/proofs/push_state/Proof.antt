@@ -1,3 +1,4 @@
+-- `push_state::push_state` meets its contract. Assumes nothing.
 use native.Mathlib.Omega.{arith}
 use Rattle.push_state.proofs.Steps.{step-1, block-2, held-2, long-3, block-4, axes-4, state-done}
 use borrow.Author.Needs.{needs}

@@ -1,3 +1,4 @@
+-- `push_state::push_store` meets its contract. Assumes nothing.
 use mathlib.Core.Path.{sym, _∙_}
 use native.Mathlib.Omega.{arith}
 use Rattle.floats.specs.Truth.{cond-t, cond-f}

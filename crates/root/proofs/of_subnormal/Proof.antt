@@ -13,7 +13,6 @@ use Rattle.root.proofs.Values.{root-pattern, low-value, root-hi}
 use borrow.Author.Needs.{needs}
 use Rattle.root.proofs.of_subnormal.Statement.{statement}
 use Rattle.root.proofs.of_subnormal.Tie as tie
-use Rattle.root.proofs.by_digits.Reads as by-digits-reads
 
 -- the shift s that takes b's leading digit to the place of 2 ^ 52
 record Led (b z : ℕ) : Type 0 where

@@ -10,7 +10,6 @@ use Rattle.root.proofs.Signs.{rootless, rooted, number, no-number}
 use borrow.Author.Needs.{needs}
 use Rattle.root.proofs.root.Statement.{statement}
 use Rattle.root.proofs.root.Tie as tie
-use Rattle.root.proofs.root_bits.Reads as root-bits-reads
 
 -- what owning an `f64` tells: the format holds it
 held : (c : tie.Start) → T (fits binary64 (c .args .x))

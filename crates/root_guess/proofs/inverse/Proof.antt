@@ -5,7 +5,6 @@ use Rattle.root_guess.specs.Products.{mul-lt-pow}
 use borrow.Author.Needs.{needs}
 use Rattle.root_guess.proofs.inverse.Statement.{statement}
 use Rattle.root_guess.proofs.inverse.Tie as tie
-use Rattle.root_guess.proofs.entry.Reads as entry-reads
 
 -- how far the place in the piece is from the piece's end
 abbrev across : ℕ → ℕ

@@ -5,7 +5,6 @@ use native.Mathlib.Omega.{arith}
 use borrow.Author.Needs.{needs}
 use Rattle.root_guess.proofs.lower.Statement.{statement}
 use Rattle.root_guess.proofs.lower.Tie as tie
-use Rattle.root_guess.proofs.inverse_scale.Reads as inverse-scale-reads
 
 scaled : (y k : ℕ) → y < 2 ^ 31 → k ≤ 2 ^ 31 → y * k ≤ (2 ^ 31 - 1) * 2 ^ 31
 scaled y k h l =

@@ -5,7 +5,6 @@ use Rattle.root_guess.specs.Products.{mul-lt-pow}
 use borrow.Author.Needs.{needs}
 use Rattle.root_guess.proofs.upper.Statement.{statement}
 use Rattle.root_guess.proofs.upper.Tie as tie
-use Rattle.root_guess.proofs.scale.Reads as scale-reads
 
 abbrev digits : ℕ → ℕ
 digits g = g / 2 ^ 21 % 0x8000_0000 + 0x7fff_ffff

@@ -7,7 +7,6 @@ use Rattle.bspline_tables.proofs.Steps.{advance-on, advance-here, advan
 use borrow.Author.Needs.{needs}
 use Rattle.bspline_tables.proofs.owner.advance.Statement.{statement}
 use Rattle.bspline_tables.proofs.owner.advance.Tie as tie
-use Rattle.bspline_tables.proofs.owner.greville.Reads as greville-reads
 
 abbrev Inv-loop : tie.InvT-loop
 Inv-loop ks p last from t o₀ o = ((from ≤ o) × (o ≤ last)) × (advanced ks p t (last - from) from ≡ advanced ks p t (last - o) o)

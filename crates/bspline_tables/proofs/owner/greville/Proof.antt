@@ -5,7 +5,6 @@ use Rattle.bspline_tables.proofs.Steps.{whole-in}
 use borrow.Author.Needs.{needs}
 use Rattle.bspline_tables.proofs.owner.greville.Statement.{statement}
 use Rattle.bspline_tables.proofs.owner.greville.Tie as tie
-use Rattle.bspline_tables.proofs.owner.sum_knots.Reads as sum-knots-reads
 
 sum-knots-requires : tie.Need-sum-knots-requires
 sum-knots-requires c κs = search needs

@@ -11,8 +11,6 @@ use Rattle.bspline_tables.proofs.Controls.{weights-are, lift1}
 use borrow.Author.Needs.{needs}
 use Rattle.bspline_tables.proofs.tables.fill_controls.Statement.{statement}
 use Rattle.bspline_tables.proofs.tables.fill_controls.Tie as tie
-use Rattle.bspline_tables.proofs.tables.channel.Reads as channel-reads
-use Rattle.bspline_tables.proofs.tables.copy.Reads as copy-reads
 
 abbrev Inv-loop : tie.InvT-loop
 Inv-loop pts ws ch n cw₀ a₀ c₀ cw a c = ((c ≤ ch) × (a ≡ c * n)) × Rowing cw₀ cw n (ch + 1) c (λ i. upto (controlAt pts ws ch i) n)

@@ -8,7 +8,6 @@ use Rattle.floats.specs.Fill.{Filling, filling-none, filling-more}
 use borrow.Author.Needs.{needs}
 use Rattle.bspline_tables.proofs.tables.fill_knots.Statement.{statement}
 use Rattle.bspline_tables.proofs.tables.fill_knots.Tie as tie
-use Rattle.bspline_tables.proofs.tables.knot.Reads as knot-reads
 
 abbrev Inv-loop : tie.InvT-loop
 Inv-loop p spans m ks₀ i₀ ks i = ((i ≤ m) × (m ≤ length ks₀)) × Filling ((λ i. ofNat (min (i - p) spans))) i ks₀ ks

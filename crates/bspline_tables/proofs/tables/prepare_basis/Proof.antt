@@ -4,9 +4,6 @@ use Rattle.bspline_tables.proofs.Steps.{degree-in, product-in, knots-ar
 use borrow.Author.Needs.{needs}
 use Rattle.bspline_tables.proofs.tables.prepare_basis.Statement.{statement}
 use Rattle.bspline_tables.proofs.tables.prepare_basis.Tie as tie
-use Rattle.bspline_tables.proofs.tables.degree_of.Reads as degree-of-reads
-use Rattle.bspline_tables.proofs.tables.fill_controls.Reads as fill-controls-reads
-use Rattle.bspline_tables.proofs.tables.fill_knots.Reads as fill-knots-reads
 
 degree-of-requires : tie.Need-degree-of-requires
 degree-of-requires c κs = search needs

@@ -8,7 +8,6 @@ use lib.Seq.{length-take-le}
 use borrow.Author.Needs.{needs}
 use Rattle.replay_text.proofs.ask.push_ask.Statement.{statement}
 use Rattle.replay_text.proofs.ask.push_ask.Tie as tie
-use Rattle.replay_text.proofs.ask.fill_row.Reads as fill-row-reads
 
 row-words : (l : List ℕ) → length l ≡ 64 → length (take 29 l) ≡ 29
 row-words l e = length-take-le 29 l (omega arith)

@@ -6,9 +6,6 @@ use lib.ListN.{length, length-set}
 use borrow.Author.Needs.{needs}
 use Rattle.replay_text.proofs.input.axis_list.Statement.{statement}
 use Rattle.replay_text.proofs.input.axis_list.Tie as tie
-use Rattle.replay_text.proofs.input.digits.Reads as digits-reads
-use Rattle.replay_text.proofs.input.is_dash.Reads as is-dash-reads
-use Rattle.replay_text.proofs.input.unread.Reads as unread-reads
 
 abbrev Inv-loop : tie.InvT-loop
 Inv-loop line at codes₀ next₀ n₀ codes next n = (n ≤ length codes) × (length codes ≡ length codes₀)

@@ -6,8 +6,6 @@ use lib.ListN.{length, length-set}
 use borrow.Author.Needs.{needs}
 use Rattle.replay_text.proofs.input.cells.Statement.{statement}
 use Rattle.replay_text.proofs.input.cells.Tie as tie
-use Rattle.replay_text.proofs.input.cell.Reads as cell-reads
-use Rattle.replay_text.proofs.input.unread.Reads as unread-reads
 
 abbrev Inv-loop : tie.InvT-loop
 Inv-loop line at present cells₀ next₀ left₀ k₀ cells next left k = (k ≤ length cells) × (length cells ≡ length cells₀)

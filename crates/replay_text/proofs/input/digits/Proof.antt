@@ -4,9 +4,6 @@ use lib.ListN.{length}
 use borrow.Author.Needs.{needs}
 use Rattle.replay_text.proofs.input.digits.Statement.{statement}
 use Rattle.replay_text.proofs.input.digits.Tie as tie
-use Rattle.replay_text.proofs.input.digit.Reads as digit-reads
-use Rattle.replay_text.proofs.input.unread.Reads as unread-reads
-use Rattle.replay_text.proofs.input.with_digit.Reads as with-digit-reads
 
 abbrev Inv-loop : tie.InvT-loop
 Inv-loop line at base i₀ value₀ i value = (at ≤ i) × ((value ≤ 0xffff_ffff_ffff_ffff) × (i ≤ at + 16))

@@ -6,8 +6,6 @@ use lib.ListN.{length, length-set}
 use borrow.Author.Needs.{needs}
 use Rattle.replay_text.proofs.input.raw_words.Statement.{statement}
 use Rattle.replay_text.proofs.input.raw_words.Tie as tie
-use Rattle.replay_text.proofs.input.field.Reads as field-reads
-use Rattle.replay_text.proofs.input.unread.Reads as unread-reads
 
 abbrev Inv-loop : tie.InvT-loop
 Inv-loop line at words₀ next₀ n₀ words next n = (n ≤ length words) × (length words ≡ length words₀)

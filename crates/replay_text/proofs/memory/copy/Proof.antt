@@ -5,7 +5,6 @@ use lib.ListN.{length}
 use borrow.Author.Needs.{needs}
 use Rattle.replay_text.proofs.memory.copy.Statement.{statement}
 use Rattle.replay_text.proofs.memory.copy.Tie as tie
-use Rattle.replay_text.proofs.memory.least.Reads as least-reads
 
 abbrev Inv-loop : tie.InvT-loop
 Inv-loop from to₀ n i₀ to i = (n ≤ length from) × ((n ≤ length to) × (length to ≡ length to₀))

@@ -3,8 +3,6 @@ use Prim.Native.Nat.{_-_, _≤_}
 use borrow.Author.Needs.{needs}
 use Rattle.replay_text.proofs.memory.is_resting.Statement.{statement}
 use Rattle.replay_text.proofs.memory.is_resting.Tie as tie
-use Rattle.replay_text.proofs.memory.least.Reads as least-reads
-use Rattle.replay_text.proofs.memory.resting.Reads as resting-reads
 
 abbrev Inv-loop : tie.InvT-loop
 Inv-loop rows n i₀ i = i ≤ n

@@ -4,7 +4,6 @@ use lib.Seq.{length-take-le}
 use borrow.Author.Needs.{needs}
 use Rattle.replay_text.proofs.memory.part.Statement.{statement}
 use Rattle.replay_text.proofs.memory.part.Tie as tie
-use Rattle.replay_text.proofs.memory.least.Reads as least-reads
 
 least-requires : tie.Need-least-requires
 least-requires c κs = search needs

@@ -5,8 +5,6 @@ use lib.ListN.{length}
 use borrow.Author.Needs.{needs}
 use Rattle.replay_text.proofs.memory.rest.Statement.{statement}
 use Rattle.replay_text.proofs.memory.rest.Tie as tie
-use Rattle.replay_text.proofs.memory.least.Reads as least-reads
-use Rattle.replay_text.proofs.memory.resting.Reads as resting-reads
 
 abbrev Inv-loop : tie.InvT-loop
 Inv-loop rows₀ n most m i₀ rows i = (m ≤ length rows) × (length rows ≡ length rows₀)

@@ -4,7 +4,6 @@ use lib.ListN.{length}
 use borrow.Author.Needs.{needs}
 use Rattle.replay_text.proofs.memory.same.Statement.{statement}
 use Rattle.replay_text.proofs.memory.same.Tie as tie
-use Rattle.replay_text.proofs.memory.least.Reads as least-reads
 
 abbrev Inv-loop : tie.InvT-loop
 Inv-loop a b n i₀ i = (n ≤ length a) × (n ≤ length b)

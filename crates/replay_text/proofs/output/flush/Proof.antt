@@ -4,8 +4,6 @@ use lib.Seq.{length-take-le}
 use borrow.Author.Needs.{needs}
 use Rattle.replay_text.proofs.output.flush.Statement.{statement}
 use Rattle.replay_text.proofs.output.flush.Tie as tie
-use Rattle.io.proofs.write_all.Reads as write-all-reads
-use Rattle.replay_text.proofs.memory.least.Reads as least-reads
 
 least-requires : tie.Need-least-requires
 least-requires c κs = search needs

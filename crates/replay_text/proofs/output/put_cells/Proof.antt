@@ -5,7 +5,6 @@ use lib.ListN.{length}
 use borrow.Author.Needs.{needs}
 use Rattle.replay_text.proofs.output.put_cells.Statement.{statement}
 use Rattle.replay_text.proofs.output.put_cells.Tie as tie
-use Rattle.replay_text.proofs.output.put_cell.Reads as put-cell-reads
 
 abbrev Inv-loop : tie.InvT-loop
 Inv-loop out₀ at present cells to₀ left₀ k₀ out to left k = (k ≤ length cells) × (length out ≡ length out₀)

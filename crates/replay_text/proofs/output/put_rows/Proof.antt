@@ -5,8 +5,6 @@ use lib.ListN.{length}
 use borrow.Author.Needs.{needs}
 use Rattle.replay_text.proofs.output.put_rows.Statement.{statement}
 use Rattle.replay_text.proofs.output.put_rows.Tie as tie
-use Rattle.replay_text.proofs.output.put_row_line.Reads as put-row-line-reads
-use Rattle.replay_text.proofs.output.flushed.Reads as flushed-reads
 
 abbrev Inv-loop : tie.InvT-loop
 Inv-loop rows count out₀ at to₀ w₀ left₀ out to w left = (w ≤ length rows) × (length out ≡ length out₀)

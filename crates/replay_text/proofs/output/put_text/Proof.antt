@@ -5,7 +5,6 @@ use lib.ListN.{length}
 use borrow.Author.Needs.{needs}
 use Rattle.replay_text.proofs.output.put_text.Statement.{statement}
 use Rattle.replay_text.proofs.output.put_text.Tie as tie
-use Rattle.replay_text.proofs.output.put_byte.Reads as put-byte-reads
 
 abbrev Inv-loop : tie.InvT-loop
 Inv-loop out₀ at text to₀ i₀ out to i = (i ≤ length text) × (length out ≡ length out₀)

@@ -3,7 +3,6 @@ use borrow.Author.Needs.{needs}
 use Rattle.root.proofs.Bound.{by-halves}
 use Rattle.root.proofs.at_most.greatest.Statement.{statement}
 use Rattle.root.proofs.at_most.greatest.Tie as tie
-use Rattle.root.proofs.at_most.product.Reads as product-reads
 
 product-requires : tie.Need-product-requires
 product-requires c κs = search needs

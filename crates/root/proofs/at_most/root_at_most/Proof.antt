@@ -8,10 +8,6 @@ use Rattle.root.proofs.Bound.{normal-is}
 use borrow.Author.Needs.{needs}
 use Rattle.root.proofs.at_most.root_at_most.Statement.{statement}
 use Rattle.root.proofs.at_most.root_at_most.Tie as tie
-use Rattle.floats.proofs.bits.Reads as bits-reads
-use Rattle.root.proofs.at_most.is_normal.Reads as is-normal-reads
-use Rattle.root.proofs.at_most.normal_at_most.Reads as normal-at-most-reads
-use Rattle.root.proofs.root.Reads as root-reads
 
 -- what owning an `f64` tells: the format holds it
 held-x : (c : tie.Start) → T (fits binary64 (c .args .x))
