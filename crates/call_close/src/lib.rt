@@ -15,6 +15,7 @@ use layout::W_START;
 use layout::W_TOLERANCE;
 use push_state::forget;
 use saved_state::state::saved_check;
+use spline_emission::Job;
 use spline_emission::emit_within;
 ghost use mathlib.Core.Path.{_≡_};
 ghost use Prim.Native.Nat.{_≤_};
@@ -37,16 +38,24 @@ pub fn put_emission(state: &[u64], store: &[u64], rows: &mut [u64], own: usize) 
     ensures { λ r. ⌜ Put own (emission (now (state .entry)) (now (store .entry))) (now (rows .entry)) r (now (rows .exit)) ⌝ }
 {
     let e = W_AXES + state[W_AXIS_COUNT] as usize;
+    let motion = state[W_MOTION];
+    let degree = state[W_DEGREE];
+    let tol = of_bits(state[W_TOLERANCE]);
+    let start = state[W_START];
+    let held = state[W_HELD] as usize;
+    let job = Job {
+        motion: motion,
+        degree: degree,
+        tol: tol,
+        start: start,
+        held: held,
+        own: own,
+    };
     emit_within(
-        state[W_MOTION],
-        state[W_DEGREE],
-        of_bits(state[W_TOLERANCE]),
+        job,
         &state[W_AXES..e],
-        state[W_START],
         &state[START..START_END],
         store,
-        state[W_HELD] as usize,
-        own,
         rows,
     ) as usize
 }

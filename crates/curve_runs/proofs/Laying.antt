@@ -1,4 +1,4 @@
--- The tables of a fit, as they are laid in the two lists. Assumes nothing.
+-- LAWS. The tables of a fit, as they are laid in the two lists. Assumes nothing.
 use mathlib.Core.Path.{_≡_, sym, ap, _∙_, subst}
 use mathlib.Core.Bool.{Bool}
 use mathlib.Core.List.{List, _++_}
@@ -12,19 +12,29 @@ use borrow.Rule.Slice.PartMut.{putMid, postOf, post-is}
 use Rattle.floats.specs.Numbers.{at}
 use Rattle.floats.specs.Lists.{upto, filled, rowsOf}
 use Rattle.floats.specs.Fill.{length-upto, at-filled, length-filled}
+use Rattle.layout.specs.Layout.{axisCodes, mostPoints}
 use Rattle.curve_metric.specs.Metric.{chordTo, chords}
 use Rattle.curve_metric.specs.Points.{length-rows}
 use Rattle.fit_knots.specs.Prepare.{FitReady, FitRoom}
 use Rattle.bspline_tables.specs.RowLaws.{copied, put, put-here, put-before}
 use Rattle.curve_walk.specs.Walks.{fitTimes, fitPoints, fitSlopes}
-use Rattle.curve_runs.specs.Ready.{Fitted}
+use Rattle.curve_runs.specs.Asks.{Fitted}
 
 -- the numbers of n points
-pub cells-in : (n ch : ℕ) → ch ≤ 10 → n * ch ≤ 10 * n
-cells-in n ch h = let a : n * ch ≤ n * 10 = mul-le-mul-left n h in omega arith
+pub cells-in : (n ch : ℕ) → ch ≤ axisCodes → n * ch ≤ axisCodes * n
+cells-in n ch h = let a : n * ch ≤ n * axisCodes = mul-le-mul-left n h in omega arith
+
+pub fitted-as : {a b : Bool} {n ch : ℕ} {ms : List ℕ} {pts : List Float} {m : ℕ} {ks cs : List Float} → a ≡ b
+    → Fitted a n ch ms pts m ks cs → Fitted b n ch ms pts m ks cs
+fitted-as {a} {b} {n} {ch} {ms} {pts} {m} {ks} {cs} e f = subst (λ (z : Bool). Fitted z n ch ms pts m ks cs) e f
+
+-- the front of a list that stayed as long as it was
+pub sums-long : (n : ℕ) (xs ys : List Float) → length ys ≡ length xs → n ≤ length xs → length (take n ys) ≡ n
+sums-long n xs ys e h = length-take-le n ys (omega arith)
 
 -- room for the fit
-pub fit-room : {pts ts : List Float} (n ch : ℕ) (ks cs slopes : List Float) → 2 ≤ n → n ≤ 257 → ch ≤ 10 → n * ch ≤ length pts → length ts ≡ n → 2 * n ≤ length ks → 20 * n ≤ length cs → n * ch ≤ length slopes
+pub fit-room : {pts ts : List Float} (n ch : ℕ) (ks cs slopes : List Float) → 2 ≤ n → n ≤ mostPoints → ch ≤ axisCodes → n * ch ≤ length pts
+    → length ts ≡ n → 2 * n ≤ length ks → 2 * axisCodes * n ≤ length cs → n * ch ≤ length slopes
     → FitRoom pts ts (take (n + n - n) (drop n ks)) (take (n * ch) cs) (take (n * ch) slopes) n ch
 fit-room n ch ks cs slopes two few narrow given sums kr cr sr =
     let w = cells-in n ch narrow in
@@ -67,11 +77,16 @@ copy-room w cs sl fps bends cr sr lp lb =
 front-stays : (xs ys : List Float) (w e : ℕ) → w ≤ length xs → take w (put xs w e ys) ≡ take w xs
 front-stays xs ys w e h = take-at (take w xs) (ys ++ drop e xs) w (length-take-le w xs h)
 
-pub sums-are : (n ch : ℕ) (ms : List ℕ) (pts l : List Float) {ts : List Float} → ts ≡ filled (chordTo (rowsOf pts ch n) ms) n l → take n ts ≡ chords (rowsOf pts ch n) ms
+pub sums-are : (n ch : ℕ) (ms : List ℕ) (pts l : List Float) {ts : List Float} → ts ≡ filled (chordTo (rowsOf pts ch n) ms) n l
+    → take n ts ≡ chords (rowsOf pts ch n) ms
 unfolding chords
 sums-are n ch ms pts l e =
     ap (take n) e ∙ take-at (upto (chordTo (rowsOf pts ch n) ms) n) (drop n l) n (length-upto (chordTo (rowsOf pts ch n) ms) n)
     ∙ ap (upto (chordTo (rowsOf pts ch n) ms)) (sym (length-rows pts ch n))
+
+-- a list over the front of another
+abbrev overlaid : List Float → List Float → List Float
+overlaid xs l = filled (at xs) (length xs) l
 
 module _ (cubic : Bool) (n ch : ℕ) (ms : List ℕ) (pts ks cs sl l : List Float) {ts ks1 fts fps bends dst : List Float} {m : ℕ}
     (kr : 2 * n ≤ length ks) (cr : n * ch + n * ch ≤ length cs) (sr : n * ch ≤ length sl) (lt : n ≤ length ts)
@@ -80,7 +95,7 @@ module _ (cubic : Bool) (n ch : ℕ) (ms : List ℕ) (pts ks cs sl l : List Floa
     (lf : length fts ≡ length (take (n + n - n) (drop n ks1)))
     (lp : length fps ≡ length (take (n * ch) cs))
     (lb : length bends ≡ length (take (n * ch) sl))
-    (ed : dst ≡ filled (at (take (n * ch) (bends ++ drop (n * ch) sl))) (length (take (n * ch) (bends ++ drop (n * ch) sl))) (take (n * ch + n * ch - n * ch) (drop (n * ch) (fps ++ drop (n * ch) cs))))
+    (ed : dst ≡ overlaid (take (n * ch) (bends ++ drop (n * ch) sl)) (take (n * ch + n * ch - n * ch) (drop (n * ch) (fps ++ drop (n * ch) cs))))
     (ready : FitReady cubic (rowsOf pts ch n) (take n ts) n ch fts fps bends m) where
   n-sums : length (take n ts) ≡ n
   n-sums = length-take-le n ts lt
@@ -148,4 +163,5 @@ module _ (cubic : Bool) (n ch : ℕ) (ms : List ℕ) (pts ks cs sl l : List Floa
   pub laid : Fitted cubic n ch ms pts m (putMid n (n + n - n) ks1 fts) (putMid (n * ch) (n * ch + n * ch - n * ch) (fps ++ drop (n * ch) cs) dst)
   laid =
       let a : putMid n (n + n - n) ks1 fts ≡ ks2 = put-mid n (n + n) ks1 fts (omega arith) in
-      subst (λ (z : List Float). Fitted cubic n ch ms pts m (putMid n (n + n - n) ks1 fts) z) (sym behind) (subst (λ (z : List Float). Fitted cubic n ch ms pts m z cs2) (sym a) laid-put)
+      let b = subst (λ (z : List Float). Fitted cubic n ch ms pts m z cs2) (sym a) laid-put in
+      subst (λ (z : List Float). Fitted cubic n ch ms pts m (putMid n (n + n - n) ks1 fts) z) (sym behind) b

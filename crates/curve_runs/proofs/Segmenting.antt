@@ -1,9 +1,9 @@
--- One stretch of a fit, and one more. Assumes nothing.
+-- LAWS. One stretch of a fit, and one more. Assumes nothing.
 use mathlib.Core.Path.{_≡_, refl, sym, ap, _∙_, subst}
 use mathlib.Core.List.{List, [], _∷_}
 use mathlib.Core.Bool.{Bool, true, false, cond}
 use mathlib.Core.Logic.{⊎-elim}
-use Prim.Native.Nat.{ℕ, zero, suc, _+_, _-_, _*_, _<_, _≤_}
+use Prim.Native.Nat.{ℕ, zero, suc, _+_, _-_, _*_, _^_, _<_, _≤_}
 use native.Mathlib.Numerals.{add-one}
 use native.Mathlib.Nat.{suc-mul}
 use native.Mathlib.Omega.{arith}
@@ -17,13 +17,17 @@ use Rattle.curve_metric.specs.Walk.{Sample, samples}
 use Rattle.curve_metric.specs.WalkLaws.{samples-le}
 use Rattle.curve_metric.specs.Points.{row-fits}
 use Rattle.bspline_tables.specs.RowLaws.{part, length-part, part-row}
+use Rattle.curve_walk.specs.declared.Form.{Form}
+use Rattle.curve_walk.specs.declared.Form.the-variants.{Basis, Fit}
 use Rattle.curve_walk.specs.declared.Shape.{Shape}
-use Rattle.curve_walk.specs.Walks.{encode, evalOf, ownOf, bumped, counted, Stretch, Counted, Counts, pointsOf, Written}
-use Rattle.curve_walk.specs.Lefts.{leftsOf}
+use Rattle.curve_walk.specs.Walks.{encode, evalOf, ownIn, ownOf, bumped, counted, pointsOf}
+use Rattle.curve_walk.specs.Asks.{Stretch, Counted, Counts, Written}
+use Rattle.curve_walk.specs.Lefts.{depth, leftsOf}
 use Rattle.curve_walk.specs.Writing.{encode-append, written-none, written-two, room-second}
 use Rattle.curve_walk.specs.Remembering.{lefts-led}
-use Rattle.curve_runs.specs.Stretches.{Segments, fitRunAt, Fresh, FreshAt}
+use Rattle.curve_runs.specs.Stretches.{fitRunAt}
 use Rattle.curve_runs.specs.Lefts.{fitLefts}
+use Rattle.curve_runs.specs.Asks.{IsFit, Segments, Fresh, FreshAt}
 use Rattle.curve_runs.proofs.Joining.{flat-more}
 
 -- ---- places: the points of a stretch in the list of points
@@ -48,51 +52,72 @@ pub stretch-of-points : {s : Shape} {ms : List ℕ} {pts ks cs : List Float} →
     → Stretch s ms ks cs (part pts (i * s .ch) (s .ch)) (part pts (i * s .ch + s .ch) (s .ch))
 stretch-of-points {s} {ms} {pts} g i h =
     let r = from-in i (s .n) (s .ch) (length pts) h (g .points) in
-    record { tables = g .tables; metric = g .metric; first = length-part pts (i * s .ch) (s .ch) (omega arith); end = length-part pts (i * s .ch + s .ch) (s .ch) r }
+    record {
+      tables = g .tables;
+      metric = g .metric;
+      first = length-part pts (i * s .ch) (s .ch) (omega arith);
+      end = length-part pts
+          (i * s .ch + s .ch) (s .ch) r;
+    }
 
 -- ---- the run of a stretch
 
-module _ (s : Shape) (ms : List ℕ) (tol : Float) (pts ks cs : List Float) where
-  pub run-one : (i : ℕ) {b : Bool} → b ≡ le (at ks (i + 1) ⊖ at ks i) 1e-12 → b ≡ true → fitRunAt s ms tol pts ks cs i ≡ part pts (i * s .ch + s .ch) (s .ch) ∷ []
+-- the samples and the lefts of stretch i between two points
+abbrev walked : Shape → List ℕ → List Float → List Float → ℕ → List Float → List Float → List Sample
+walked s ms ks cs i p0 p1 = samples (evalOf s ks cs) ms (s .tol) depth (at ks i) p0 (at ks (i + 1)) p1
+
+abbrev leftsAt : Shape → List ℕ → List Float → List Float → ℕ → List Float → List Float → List ℕ
+leftsAt s ms ks cs i p0 p1 = leftsOf (evalOf s ks cs) ms (s .tol) depth (at ks i) p0 (at ks (i + 1)) p1
+
+module _ (s : Shape) (ms : List ℕ) (pts ks cs : List Float) where
+  pub run-one : (i : ℕ) {b : Bool} → b ≡ le (at ks (i + 1) ⊖ at ks i) 1e-12 → b ≡ true → fitRunAt s ms pts ks cs i ≡ part pts (i * s .ch + s .ch) (s .ch) ∷ []
   unfolding fitRunAt
   run-one i e h = rw (sym e ∙ h) (ap (λ (p : List Float). p ∷ []) (sym (next-is pts i (s .ch))))
 
   pub run-walk : (i : ℕ) {b : Bool} → b ≡ le (at ks (i + 1) ⊖ at ks i) 1e-12 → b ≡ false
-      → fitRunAt s ms tol pts ks cs i ≡ pointsOf (samples (evalOf s ks cs) ms tol 20 (at ks i) (part pts (i * s .ch) (s .ch)) (at ks (i + 1)) (part pts (i * s .ch + s .ch) (s .ch)))
+      → fitRunAt s ms pts ks cs i ≡ pointsOf (walked s ms ks cs i (part pts (i * s .ch) (s .ch)) (part pts (i * s .ch + s .ch) (s .ch)))
   unfolding fitRunAt
   run-walk i e h = rw (sym e ∙ h, first-is pts i (s .ch), next-is pts i (s .ch))
 
-  pub run-few : (i : ℕ) → length (fitRunAt s ms tol pts ks cs i) ≤ 0x100000
+  pub run-few : (i : ℕ) → length (fitRunAt s ms pts ks cs i) ≤ 2 ^ depth
   unfolding fitRunAt
   run-few i = go (le (at ks (i + 1) ⊖ at ks i) 1e-12)
     where
-      go : (b : Bool) → length (cond b (row pts (s .ch) (i + 1) ∷ []) (pointsOf (samples (evalOf s ks cs) ms tol 20 (at ks i) (row pts (s .ch) i) (at ks (i + 1)) (row pts (s .ch) (i + 1))))) ≤ 0x100000
+      go : (b : Bool)
+          → length (cond b (row pts (s .ch) (i + 1) ∷ []) (pointsOf (walked s ms ks cs i (row pts (s .ch) i) (row pts (s .ch) (i + 1))))) ≤ 2 ^ depth
       go true = omega arith
-      go false = rw (length-map (samples (evalOf s ks cs) ms tol 20 (at ks i) (row pts (s .ch) i) (at ks (i + 1)) (row pts (s .ch) (i + 1))) (λ (s : Sample). s .point)) (samples-le (evalOf s ks cs) ms tol 20 (at ks i) (row pts (s .ch) i) (at ks (i + 1)) (row pts (s .ch) (i + 1)))
+      go false =
+          rw (length-map (walked s ms ks cs i (row pts (s .ch) i) (row pts (s .ch) (i + 1))) (λ (s : Sample). s .point))
+          (samples-le (evalOf s ks cs) ms (s .tol) depth (at ks i) (row pts (s .ch) i) (at ks (i + 1)) (row pts (s .ch) (i + 1)))
 
   -- what is remembered of it
-  pub lefts-one : (i : ℕ) {b : Bool} → b ≡ le (at ks (i + 1) ⊖ at ks i) 1e-12 → b ≡ true → fitLefts s ms tol pts ks cs i ≡ 0 ∷ []
+  pub lefts-one : (i : ℕ) {b : Bool} → b ≡ le (at ks (i + 1) ⊖ at ks i) 1e-12 → b ≡ true → fitLefts s ms pts ks cs i ≡ 0 ∷ []
   unfolding fitLefts
   lefts-one i e h = rw (sym e ∙ h)
 
   pub lefts-walk : (i : ℕ) {b : Bool} → b ≡ le (at ks (i + 1) ⊖ at ks i) 1e-12 → b ≡ false
-      → fitLefts s ms tol pts ks cs i ≡ leftsOf (evalOf s ks cs) ms tol 20 (at ks i) (part pts (i * s .ch) (s .ch)) (at ks (i + 1)) (part pts (i * s .ch + s .ch) (s .ch))
+      → fitLefts s ms pts ks cs i ≡ leftsAt s ms ks cs i (part pts (i * s .ch) (s .ch)) (part pts (i * s .ch + s .ch) (s .ch))
   unfolding fitLefts
   lefts-walk i e h = rw (sym e ∙ h, first-is pts i (s .ch), next-is pts i (s .ch))
 
-  pub lefts-few : (i : ℕ) → length (fitLefts s ms tol pts ks cs i) ≤ 0x100000
+  pub lefts-few : (i : ℕ) → length (fitLefts s ms pts ks cs i) ≤ 2 ^ depth
   unfolding fitLefts
   lefts-few i = go (le (at ks (i + 1) ⊖ at ks i) 1e-12)
     where
-      go : (b : Bool) → length (cond b (0 ∷ []) (leftsOf (evalOf s ks cs) ms tol 20 (at ks i) (row pts (s .ch) i) (at ks (i + 1)) (row pts (s .ch) (i + 1)))) ≤ 0x100000
+      go : (b : Bool)
+          → length (cond b (0 ∷ []) (leftsAt s ms ks cs i (row pts (s .ch) i) (row pts (s .ch) (i + 1)))) ≤ 2 ^ depth
       go true = omega arith
-      go false = lefts-led (evalOf s ks cs) ms tol 20 (at ks i) (row pts (s .ch) i) (at ks (i + 1)) (row pts (s .ch) (i + 1)) .few
+      go false = lefts-led (evalOf s ks cs) ms (s .tol) depth (at ks i) (row pts (s .ch) i) (at ks (i + 1)) (row pts (s .ch) (i + 1)) .few
 
 -- ---- counting a stretch: its end owns every sample
 
-own-still : (s : Shape) (ks : List Float) → s .basis ≡ false → (o : ℕ) (t : Float) → ownOf s ks o t ≡ o
-unfolding ownOf
-own-still s ks e o t = rw e
+own-fit : (f : Form) (n : ℕ) (ks : List Float) → IsFit f → (o : ℕ) (t : Float) → ownIn f n ks o t ≡ o
+unfolding ownIn
+own-fit (Basis p) n ks e o t = absurd e
+own-fit (Fit k) n ks e o t = refl
+
+own-still : (s : Shape) (ks : List Float) → IsFit (s .form) → (o : ℕ) (t : Float) → ownOf s ks o t ≡ o
+own-still s ks e o t = own-fit (s .form) (s .n) ks e o t
 
 counted-still : (own : ℕ → Float → ℕ) → ((o : ℕ) (t : Float) → own o t ≡ o) → (o : ℕ) (ss : List Sample) (l : List ℕ) → o - 1 < length l
     → counted own o ss l ≡ set l (o - 1) (getD l (o - 1) 0 + length ss)
@@ -110,29 +135,30 @@ counted-still own still o (s ∷ ss) l h =
     ∙ set-set l (o - 1) (getD l (o - 1) 0 + 1) (getD l (o - 1) 0 + 1 + length ss)
     ∙ ap (set l (o - 1)) w
 
-pub counts-at : {s : Shape} {i : ℕ} {l : List ℕ} → FreshAt s i l → Counts s (i + 1) 20 l
+pub counts-at : {s : Shape} {i : ℕ} {l : List ℕ} → FreshAt s i l → Counts s (i + 1) depth l
 counts-at {s} {i} {l} f = record { some = omega arith; owned = f .here; table = f .table; room = λ k h. omega (arith, f .small k h) }
 
-module _ (s : Shape) (ms : List ℕ) (tol : Float) (pts ks cs : List Float) (i : ℕ) (l : List ℕ) where
-  pub one-counted : {b : Bool} → b ≡ le (at ks (i + 1) ⊖ at ks i) 1e-12 → b ≡ true → set l i 1 ≡ set l i (length (fitRunAt s ms tol pts ks cs i))
-  one-counted e h = ap (λ (z : List (List Float)). set l i (length z)) (sym (run-one s ms tol pts ks cs i e h))
+module _ (s : Shape) (ms : List ℕ) (pts ks cs : List Float) (i : ℕ) (l : List ℕ) where
+  pub one-counted : {b : Bool} → b ≡ le (at ks (i + 1) ⊖ at ks i) 1e-12 → b ≡ true → set l i 1 ≡ set l i (length (fitRunAt s ms pts ks cs i))
+  one-counted e h = ap (λ (z : List (List Float)). set l i (length z)) (sym (run-one s ms pts ks cs i e h))
 
-  pub walk-counted : {b : Bool} {r : ℕ} {xs : List ℕ} → b ≡ le (at ks (i + 1) ⊖ at ks i) 1e-12 → b ≡ false → s .basis ≡ false → FreshAt s i l
-      → Counted (ownOf s ks) (i + 1) (samples (evalOf s ks cs) ms tol 20 (at ks i) (part pts (i * s .ch) (s .ch)) (at ks (i + 1)) (part pts (i * s .ch + s .ch) (s .ch))) l r xs
-      → xs ≡ set l i (length (fitRunAt s ms tol pts ks cs i))
+  pub walk-counted : {b : Bool} {r : ℕ} {xs : List ℕ} → b ≡ le (at ks (i + 1) ⊖ at ks i) 1e-12 → b ≡ false → IsFit (s .form) → FreshAt s i l
+      → Counted (ownOf s ks) (i + 1) (walked s ms ks cs i (part pts (i * s .ch) (s .ch)) (part pts (i * s .ch + s .ch) (s .ch))) l r xs
+      → xs ≡ set l i (length (fitRunAt s ms pts ks cs i))
   walk-counted {b} {r} {xs} e h kind f c =
-      let ss : List Sample = samples (evalOf s ks cs) ms tol 20 (at ks i) (part pts (i * s .ch) (s .ch)) (at ks (i + 1)) (part pts (i * s .ch + s .ch) (s .ch)) in
+      let ss : List Sample = walked s ms ks cs i (part pts (i * s .ch) (s .ch)) (part pts (i * s .ch + s .ch) (s .ch)) in
       let j : i + 1 - 1 ≡ i = omega arith in
-      let n : length (fitRunAt s ms tol pts ks cs i) ≡ length ss = ap length (run-walk s ms tol pts ks cs i e h) ∙ length-map ss (λ (s : Sample). s .point) in
-      let v : getD l i 0 + length ss ≡ length (fitRunAt s ms tol pts ks cs i) = omega (arith, f .none) in
-      c .is ∙ counted-still (ownOf s ks) (own-still s ks kind) (i + 1) ss l (omega (arith, f .here, f .table)) ∙ ap (λ (k : ℕ). set l k (getD l k 0 + length ss)) j ∙ ap (set l i) v
+      let n : length (fitRunAt s ms pts ks cs i) ≡ length ss = ap length (run-walk s ms pts ks cs i e h) ∙ length-map ss (λ (s : Sample). s .point) in
+      let v : getD l i 0 + length ss ≡ length (fitRunAt s ms pts ks cs i) = omega (arith, f .none) in
+      c .is ∙ counted-still (ownOf s ks) (own-still s ks kind) (i + 1) ss l (omega (arith, f .here, f .table))
+      ∙ ap (λ (k : ℕ). set l k (getD l k 0 + length ss)) j ∙ ap (set l i) v
 
 -- ---- counting one stretch after another
 
 pub filling-set : {f : ℕ → ℕ} {i : ℕ} {l xs ys : List ℕ} → Filling f i l xs → i < length l → ys ≡ set xs i (f i) → Filling f (i + 1) l ys
 filling-set {f} {i} {l} {xs} {ys} a h e = subst (λ (z : List ℕ). Filling f (i + 1) l z) (sym e) (filling-more a h refl)
 
-pub fresh-at : (f : ℕ → ℕ) {s : Shape} {i : ℕ} {l xs : List ℕ} → ((k : ℕ) → f k ≤ 0x100000) → Fresh s l → Filling f i l xs → i < s .n - 1 → FreshAt s i xs
+pub fresh-at : (f : ℕ → ℕ) {s : Shape} {i : ℕ} {l xs : List ℕ} → ((k : ℕ) → f k ≤ 2 ^ depth) → Fresh s l → Filling f i l xs → i < s .n - 1 → FreshAt s i xs
 fresh-at f {s} {i} {l} {xs} few g a h = record {
   here = omega arith;
   table = omega (arith, a .same, g .table);
@@ -166,7 +192,8 @@ module _ (f : ℕ → List (List Float)) where
       let a : length (encode (flatten (upto f (i + 1)))) ≤ length (encode (flatten (upto f n))) = rw e at (words-in (i + 1) (n - (i + 1))) in
       omega arith
 
-  pub run-room : {l : List ℕ} (i n : ℕ) {r : ℕ} {xs : List ℕ} → i < n → length (encode (flatten (upto f n))) ≤ length l → Written l 0 (flatten (upto f i)) r xs → r + length (encode (f i)) ≤ length xs
+  pub run-room : {l : List ℕ} (i n : ℕ) {r : ℕ} {xs : List ℕ} → i < n → length (encode (flatten (upto f n))) ≤ length l
+      → Written l 0 (flatten (upto f i)) r xs → r + length (encode (f i)) ≤ length xs
   run-room {l} i n h g w = room-second (f i) (flat-more f i) (run-in l i n h g) w
 
   pub run-written : {l : List ℕ} (i n : ℕ) {r r' : ℕ} {xs xs' : List ℕ} → i < n → length (encode (flatten (upto f n))) ≤ length l

@@ -1,4 +1,5 @@
-pub mod Ready
 pub mod Runs
 pub mod Stretches
 pub mod Lefts
+pub mod Asks
+pub mod Draws

@@ -1,6 +1,6 @@
 // The tables of a fit.
-use crate::sizes::NUMBERS;
-use crate::sizes::SMALL_POINTS;
+use fit_slopes::sizes::SMALL_POINTS;
+use layout::AXIS_CODES;
 use layout::MOST_POINTS;
 ghost use mathlib.Core.Path.{_≡_};
 ghost use Prim.Native.Nat.{_≤_, _*_};
@@ -8,7 +8,8 @@ ghost use lib.ListN.{length};
 ghost use Rattle.floats.specs.Numbers.{at};
 ghost use Rattle.floats.specs.Lists.{filled};
 ghost use Rattle.curve_metric.specs.Below.{Below};
-ghost use Rattle.curve_runs.specs.Ready.{Fitted};
+ghost use Rattle.layout.specs.Layout.{axisCodes, mostPoints};
+ghost use Rattle.curve_runs.specs.Asks.{smallPoints, Fitted};
 
 // Copies src over the front of dst.
 fn copy_to(src: &[f64], dst: &mut [f64])
@@ -34,9 +35,9 @@ fn lay_in(
     ts: &mut [f64],
     slopes: &mut [f64],
 ) -> usize
-    requires { ⌜ (2 ≤ n) × ((n ≤ 257) × (ch ≤ 10)) ⌝ }
+    requires { ⌜ (2 ≤ n) × ((n ≤ mostPoints) × (ch ≤ axisCodes)) ⌝ }
     requires { ⌜ Below (now ms) ch × (n * ch ≤ length (now pts)) ⌝ }
-    requires { ⌜ (2 * n ≤ length (now ks)) × (20 * n ≤ length (now cs)) ⌝ }
+    requires { ⌜ (2 * n ≤ length (now ks)) × (2 * axisCodes * n ≤ length (now cs)) ⌝ }
     requires { ⌜ (n ≤ length (now ts)) × (n * ch ≤ length (now slopes)) ⌝ }
     ensures { λ r. ⌜ Fitted cubic n ch (now (ms .entry)) (now (pts .entry)) r (now (ks .exit)) (now (cs .exit)) ⌝ }
 {
@@ -69,13 +70,13 @@ fn lay_small(
     ks: &mut [f64],
     cs: &mut [f64],
 ) -> usize
-    requires { ⌜ (2 ≤ n) × ((n ≤ 16) × (ch ≤ 10)) ⌝ }
+    requires { ⌜ (2 ≤ n) × ((n ≤ smallPoints) × (ch ≤ axisCodes)) ⌝ }
     requires { ⌜ Below (now ms) ch × (n * ch ≤ length (now pts)) ⌝ }
-    requires { ⌜ (2 * n ≤ length (now ks)) × (20 * n ≤ length (now cs)) ⌝ }
+    requires { ⌜ (2 * n ≤ length (now ks)) × (2 * axisCodes * n ≤ length (now cs)) ⌝ }
     ensures { λ r. ⌜ Fitted cubic n ch (now (ms .entry)) (now (pts .entry)) r (now (ks .exit)) (now (cs .exit)) ⌝ }
 {
     let mut ts = [0.0f64; SMALL_POINTS];
-    let mut slopes = [0.0f64; NUMBERS * SMALL_POINTS];
+    let mut slopes = [0.0f64; AXIS_CODES * SMALL_POINTS];
     lay_in(cubic, n, ch, ms, pts, ks, cs, &mut ts, &mut slopes)
 }
 
@@ -89,13 +90,13 @@ fn lay_large(
     ks: &mut [f64],
     cs: &mut [f64],
 ) -> usize
-    requires { ⌜ (2 ≤ n) × ((n ≤ 257) × (ch ≤ 10)) ⌝ }
+    requires { ⌜ (2 ≤ n) × ((n ≤ mostPoints) × (ch ≤ axisCodes)) ⌝ }
     requires { ⌜ Below (now ms) ch × (n * ch ≤ length (now pts)) ⌝ }
-    requires { ⌜ (2 * n ≤ length (now ks)) × (20 * n ≤ length (now cs)) ⌝ }
+    requires { ⌜ (2 * n ≤ length (now ks)) × (2 * axisCodes * n ≤ length (now cs)) ⌝ }
     ensures { λ r. ⌜ Fitted cubic n ch (now (ms .entry)) (now (pts .entry)) r (now (ks .exit)) (now (cs .exit)) ⌝ }
 {
     let mut ts = [0.0f64; MOST_POINTS];
-    let mut slopes = [0.0f64; NUMBERS * MOST_POINTS];
+    let mut slopes = [0.0f64; AXIS_CODES * MOST_POINTS];
     lay_in(cubic, n, ch, ms, pts, ks, cs, &mut ts, &mut slopes)
 }
 
@@ -109,9 +110,9 @@ pub fn lay_fit(
     ks: &mut [f64],
     cs: &mut [f64],
 ) -> usize
-    requires { ⌜ (2 ≤ n) × ((n ≤ 257) × (ch ≤ 10)) ⌝ }
+    requires { ⌜ (2 ≤ n) × ((n ≤ mostPoints) × (ch ≤ axisCodes)) ⌝ }
     requires { ⌜ Below (now ms) ch × (n * ch ≤ length (now pts)) ⌝ }
-    requires { ⌜ (2 * n ≤ length (now ks)) × (20 * n ≤ length (now cs)) ⌝ }
+    requires { ⌜ (2 * n ≤ length (now ks)) × (2 * axisCodes * n ≤ length (now cs)) ⌝ }
     ensures { λ r. ⌜ Fitted cubic n ch (now (ms .entry)) (now (pts .entry)) r (now (ks .exit)) (now (cs .exit)) ⌝ }
 {
     if n <= SMALL_POINTS {

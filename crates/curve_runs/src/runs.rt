@@ -1,56 +1,53 @@
 // The runs of a spline: prepared, counted, written.
+use crate::Drawing;
 use crate::fitted::lay_fit;
 use crate::segment::count_segments;
 use crate::segment::write_segments;
+use crate::shape_of;
 use crate::spline::count_spline;
 use crate::spline::write_spline;
-use curve_walk::Shape;
+use curve_walk::Form;
+use curve_walk::Kept;
+use motion::is_basis;
+use motion::is_cubic;
 ghost use mathlib.Core.Path.{_≡_};
 ghost use mathlib.Core.List.{[]};
 ghost use Prim.Native.Nat.{ℕ, _≤_, _-_, _*_};
-ghost use lib.ListN.{length, getD, take};
-ghost use Rattle.floats.specs.Lists.{filled, flatten, rowsOf, spliced};
+ghost use lib.ListN.{length, getD};
+ghost use Rattle.floats.specs.Lists.{filled, flatten, spliced};
+ghost use Rattle.layout.specs.Layout.{axisCodes, mostPoints};
 ghost use Rattle.curve_metric.specs.Below.{Below};
 ghost use Rattle.curve_walk.specs.Walks.{encode};
-ghost use Rattle.curve_runs.specs.Ready.{Ready};
-ghost use Rattle.curve_runs.specs.Runs.{curveRuns};
-ghost use Rattle.curve_runs.specs.Lefts.{Remembers};
+ghost use Rattle.curve_runs.specs.Runs.{shapeOf, drawnRuns};
+ghost use Rattle.curve_runs.specs.Asks.{Ready, Remembers};
 
-// Fills the tables of n points, of ch numbers each, that a spline of this motion runs through or is drawn to.
+// Fills the tables of the points that the curve runs through or is drawn to.
 pub fn prepare(
-    motion: u64,
-    degree: usize,
-    n: usize,
-    ch: usize,
+    d: Drawing,
     ms: &[usize],
     pts: &[f64],
     ws: &[f64],
     ks: &mut [f64],
     cs: &mut [f64],
-) -> Shape
-    requires { ⌜ (2 ≤ n) × ((n ≤ 257) × (ch ≤ 10)) ⌝ }
-    requires { ⌜ Below (now ms) ch × ((n * ch ≤ length (now pts)) × (n ≤ length (now ws))) ⌝ }
-    requires { ⌜ (2 * n ≤ length (now ks)) × (20 * n ≤ length (now cs)) ⌝ }
-    ensures { λ r. ⌜ Ready motion degree n ch (now (ms .entry)) (now (pts .entry)) (now (ws .entry)) r (now (ks .exit)) (now (cs .exit)) ⌝ }
+) -> Form
+    requires { ⌜ (2 ≤ d .n) × ((d .n ≤ mostPoints) × (d .ch ≤ axisCodes)) ⌝ }
+    requires { ⌜ Below (now ms) (d .ch) × ((d .n * d .ch ≤ length (now pts)) × (d .n ≤ length (now ws))) ⌝ }
+    requires { ⌜ (2 * d .n ≤ length (now ks)) × (2 * axisCodes * d .n ≤ length (now cs)) ⌝ }
+    ensures { λ r. ⌜ Ready d r (now (ms .entry)) (now (pts .entry)) (now (ws .entry)) (now (ks .exit)) (now (cs .exit)) ⌝ }
 {
-    if motion == 6 {
-        let p = bspline_tables::tables::prepare_basis(pts, ws, n, ch, degree, ks, cs);
-        return Shape {
-            basis: true,
-            n: n,
-            ch: ch,
-            size: p,
-            piece: 0,
-        };
+    let kind = d.kind;
+    let n = d.n;
+    let ch = d.ch;
+    if is_basis(kind) {
+        let degree = bspline_tables::tables::prepare_basis(pts, ws, n, ch, d.degree, ks, cs);
+        return Form::Basis(degree);
     }
-    let m = lay_fit(motion == 7, n, ch, ms, pts, ks, cs);
-    Shape {
-        basis: false,
-        n: n,
-        ch: ch,
-        size: m,
+    let cubic = is_cubic(kind);
+    let points = lay_fit(cubic, n, ch, ms, pts, ks, cs);
+    Form::Fit(Kept {
+        points: points,
         piece: 0,
-    }
+    })
 }
 
 fn clear(counts: &mut [usize], m: usize)
@@ -67,12 +64,8 @@ fn clear(counts: &mut [usize], m: usize)
 // The length of the run of each point after the start; for the writing, as far as lefts reaches, the halvings left at
 // each sample.
 pub fn count_runs(
-    s: Shape,
-    motion: u64,
-    degree: usize,
-    tol: f64,
-    n: usize,
-    ch: usize,
+    d: Drawing,
+    form: Form,
     ms: &[usize],
     pts: &[f64],
     ws: &[f64],
@@ -81,32 +74,33 @@ pub fn count_runs(
     counts: &mut [usize],
     lefts: &mut [u8],
 )
-    requires { ⌜ Ready motion degree n ch (now ms) (now pts) (now ws) s (now ks) (now cs) ⌝ }
-    requires { ⌜ n - 1 ≤ length (now counts) ⌝ }
-    ensures { λ _. ⌜ now (counts .exit) ≡ filled (λ (i : ℕ). length (getD (curveRuns motion degree (now (ms .entry)) tol (rowsOf (now (pts .entry)) ch n) (take n (now (ws .entry)))) i [])) (n - 1) (now (counts .entry)) ⌝ }
-    ensures { λ _. ⌜ Remembers s (now (ms .entry)) tol (now (pts .entry)) (now (ks .entry)) (now (cs .entry)) (now (lefts .exit)) ⌝ }
+    requires { ⌜ Ready d form (now ms) (now pts) (now ws) (now ks) (now cs) ⌝ }
+    requires { ⌜ d .n - 1 ≤ length (now counts) ⌝ }
+    ensures { λ _. ⌜ now (counts .exit)
+        ≡ filled (λ (i : ℕ). length (getD (drawnRuns d (now (ms .entry)) (now (pts .entry)) (now (ws .entry))) i [])) (d .n - 1) (now (counts .entry)) ⌝ }
+    ensures { λ _. ⌜ Remembers (shapeOf d form) (now (ms .entry)) (now (pts .entry)) (now (ks .entry)) (now (cs .entry)) (now (lefts .exit)) ⌝ }
 {
-    let basis = s.basis;
-    let size = s.size;
+    let s = shape_of(d, form);
+    let n = d.n;
     clear(counts, n - 1);
-    if basis {
-        count_spline(s, tol, ms, ks, cs, counts, lefts);
-        return;
+    match form {
+        Form::Basis(degree) => {
+            count_spline(s, degree, ms, ks, cs, counts, lefts);
+        }
+        Form::Fit(k) => {
+            let points = k.points;
+            if points < 2 {
+                return;
+            }
+            count_segments(s, k, ms, pts, ks, cs, counts, lefts);
+        }
     }
-    if size < 2 {
-        return;
-    }
-    count_segments(s, tol, ms, pts, ks, cs, counts, lefts);
 }
 
 // The points of all runs, one after another.
 pub fn write_runs(
-    s: Shape,
-    motion: u64,
-    degree: usize,
-    tol: f64,
-    n: usize,
-    ch: usize,
+    d: Drawing,
+    form: Form,
     ms: &[usize],
     pts: &[f64],
     ws: &[f64],
@@ -115,19 +109,23 @@ pub fn write_runs(
     lefts: &[u8],
     out: &mut [u64],
 )
-    requires { ⌜ Ready motion degree n ch (now ms) (now pts) (now ws) s (now ks) (now cs) ⌝ }
-    requires { ⌜ Remembers s (now ms) tol (now pts) (now ks) (now cs) (now lefts) ⌝ }
-    requires { ⌜ length (encode (flatten (curveRuns motion degree (now ms) tol (rowsOf (now pts) ch n) (take n (now ws))))) ≤ length (now out) ⌝ }
-    ensures { λ _. ⌜ now (out .exit) ≡ spliced (now (out .entry)) 0 (encode (flatten (curveRuns motion degree (now (ms .entry)) tol (rowsOf (now (pts .entry)) ch n) (take n (now (ws .entry)))))) ⌝ }
+    requires { ⌜ Ready d form (now ms) (now pts) (now ws) (now ks) (now cs) ⌝ }
+    requires { ⌜ Remembers (shapeOf d form) (now ms) (now pts) (now ks) (now cs) (now lefts) ⌝ }
+    requires { ⌜ length (encode (flatten (drawnRuns d (now ms) (now pts) (now ws)))) ≤ length (now out) ⌝ }
+    ensures { λ _. ⌜ now (out .exit)
+        ≡ spliced (now (out .entry)) 0 (encode (flatten (drawnRuns d (now (ms .entry)) (now (pts .entry)) (now (ws .entry))))) ⌝ }
 {
-    let basis = s.basis;
-    let size = s.size;
-    if basis {
-        write_spline(s, tol, ms, ks, cs, lefts, out);
-        return;
+    let s = shape_of(d, form);
+    match form {
+        Form::Basis(degree) => {
+            write_spline(s, degree, ms, ks, cs, lefts, out);
+        }
+        Form::Fit(k) => {
+            let points = k.points;
+            if points < 2 {
+                return;
+            }
+            write_segments(s, k, ms, pts, ks, cs, lefts, out);
+        }
     }
-    if size < 2 {
-        return;
-    }
-    write_segments(s, tol, ms, pts, ks, cs, lefts, out);
 }

@@ -1,4 +1,4 @@
--- What the counting walk remembers and the writing walk recalls. Assumes nothing.
+-- LAWS. What the counting walk remembers and the writing walk recalls. Assumes nothing.
 use mathlib.Core.Path.{_≡_, refl, sym, ap, _∙_, subst}
 use mathlib.Core.List.{List, [], _∷_, _++_}
 use mathlib.Core.Bool.{Bool, true, false, cond, _&&_}
@@ -12,7 +12,8 @@ use lib.Seq.{getD-append-add, getD-set-same, getD-set-other, sets, length-sets}
 use lib.Ieee.{Float}
 use borrow.Author.Tests.{eq-eqb, ne-eqb, ltb-true}
 use Rattle.curve_metric.specs.Walk.{flat, middle}
-use Rattle.curve_walk.specs.Lefts.{leftsOf, Recalls, Stored, Cursor}
+use Rattle.curve_walk.specs.Lefts.{leftsOf}
+use Rattle.curve_walk.specs.Asks.{Recalls, Stored, Cursor}
 use Rattle.curve_walk.specs.Counting.{pow-half}
 
 -- ---- stores, one list after another
@@ -46,12 +47,15 @@ stored-recalls l c xs {ys} e = record {
 pub stored-none : {l : List ℕ} {c : ℕ} → Stored l c [] c l
 stored-none = record { end = omega arith; is = refl }
 
-pub stored-two : {l : List ℕ} {c : ℕ} {xs us vs : List ℕ} {r r' : ℕ} {ys zs : List ℕ} → xs ≡ us ++ vs → Stored l c us r ys → Stored ys r vs r' zs → Stored l c xs r' zs
+pub stored-two : {l : List ℕ} {c : ℕ} {xs us vs : List ℕ} {r r' : ℕ} {ys zs : List ℕ} → xs ≡ us ++ vs → Stored l c us r ys → Stored ys r vs r' zs
+    → Stored l c xs r' zs
 stored-two {l} {c} {xs} {us} {vs} {r} {r'} {ys} {zs} e a b =
     let n : length xs ≡ length us + length vs = ap length e ∙ length-append us vs in
     record {
       end = omega (arith, a .end, b .end);
-      is = b .is ∙ ap (λ (z : List ℕ). sets z r vs) (a .is) ∙ ap (λ (k : ℕ). sets (sets l c us) k vs) (a .end) ∙ sym (sets-append l c us vs) ∙ ap (sets l c) (sym e);
+      is =
+          b .is ∙ ap (λ (z : List ℕ). sets z r vs) (a .is) ∙ ap (λ (k : ℕ). sets (sets l c us) k vs) (a .end) ∙ sym (sets-append l c us vs)
+          ∙ ap (sets l c) (sym e);
     }
 
 pub stored-length : {l : List ℕ} {c : ℕ} {xs : List ℕ} {r : ℕ} {ys : List ℕ} → Stored l c xs r ys → length ys ≡ length l
@@ -81,7 +85,8 @@ recalls-second {l} {c} {r} {xs} us vs e er m = record {
   is = λ i h g.
       let n : length xs ≡ length us + length vs = ap length e ∙ length-append us vs in
       let k : r + i ≡ c + (length us + i) = omega arith in
-      ap (λ (z : ℕ). getD l z 0) k ∙ m .is (length us + i) (omega arith) (omega arith) ∙ ap (λ (z : List ℕ). getD z (length us + i) 0) e ∙ getD-append-add us vs i 0;
+      ap (λ (z : ℕ). getD l z 0) k ∙ m .is (length us + i) (omega arith) (omega arith) ∙ ap (λ (z : List ℕ). getD z (length us + i) 0) e
+      ∙ getD-append-add us vs i 0;
 }
 
 -- ---- one step of the list
@@ -91,13 +96,15 @@ module _ (ev : Float → List Float) (ms : List ℕ) (tol : Float) where
   unfolding leftsOf
   lefts-zero left t0 p0 t1 p1 e = rw e
 
-  pub lefts-flat : (left : ℕ) (t0 : Float) (p0 : List Float) (t1 : Float) (p1 : List Float) {pm : List Float} → pm ≡ ev (middle t0 t1) → flat ev ms tol t0 p0 t1 p1 pm ≡ true
+  pub lefts-flat : (left : ℕ) (t0 : Float) (p0 : List Float) (t1 : Float) (p1 : List Float) {pm : List Float} → pm ≡ ev (middle t0 t1)
+      → flat ev ms tol t0 p0 t1 p1 pm ≡ true
       → leftsOf ev ms tol left t0 p0 t1 p1 ≡ left ∷ []
   unfolding leftsOf
   lefts-flat zero t0 p0 t1 p1 ep e = refl
   lefts-flat (suc left) t0 p0 t1 p1 ep e = rw (← ep, e)
 
-  pub lefts-halves : (left k : ℕ) (t0 : Float) (p0 : List Float) (t1 : Float) (p1 : List Float) {pm : List Float} → left ≡ suc k → pm ≡ ev (middle t0 t1) → flat ev ms tol t0 p0 t1 p1 pm ≡ false
+  pub lefts-halves : (left k : ℕ) (t0 : Float) (p0 : List Float) (t1 : Float) (p1 : List Float) {pm : List Float} → left ≡ suc k
+      → pm ≡ ev (middle t0 t1) → flat ev ms tol t0 p0 t1 p1 pm ≡ false
       → leftsOf ev ms tol left t0 p0 t1 p1 ≡ leftsOf ev ms tol k t0 p0 (middle t0 t1) pm ++ leftsOf ev ms tol k (middle t0 t1) pm t1 p1
   unfolding leftsOf
   lefts-halves left k t0 p0 t1 p1 el ep e = rw (el, ← ep, e)
@@ -140,17 +147,20 @@ module _ (ev : Float → List Float) (ms : List ℕ) (tol : Float) (left : ℕ) 
   pub stored-zero : {l : List ℕ} {c r : ℕ} {ys : List ℕ} → left ≡ 0 → (r ≡ c + 1) × (ys ≡ set l c 0) → Stored l c (leftsOf ev ms tol left t0 p0 t1 p1) r ys
   stored-zero h e = stored-one (lefts-zero ev ms tol left t0 p0 t1 p1 h ∙ ap (λ (k : ℕ). k ∷ []) h) (e .0) (e .1)
 
-  pub stored-flat : {l : List ℕ} {c r : ℕ} {ys : List ℕ} {pm : List Float} {b : Bool} → pm ≡ ev (middle t0 t1) → b ≡ flat ev ms tol t0 p0 t1 p1 pm → b ≡ true → (r ≡ c + 1) × (ys ≡ set l c left)
+  pub stored-flat : {l : List ℕ} {c r : ℕ} {ys : List ℕ} {pm : List Float} {b : Bool} → pm ≡ ev (middle t0 t1) → b ≡ flat ev ms tol t0 p0 t1 p1 pm
+      → b ≡ true → (r ≡ c + 1) × (ys ≡ set l c left)
       → Stored l c (leftsOf ev ms tol left t0 p0 t1 p1) r ys
   stored-flat ep eb h e = stored-one (lefts-flat ev ms tol left t0 p0 t1 p1 ep (sym eb ∙ h)) (e .0) (e .1)
 
-  pub stored-halves : {l : List ℕ} {c r r' : ℕ} {ys zs : List ℕ} {pm : List Float} {b : Bool} → (left ≡ 0 → ⊥) → pm ≡ ev (middle t0 t1) → b ≡ flat ev ms tol t0 p0 t1 p1 pm → b ≡ false
+  pub stored-halves : {l : List ℕ} {c r r' : ℕ} {ys zs : List ℕ} {pm : List Float} {b : Bool} → (left ≡ 0 → ⊥) → pm ≡ ev (middle t0 t1)
+      → b ≡ flat ev ms tol t0 p0 t1 p1 pm → b ≡ false
       → Stored l c (leftsOf ev ms tol (left - 1) t0 p0 (middle t0 t1) pm) r ys → Stored ys r (leftsOf ev ms tol (left - 1) (middle t0 t1) pm t1 p1) r' zs
       → Stored l c (leftsOf ev ms tol left t0 p0 t1 p1) r' zs
   stored-halves some ep eb h a b = stored-two (lefts-halves ev ms tol left (left - 1) t0 p0 t1 p1 (omega arith) ep (sym eb ∙ h)) a b
 
   -- the memory says whether the chord will do, as far as it reaches
-  known : {l : List ℕ} {c : ℕ} → Recalls l c (leftsOf ev ms tol left t0 p0 t1 p1) → (left ≡ 0 → ⊥) → c < length l → eqb (getD l c 0) left ≡ flat ev ms tol t0 p0 t1 p1 (ev (middle t0 t1))
+  known : {l : List ℕ} {c : ℕ} → Recalls l c (leftsOf ev ms tol left t0 p0 t1 p1) → (left ≡ 0 → ⊥) → c < length l
+      → eqb (getD l c 0) left ≡ flat ev ms tol t0 p0 t1 p1 (ev (middle t0 t1))
   known {l} {c} r some h = by-flat (flat ev ms tol t0 p0 t1 p1 (ev (middle t0 t1))) refl
     where
       led : Led left (leftsOf ev ms tol left t0 p0 t1 p1)
@@ -162,10 +172,12 @@ module _ (ev : Float → List Float) (ms : List ℕ) (tol : Float) (left : ℕ) 
       by-flat : (b : Bool) → flat ev ms tol t0 p0 t1 p1 (ev (middle t0 t1)) ≡ b → eqb (getD l c 0) left ≡ flat ev ms tol t0 p0 t1 p1 (ev (middle t0 t1))
       by-flat true e = eq-eqb (getD l c 0) left (first ∙ ap (λ (z : List ℕ). getD z 0 0) (lefts-flat ev ms tol left t0 p0 t1 p1 refl e)) ∙ sym e
       by-flat false e =
-          let a : Led (left - 1) (leftsOf ev ms tol (left - 1) t0 p0 (middle t0 t1) (ev (middle t0 t1))) = lefts-led ev ms tol (left - 1) t0 p0 (middle t0 t1) (ev (middle t0 t1)) in
-          let v : getD (leftsOf ev ms tol left t0 p0 t1 p1) 0 0 ≡ getD (leftsOf ev ms tol (left - 1) t0 p0 (middle t0 t1) (ev (middle t0 t1))) 0 0 =
+          let us : List ℕ = leftsOf ev ms tol (left - 1) t0 p0 (middle t0 t1) (ev (middle t0 t1)) in
+          let vs : List ℕ = leftsOf ev ms tol (left - 1) (middle t0 t1) (ev (middle t0 t1)) t1 p1 in
+          let a : Led (left - 1) us = lefts-led ev ms tol (left - 1) t0 p0 (middle t0 t1) (ev (middle t0 t1)) in
+          let v : getD (leftsOf ev ms tol left t0 p0 t1 p1) 0 0 ≡ getD us 0 0 =
           ap (λ (z : List ℕ). getD z 0 0) (lefts-halves ev ms tol left (left - 1) t0 p0 t1 p1 (omega arith) refl e)
-          ∙ List·getD-append (leftsOf ev ms tol (left - 1) t0 p0 (middle t0 t1) (ev (middle t0 t1))) (leftsOf ev ms tol (left - 1) (middle t0 t1) (ev (middle t0 t1)) t1 p1) 0 0 (a .some) in
+          ∙ List·getD-append us vs 0 0 (a .some) in
           ne-eqb (getD l c 0) left (λ q. some (omega (arith, first, a .head))) ∙ sym e
 
   module _ {l : List ℕ} {c : ℕ} (r : Recalls l c (leftsOf ev ms tol left t0 p0 t1 p1)) (some : left ≡ 0 → ⊥) where
@@ -188,7 +200,8 @@ module _ (ev : Float → List Float) (ms : List ℕ) (tol : Float) (left : ℕ) 
 
 -- the curve says so where the memory does not reach
 module _ (ev : Float → List Float) (ms : List ℕ) (tol t0 : Float) (p0 : List Float) (t1 : Float) (p1 : List Float) where
-  pub flat-new : (n c : ℕ) (pm : List Float) {b : Bool} → b ≡ cond (ltb c n) false (flat ev ms tol t0 p0 t1 p1 pm) → b ≡ true → true ≡ flat ev ms tol t0 p0 t1 p1 pm
+  pub flat-new : (n c : ℕ) (pm : List Float) {b : Bool} → b ≡ cond (ltb c n) false (flat ev ms tol t0 p0 t1 p1 pm) → b ≡ true
+      → true ≡ flat ev ms tol t0 p0 t1 p1 pm
   flat-new n c pm eb h = go (ltb c n) refl
     where
       go : (t : Bool) → ltb c n ≡ t → true ≡ flat ev ms tol t0 p0 t1 p1 pm

@@ -1,4 +1,4 @@
--- What is written, one part after another. Assumes nothing.
+-- LAWS. What is written, one part after another. Assumes nothing.
 use mathlib.Core.Path.{_≡_, refl, sym, ap, _∙_, subst}
 use mathlib.Core.List.{List, [], _∷_, _++_, map}
 use mathlib.Core.Bool.{Bool, true, false}
@@ -14,7 +14,8 @@ use Rattle.floats.specs.Splice.{Splicing, spliced-spliced, length-spliced, spli
 use Rattle.curve_metric.specs.Walk.{Sample, samples, flat, middle}
 use Rattle.curve_metric.specs.WalkLaws.{samples-zero, samples-flat, samples-halves}
 use Rattle.bspline_tables.specs.Joins.{flatten-append, flatten-one, map-append}
-use Rattle.curve_walk.specs.Walks.{encode, pointsOf, Written}
+use Rattle.curve_walk.specs.Walks.{encode, pointsOf}
+use Rattle.curve_walk.specs.Asks.{Written}
 
 -- ---- the words of points
 
@@ -62,18 +63,24 @@ written-two {l} {i} {ps} {us} {vs} {r} {r'} {xs} {xs'} es room a b =
           ∙ spliced-spliced l i (encode us) (encode vs) (omega arith) ∙ ap (spliced l i) (sym w);
     }
 
-pub written-length : {l : List ℕ} {i : ℕ} {ps : List (List Float)} {r : ℕ} {xs : List ℕ} → i + length (encode ps) ≤ length l → Written l i ps r xs → length xs ≡ length l
+pub written-length : {l : List ℕ} {i : ℕ} {ps : List (List Float)} {r : ℕ} {xs : List ℕ} → i + length (encode ps) ≤ length l → Written l i ps r xs
+    → length xs ≡ length l
 written-length {l} {i} {ps} h w = ap length (w .is) ∙ length-spliced l i (encode ps) h
 
+encode-two : {ps : List (List Float)} (us vs : List (List Float)) → ps ≡ us ++ vs → length (encode ps) ≡ length (encode us) + length (encode vs)
+encode-two us vs es = ap length (ap encode es ∙ encode-append us vs) ∙ length-append (encode us) (encode vs)
+
 -- room for the first part and for the second
-pub room-first : (l : List ℕ) (i : ℕ) {ps : List (List Float)} (us vs : List (List Float)) → ps ≡ us ++ vs → i + length (encode ps) ≤ length l → i + length (encode us) ≤ length l
+pub room-first : (l : List ℕ) (i : ℕ) {ps : List (List Float)} (us vs : List (List Float)) → ps ≡ us ++ vs → i + length (encode ps) ≤ length l
+    → i + length (encode us) ≤ length l
 room-first l i {ps} us vs es h =
-    let n : length (encode ps) ≡ length (encode us) + length (encode vs) = ap length (ap encode es ∙ encode-append us vs) ∙ length-append (encode us) (encode vs) in
+    let n = encode-two us vs es in
     omega arith
 
-pub room-second : {l : List ℕ} {i : ℕ} {ps us : List (List Float)} (vs : List (List Float)) {r : ℕ} {xs : List ℕ} → ps ≡ us ++ vs → i + length (encode ps) ≤ length l → Written l i us r xs → r + length (encode vs) ≤ length xs
+pub room-second : {l : List ℕ} {i : ℕ} {ps us : List (List Float)} (vs : List (List Float)) {r : ℕ} {xs : List ℕ} → ps ≡ us ++ vs
+    → i + length (encode ps) ≤ length l → Written l i us r xs → r + length (encode vs) ≤ length xs
 room-second {l} {i} {ps} {us} vs {r} {xs} es h w =
-    let n : length (encode ps) ≡ length (encode us) + length (encode vs) = ap length (ap encode es ∙ encode-append us vs) ∙ length-append (encode us) (encode vs) in
+    let n = encode-two us vs es in
     let g : length xs ≡ length l = written-length (room-first l i us vs es h) w in
     omega (arith, w .end)
 
@@ -83,16 +90,19 @@ module _ (ev : Float → List Float) (ms : List ℕ) (tol : Float) (left : ℕ) 
   pub points-zero : left ≡ 0 → pointsOf (samples ev ms tol left t0 p0 t1 p1) ≡ p1 ∷ []
   points-zero h = ap pointsOf (samples-zero ev ms tol left t0 p0 t1 p1 h)
 
-  pub points-flat : {pm : List Float} {b : Bool} → pm ≡ ev (middle t0 t1) → b ≡ flat ev ms tol t0 p0 t1 p1 pm → b ≡ true → pointsOf (samples ev ms tol left t0 p0 t1 p1) ≡ p1 ∷ []
+  pub points-flat : {pm : List Float} {b : Bool} → pm ≡ ev (middle t0 t1) → b ≡ flat ev ms tol t0 p0 t1 p1 pm → b ≡ true
+      → pointsOf (samples ev ms tol left t0 p0 t1 p1) ≡ p1 ∷ []
   points-flat ep eb h = ap pointsOf (samples-flat ev ms tol left t0 p0 t1 p1 ep (sym eb ∙ h))
 
   pub points-halves : {pm : List Float} {b : Bool} → (left ≡ 0 → ⊥) → pm ≡ ev (middle t0 t1) → b ≡ flat ev ms tol t0 p0 t1 p1 pm → b ≡ false
-      → pointsOf (samples ev ms tol left t0 p0 t1 p1) ≡ pointsOf (samples ev ms tol (left - 1) t0 p0 (middle t0 t1) pm) ++ pointsOf (samples ev ms tol (left - 1) (middle t0 t1) pm t1 p1)
+      → pointsOf (samples ev ms tol left t0 p0 t1 p1)
+      ≡ pointsOf (samples ev ms tol (left - 1) t0 p0 (middle t0 t1) pm) ++ pointsOf (samples ev ms tol (left - 1) (middle t0 t1) pm t1 p1)
   points-halves {pm} some ep eb h =
       ap pointsOf (samples-halves ev ms tol left (left - 1) t0 p0 t1 p1 (omega arith) ep (sym eb ∙ h))
       ∙ map-append (λ (s : Sample). s .point) (samples ev ms tol (left - 1) t0 p0 (middle t0 t1) pm) (samples ev ms tol (left - 1) (middle t0 t1) pm t1 p1)
 
-pub one-room : (p : List Float) (l : List ℕ) (from : ℕ) {ps : List (List Float)} → ps ≡ p ∷ [] → from + length (encode ps) ≤ length l → from + length p ≤ length l
+pub one-room : (p : List Float) (l : List ℕ) (from : ℕ) {ps : List (List Float)} → ps ≡ p ∷ [] → from + length (encode ps) ≤ length l
+    → from + length p ≤ length l
 one-room p l from {ps} e h = let n : length (encode ps) ≡ length p = ap (λ (z : List (List Float)). length (encode z)) e ∙ encode-length p in omega arith
 
 pub written-as : {l : List ℕ} {i : ℕ} {ps qs : List (List Float)} {r : ℕ} {xs : List ℕ} → ps ≡ qs → Written l i qs r xs → Written l i ps r xs

@@ -1,30 +1,32 @@
 // The halving of a stretch of a curve of either kind: its samples, counted by owner and written.
 pub mod walk;
 
-ghost use mathlib.Core.Path.{_≡_};
-ghost use Rattle.curve_walk.specs.Walks.{withPiece};
-
-// A curve's tables, in short: a B-spline of degree `size`, or a fit of `size` kept points; n points of ch numbers. `piece`
-// is where an evaluation of a fit looks first: it may be any number, and no point depends on it.
-pub struct Shape {
-    pub basis: bool,
-    pub n: usize,
-    pub ch: usize,
-    pub size: usize,
+// The points of a fit that were kept, and the piece that an evaluation looks in first: it may be any, and no point depends
+// on it.
+pub struct Kept {
+    pub points: usize,
     pub piece: usize,
 }
 
-// The same curve, looked at in this piece first.
-pub fn with_piece(s: Shape, piece: usize) -> Shape
-    ensures { λ r. ⌜ r ≡ withPiece s piece ⌝ }
-{
-    Shape {
-        basis: s.basis,
-        n: s.n,
-        ch: s.ch,
-        size: s.size,
-        piece: piece,
-    }
+// What a curve's tables hold: a B-spline of this degree, or a fit.
+pub enum Form {
+    Basis(usize),
+    Fit(Kept),
+}
+
+// A curve beside its tables: n points of ch numbers each, and how far a chord may stray from it.
+pub struct Shape {
+    pub n: usize,
+    pub ch: usize,
+    pub tol: f64,
+    pub form: Form,
+}
+
+// A stretch of a curve, by its first time and its last, and how often it may still be halved.
+pub struct Interval {
+    pub t0: f64,
+    pub t1: f64,
+    pub left: usize,
 }
 
 // How far a count has come: the owner of the last sample, and the samples so far.

@@ -1,4 +1,4 @@
--- Document 01, "Spline": the group of each held block; an emission is their concatenation. Assumes nothing.
+-- DEFINITIONS. Document 01, "Spline": the group of each held block; an emission is their concatenation. Assumes nothing.
 use Prim.Native.Nat.{ℕ, _+_, _/_}
 use mathlib.Core.Bool.{cond}
 use mathlib.Core.List.{List, _∷_, map}
@@ -26,6 +26,6 @@ runsOf s =
 unfoldable pub splineGroups : Spline → List (List (List ℕ))
 splineGroups s = let runs = runsOf s in upto (heldGroup s runs) (length (s .blocks))
 
--- "Room is judged for both together": rows written to the front of l where they and `own` more have room
+-- room is judged for an emission and the block after it together: rows written to the front of l where they and `own` more have room
 unfoldable pub putWithin : ℕ → List (List ℕ) → List ℕ → List ℕ
 putWithin own out l = cond (leb (length out + own) (length l / rowWords)) (spliced l 0 (flatten out)) l

@@ -1,4 +1,4 @@
--- Laws of a spline's groups: none is empty; its channels are geometric axes, no code twice, at most 10; the blocks with a point are those with a channel's cell. Assumes nothing.
+-- LAWS. A spline's groups: none is empty; its channels are geometric axes, no code twice; the blocks with a point have a channel's cell. Assumes nothing.
 use Prim.Native.Nat.{ℕ, zero, suc, _+_, _*_, _≤_, _<_}
 use mathlib.Core.Option.{none, some}
 use lib.Seq.{getD-take, getD-drop}
@@ -12,7 +12,7 @@ use lib.Ieee.{Float}
 use borrow.Author.Tests.{eqb-true, eqb-false}
 use Rattle.floats.specs.Lists.{upto, keep, member, anyOf}
 use Rattle.floats.specs.Fill.{length-upto}
-use Rattle.layout.specs.Layout.{rowWords, axisCodes}
+use Rattle.layout.specs.Layout.{rowWords, axisCodes, axisMasks}
 use Rattle.motion.specs.Motion.{gOne}
 use Rattle.rows.specs.Codes.{geometricOf}
 use Rattle.rows.specs.Row.{has, presentOf, shown, hasPoint, outRow, madeRow}
@@ -20,7 +20,7 @@ use Rattle.rows.specs.Masks.{member-append, member-keep}
 use Rattle.spline_points.specs.Channels.{Once, Good, Distinct, channels-good, channels-few, once-distinct, distinct-keep, none-good}
 use Rattle.spline_points.specs.Keeps.{member-here}
 use Rattle.spline_points.specs.Points.{Spline, channels, channelsFrom, blockAt}
-use Rattle.spline_emission.specs.Emits.{bit-below}
+use Rattle.spline_emission.specs.Frames.{bit-below}
 use Rattle.spline_places.specs.Groups.{sampleCell, ownCell, isMarked, pointGroup, heldGroup}
 
 -- ---- no group is empty
@@ -44,7 +44,8 @@ unfolding heldGroup
 group-some s runs i =
     let r : List ℕ = getD (s .blocks) i [] in
     let j : ℕ = length (keep (hasPoint (s .axes)) (take i (s .blocks))) in
-    either-some (hasPoint (s .axes) r) (pointGroup s (channels s) (length runs) j (getD runs j []) r) (outRow r ∷ []) (point-some s (channels s) (length runs) j (getD runs j []) r) (omega arith)
+    let some = point-some s (channels s) (length runs) j (getD runs j []) r in
+    either-some (hasPoint (s .axes) r) (pointGroup s (channels s) (length runs) j (getD runs j []) r) (outRow r ∷ []) some (omega arith)
 
 -- ---- the channels of a spline whose axes are the geometric ones of a list without a code twice
 module _ (s : Spline) (axes : List ℕ) (once : Once axes) (is : s .axes ≡ geometricOf axes) where
@@ -101,7 +102,8 @@ channels-stay gs cs [] k m = m
 channels-stay gs cs (r ∷ rs) k m = channels-stay gs (cs ++ keep (λ (k : ℕ). has (presentOf r) k && not (member k cs)) gs) rs k
     (member-append k cs (keep (λ (k : ℕ). has (presentOf r) k && not (member k cs)) gs) ∙ rw m)
 
-pub channels-cover : (gs cs : List ℕ) (rs : List (List ℕ)) (i k : ℕ) → i < length rs → member k gs ≡ true → has (presentOf (getD rs i [])) k ≡ true → member k (channelsFrom gs cs rs) ≡ true
+pub channels-cover : (gs cs : List ℕ) (rs : List (List ℕ)) (i k : ℕ) → i < length rs → member k gs ≡ true → has (presentOf (getD rs i [])) k ≡ true
+    → member k (channelsFrom gs cs rs) ≡ true
 unfolding channelsFrom
 channels-cover gs cs [] i k l m e = absurd (omega arith)
 channels-cover gs cs (r ∷ rs) (suc i) k l m e = channels-cover gs (cs ++ keep (λ (k : ℕ). has (presentOf r) k && not (member k cs)) gs) rs i k (omega arith) m e
@@ -122,17 +124,18 @@ unfolding hasPoint channels
 point-channel s axes once is i l =
     let p : ℕ → Bool = λ k. has (presentOf (getD (s .blocks) i [])) k in
     either-way (anyOf p (s .axes)) (anyOf p (channels s))
-    (λ (e : anyOf p (s .axes) ≡ true). some-of p (anyOf p (channels s)) (s .axes) e (λ k m q. any-of p k (channels s) (channels-cover (s .axes) [] (s .blocks) i k l m q) q))
+    (λ (e : anyOf p (s .axes) ≡ true). some-of p (anyOf p (channels s)) (s .axes) e (λ k m q.
+    any-of p k (channels s) (channels-cover (s .axes) [] (s .blocks) i k l m q) q))
     (λ (e : anyOf p (channels s) ≡ true). some-of p (anyOf p (s .axes)) (channels s) e (λ k m q. any-of p k (s .axes) (channel-axis s axes once is k m) q))
 
 -- ---- as a state and a store have them: ten words of a part of the state beside their mask, and the held rows
-pub shown-part : (m a : ℕ) (l : List ℕ) → m < 1024 → shown m (take 10 (drop a l)) ≡ (λ (k : ℕ). cond (has m k) (some (getD l (a + k) 0)) none)
+pub shown-part : (m a : ℕ) (l : List ℕ) → m < axisMasks → shown m (take axisCodes (drop a l)) ≡ (λ (k : ℕ). cond (has m k) (some (getD l (a + k) 0)) none)
 unfolding shown
 shown-part m a l h = fun-ext (λ k. one k (has m k) refl)
   where
-    one : (k : ℕ) (b : Bool) → has m k ≡ b → cond b (some (getD (take 10 (drop a l)) k 0)) none ≡ cond b (some (getD l (a + k) 0)) none
+    one : (k : ℕ) (b : Bool) → has m k ≡ b → cond b (some (getD (take axisCodes (drop a l)) k 0)) none ≡ cond b (some (getD l (a + k) 0)) none
     one k false e = refl
-    one k true e = ap some (getD-take 10 (drop a l) k 0 (bit-below m k h e) ∙ getD-drop a l k 0)
+    one k true e = ap some (getD-take axisCodes (drop a l) k 0 (bit-below m k h e) ∙ getD-drop a l k 0)
 
 pub blocks-are : (store : List ℕ) (held : ℕ) → upto (blockAt store) held ≡ upto (λ (i : ℕ). take rowWords (drop (i * rowWords) store)) held
 unfolding blockAt

@@ -1,4 +1,4 @@
--- Laws of the runs of a curve: how many there are, how wide their points, how many points they have at most. Assumes nothing.
+-- LAWS. The runs of a curve: how many there are, how wide their points, how many points they have at most. Assumes nothing.
 use Prim.Native.Nat.{ℕ, zero, suc, _+_, _*_, _-_, _^_, _≤_, _<_}
 use mathlib.Core.Path.{_≡_, refl, sym, _∙_, ap}
 use mathlib.Core.Bool.{Bool, true, false, cond}
@@ -9,7 +9,6 @@ use native.Mathlib.Omega.{arith}
 use lib.Dec.{eqb, ltb}
 use lib.ListN.{length, getD, length-append, length-map, List·getD-append, List·getD-eq-default}
 use lib.Seq.{getD-at}
-use lib.Pow.{pow-pos}
 use lib.Ieee.{Float, lt, le}
 use borrow.Author.Tests.{ltb-false}
 use Rattle.floats.specs.Numbers.{at, _⊖_, 1e-12}
@@ -19,9 +18,13 @@ use Rattle.spline_points.specs.Flat.{Sized, sized-append, flatten-append}
 use Rattle.spline_points.specs.Keeps.{keep-most}
 use Rattle.curve_metric.specs.Metric.{pointOf, chords}
 use Rattle.curve_metric.specs.Walk.{Sample, middle, samples, flat}
+use Rattle.curve_metric.specs.WalkLaws.{samples-le}
 use Rattle.fit_knots.specs.Fit.{Fit, keptTo, fitOf, pieceFrom, pieceOf, evalFit, fitRun, fitRuns}
 use Rattle.bspline_tables.specs.Basis.{Bspline, basisOf, spansOf, evalBasis, basisSamples, Owned, owned, ownerFrom, runOf, basisRuns}
-use Rattle.curve_runs.specs.Runs.{curveRuns}
+use Rattle.layout.specs.Layout.{mostPoints}
+use Rattle.motion.specs.Motion.{isBasis, isCubic}
+use Rattle.curve_walk.specs.Lefts.{depth}
+use Rattle.curve_runs.specs.Runs.{runsBy, curveRuns}
 
 -- ---- lists of rows of one length
 module _ {A : Type 0} where
@@ -42,7 +45,9 @@ module _ {A : Type 0} where
   sized-flat : (n : ℕ) (f : ℕ → List (List A)) (c : ℕ) → ((i : ℕ) → i < c → Sized n (f i)) → Sized n (flatten (upto f c))
   unfolding upto flatten Sized
   sized-flat n f zero h = tt
-  sized-flat n f (suc c) h = rw (flatten-append (upto f c) (f c ∷ []), append-nil) (sized-append n (flatten (upto f c)) (f c) (sized-flat n f c (λ i l. h i (omega arith))) (h c (omega arith)))
+  sized-flat n f (suc c) h =
+      rw (flatten-append (upto f c) (f c ∷ []), append-nil)
+      (sized-append n (flatten (upto f c)) (f c) (sized-flat n f c (λ i l. h i (omega arith))) (h c (omega arith)))
 
   long-flat : (b : ℕ) (f : ℕ → List A) (c : ℕ) → ((i : ℕ) → length (f i) ≤ b) → length (flatten (upto f c)) ≤ c * b
   unfolding upto flatten
@@ -53,7 +58,9 @@ module _ {A : Type 0} (g : A → List Float) (n : ℕ) where
   sized-map-flat : (f : ℕ → List A) (c : ℕ) → ((i : ℕ) → Sized n (map g (f i))) → Sized n (map g (flatten (upto f c)))
   unfolding upto flatten Sized
   sized-map-flat f zero h = tt
-  sized-map-flat f (suc c) h = rw (flatten-append (upto f c) (f c ∷ []), append-nil, map-append) (sized-append n (map g (flatten (upto f c))) (map g (f c)) (sized-map-flat f c h) (h c))
+  sized-map-flat f (suc c) h =
+      rw (flatten-append (upto f c) (f c ∷ []), append-nil, map-append)
+      (sized-append n (map g (flatten (upto f c))) (map g (f c)) (sized-map-flat f c h) (h c))
 
   sized-keep : (p : A → Bool) (xs : List A) → Sized n (map g xs) → Sized n (map g (keep p xs))
   unfolding keep Sized
@@ -69,21 +76,19 @@ abbrev points : List Sample → List (List Float)
 points ss = map (λ (s : Sample). s .point) ss
 
 module _ (eval : Float → List Float) (ms : List ℕ) (tol : Float) where
-  samples-few : (left : ℕ) (t0 : Float) (p0 : List Float) (t1 : Float) (p1 : List Float) → length (samples eval ms tol left t0 p0 t1 p1) ≤ 2 ^ left
-  unfolding samples
-  samples-few zero t0 p0 t1 p1 = omega arith
-  samples-few (suc left) t0 p0 t1 p1 = one (flat eval ms tol t0 p0 t1 p1 (eval (middle t0 t1))) (samples eval ms tol left t0 p0 (middle t0 t1) (eval (middle t0 t1))) (samples eval ms tol left (middle t0 t1) (eval (middle t0 t1)) t1 p1) (samples-few left t0 p0 (middle t0 t1) (eval (middle t0 t1))) (samples-few left (middle t0 t1) (eval (middle t0 t1)) t1 p1)
-    where
-      one : (b : Bool) (xs ys : List Sample) → length xs ≤ 2 ^ left → length ys ≤ 2 ^ left → length (cond b (record { time = t1; point = p1 } ∷ []) (xs ++ ys)) ≤ 2 ^ suc left
-      one true xs ys h k = omega (arith, pow-pos left)
-      one false xs ys h k = rw (length-append xs ys) (omega arith)
-
-  samples-wide : (n : ℕ) → ((t : Float) → length (eval t) ≡ n) → (left : ℕ) (t0 : Float) (p0 : List Float) (t1 : Float) (p1 : List Float) → length p1 ≡ n → Sized n (points (samples eval ms tol left t0 p0 t1 p1))
+  samples-wide : (n : ℕ) → ((t : Float) → length (eval t) ≡ n) → (left : ℕ) (t0 : Float) (p0 : List Float) (t1 : Float) (p1 : List Float)
+      → length p1 ≡ n → Sized n (points (samples eval ms tol left t0 p0 t1 p1))
   unfolding samples
   samples-wide n h zero t0 p0 t1 p1 e = sized-one n p1 e
-  samples-wide n h (suc left) t0 p0 t1 p1 e = one (flat eval ms tol t0 p0 t1 p1 (eval (middle t0 t1))) (samples eval ms tol left t0 p0 (middle t0 t1) (eval (middle t0 t1))) (samples eval ms tol left (middle t0 t1) (eval (middle t0 t1)) t1 p1) (samples-wide n h left t0 p0 (middle t0 t1) (eval (middle t0 t1)) (h (middle t0 t1))) (samples-wide n h left (middle t0 t1) (eval (middle t0 t1)) t1 p1 e)
+  samples-wide n h (suc left) t0 p0 t1 p1 e = one
+      (flat eval ms tol t0 p0 t1 p1 (eval (middle t0 t1)))
+      (samples eval ms tol left t0 p0 (middle t0 t1) (eval (middle t0 t1)))
+      (samples eval ms tol left (middle t0 t1) (eval (middle t0 t1)) t1 p1)
+      (samples-wide n h left t0 p0 (middle t0 t1) (eval (middle t0 t1)) (h (middle t0 t1)))
+      (samples-wide n h left (middle t0 t1) (eval (middle t0 t1)) t1 p1 e)
     where
-      one : (b : Bool) (xs ys : List Sample) → Sized n (points xs) → Sized n (points ys) → Sized n (points (cond b (record { time = t1; point = p1 } ∷ []) (xs ++ ys)))
+      one : (b : Bool) (xs ys : List Sample) → Sized n (points xs) → Sized n (points ys)
+          → Sized n (points (cond b (record { time = t1; point = p1 } ∷ []) (xs ++ ys)))
       one true xs ys s t = sized-one n p1 e
       one false xs ys s t = rw (map-append (λ (s : Sample). s .point) xs ys) (sized-append n (points xs) (points ys) s t)
 
@@ -94,7 +99,8 @@ kept-below ts zero zero h = omega arith
 kept-below ts zero (suc w) h = absurd (omega arith)
 kept-below ts (suc k) w h = one (lt 1e-12 (at ts (k + 1) ⊖ at ts (getD (keptTo ts k) (length (keptTo ts k) - 1) 0))) (kept-below ts k) h
   where
-    one : (b : Bool) → ((w : ℕ) → w < length (keptTo ts k) → getD (keptTo ts k) w 0 ≤ k) → w < length (cond b (keptTo ts k ++ ((k + 1) ∷ [])) (keptTo ts k)) → getD (cond b (keptTo ts k ++ ((k + 1) ∷ [])) (keptTo ts k)) w 0 ≤ suc k
+    one : (b : Bool) → ((w : ℕ) → w < length (keptTo ts k) → getD (keptTo ts k) w 0 ≤ k)
+        → w < length (cond b (keptTo ts k ++ ((k + 1) ∷ [])) (keptTo ts k)) → getD (cond b (keptTo ts k ++ ((k + 1) ∷ [])) (keptTo ts k)) w 0 ≤ suc k
     one false i l = omega (arith, i w l)
     one true i l = ⊎-elim
         (λ (q : w < length (keptTo ts k)). rw (List·getD-append (keptTo ts k) ((k + 1) ∷ []) 0 w q) (omega (arith, i w q)))
@@ -117,7 +123,8 @@ getD-map f [] i d e h = absurd (omega arith)
 getD-map f (x ∷ xs) zero d e h = refl
 getD-map f (x ∷ xs) (suc i) d e h = getD-map f xs i d e (omega arith)
 
-eval-wide : (cubic : Bool) (n k : ℕ) (pts : List (List Float)) (ts : List Float) → Sized n pts → k < length pts → 2 ≤ length (keptTo ts k) → (t : Float) → length (evalFit (fitOf cubic pts ts (keptTo ts k)) t) ≡ n
+eval-wide : (cubic : Bool) (n k : ℕ) (pts : List (List Float)) (ts : List Float) → Sized n pts → k < length pts → 2 ≤ length (keptTo ts k)
+    → (t : Float) → length (evalFit (fitOf cubic pts ts (keptTo ts k)) t) ≡ n
 unfolding evalFit fitOf pieceOf
 eval-wide cubic n k pts ts s l two t =
     let ks : List ℕ = keptTo ts k in
@@ -127,13 +134,17 @@ eval-wide cubic n k pts ts s l two t =
     length-upto _ (length (pointOf (map (pointOf pts) ks) w))
     ∙ ap length (getD-map (pointOf pts) ks w 0 [] lw) ∙ sized-at n pts (getD ks w 0) s (omega (arith, kept-below ts k w lw))
 
-fit-run-wide : (fit : Fit) (ms : List ℕ) (tol : Float) (pts : List (List Float)) (ts : List Float) (n i : ℕ) → ((t : Float) → length (evalFit fit t) ≡ n) → Sized n pts → i + 1 < length pts → Sized n (fitRun fit ms tol pts ts i)
+fit-run-wide : (fit : Fit) (ms : List ℕ) (tol : Float) (pts : List (List Float)) (ts : List Float) (n i : ℕ)
+    → ((t : Float) → length (evalFit fit t) ≡ n) → Sized n pts → i + 1 < length pts → Sized n (fitRun fit ms tol pts ts i)
 unfolding fitRun
 fit-run-wide fit ms tol pts ts n i h s l =
     let e : length (pointOf pts (i + 1)) ≡ n = sized-at n pts (i + 1) s l in
-    sized-cond n (le (at ts (i + 1) ⊖ at ts i) 1e-12) (pointOf pts (i + 1) ∷ []) (map (λ (s : Sample). s .point) (samples (evalFit fit) ms tol 20 (at ts i) (pointOf pts i) (at ts (i + 1)) (pointOf pts (i + 1)))) (sized-one n (pointOf pts (i + 1)) e) (samples-wide (evalFit fit) ms tol n h 20 (at ts i) (pointOf pts i) (at ts (i + 1)) (pointOf pts (i + 1)) e)
+    let run : List (List Float) = points (samples (evalFit fit) ms tol depth (at ts i) (pointOf pts i) (at ts (i + 1)) (pointOf pts (i + 1))) in
+    let wide = samples-wide (evalFit fit) ms tol n h depth (at ts i) (pointOf pts i) (at ts (i + 1)) (pointOf pts (i + 1)) e in
+    sized-cond n (le (at ts (i + 1) ⊖ at ts i) 1e-12) (pointOf pts (i + 1) ∷ []) run (sized-one n (pointOf pts (i + 1)) e) wide
 
-fit-wide : (cubic : Bool) (ms : List ℕ) (tol : Float) (pts : List (List Float)) (n : ℕ) → 1 ≤ length pts → Sized n pts → Sized n (flatten (fitRuns cubic ms tol pts))
+fit-wide : (cubic : Bool) (ms : List ℕ) (tol : Float) (pts : List (List Float)) (n : ℕ) → 1 ≤ length pts → Sized n pts
+    → Sized n (flatten (fitRuns cubic ms tol pts))
 unfolding fitRuns Sized
 fit-wide cubic ms tol pts n some s = one (ltb (length ks) 2) refl
   where
@@ -143,16 +154,22 @@ fit-wide cubic ms tol pts n some s = one (ltb (length ks) 2) refl
     ks : List ℕ
     ks = keptTo ts (length pts - 1)
 
-    one : (b : Bool) → ltb (length ks) 2 ≡ b → Sized n (flatten (cond b (upto (λ (i : ℕ). []) (length pts - 1)) (upto (fitRun (fitOf cubic pts ts ks) ms tol pts ts) (length pts - 1))))
+    one : (b : Bool) → ltb (length ks) 2 ≡ b
+        → Sized n (flatten (cond b (upto (λ (i : ℕ). []) (length pts - 1)) (upto (fitRun (fitOf cubic pts ts ks) ms tol pts ts) (length pts - 1))))
     one true e = sized-flat n (λ (i : ℕ). []) (length pts - 1) (λ i l. tt)
     one false e = sized-flat n (fitRun (fitOf cubic pts ts ks) ms tol pts ts) (length pts - 1)
-        (λ i l. fit-run-wide (fitOf cubic pts ts ks) ms tol pts ts n i (eval-wide cubic n (length pts - 1) pts ts s (omega arith) (ltb-false (length ks) 2 e)) s (omega arith))
+        (λ i l.
+        let wide = eval-wide cubic n (length pts - 1) pts ts s (omega arith) (ltb-false (length ks) 2 e) in
+        fit-run-wide (fitOf cubic pts ts ks) ms tol pts ts n i wide s (omega arith))
 
-fit-run-few : (fit : Fit) (ms : List ℕ) (tol : Float) (pts : List (List Float)) (ts : List Float) (i : ℕ) → length (fitRun fit ms tol pts ts i) ≤ 2 ^ 20
+fit-run-few : (fit : Fit) (ms : List ℕ) (tol : Float) (pts : List (List Float)) (ts : List Float) (i : ℕ) → length (fitRun fit ms tol pts ts i) ≤ 2 ^ depth
 unfolding fitRun
-fit-run-few fit ms tol pts ts i = one (le (at ts (i + 1) ⊖ at ts i) 1e-12) (map (λ (s : Sample). s .point) (samples (evalFit fit) ms tol 20 (at ts i) (pointOf pts i) (at ts (i + 1)) (pointOf pts (i + 1)))) (rw (length-map (samples (evalFit fit) ms tol 20 (at ts i) (pointOf pts i) (at ts (i + 1)) (pointOf pts (i + 1))) (λ (s : Sample). s .point)) (samples-few (evalFit fit) ms tol 20 (at ts i) (pointOf pts i) (at ts (i + 1)) (pointOf pts (i + 1))))
+fit-run-few fit ms tol pts ts i =
+    let run : List Sample = samples (evalFit fit) ms tol depth (at ts i) (pointOf pts i) (at ts (i + 1)) (pointOf pts (i + 1)) in
+    let few = samples-le (evalFit fit) ms tol depth (at ts i) (pointOf pts i) (at ts (i + 1)) (pointOf pts (i + 1)) in
+    one (le (at ts (i + 1) ⊖ at ts i) 1e-12) (points run) (rw (length-map run (λ (s : Sample). s .point)) few)
   where
-    one : (b : Bool) (xs : List (List Float)) → length xs ≤ 2 ^ 20 → length (cond b (pointOf pts (i + 1) ∷ []) xs) ≤ 2 ^ 20
+    one : (b : Bool) (xs : List (List Float)) → length xs ≤ 2 ^ depth → length (cond b (pointOf pts (i + 1) ∷ []) xs) ≤ 2 ^ depth
     one true xs h = omega arith
     one false xs h = h
 
@@ -174,24 +191,27 @@ basis-eval-wide b n e t = length-upto _ (length (pointOf (b .points) 0)) ∙ e
 basis-samples-wide : (b : Bspline) (ms : List ℕ) (tol : Float) (n : ℕ) → length (pointOf (b .points) 0) ≡ n → Sized n (points (basisSamples b ms tol))
 unfolding basisSamples
 basis-samples-wide b ms tol n e = sized-map-flat (λ (s : Sample). s .point) n _ (spansOf b)
-    (λ j. samples-wide (evalBasis b) ms tol n (basis-eval-wide b n e) 20 _ _ _ _ (basis-eval-wide b n e _))
+    (λ j. samples-wide (evalBasis b) ms tol n (basis-eval-wide b n e) depth _ _ _ _ (basis-eval-wide b n e _))
 
-basis-wide : (sd : ℕ) (ms : List ℕ) (tol : Float) (pts : List (List Float)) (ws : List Float) (n : ℕ) → 1 ≤ length pts → Sized n pts → Sized n (flatten (basisRuns sd ms tol pts ws))
+basis-wide : (sd : ℕ) (ms : List ℕ) (tol : Float) (pts : List (List Float)) (ws : List Float) (n : ℕ) → 1 ≤ length pts → Sized n pts
+    → Sized n (flatten (basisRuns sd ms tol pts ws))
 unfolding basisRuns runOf basisOf
 basis-wide sd ms tol pts ws n some s =
     let b : Bspline = basisOf sd pts ws in
-    sized-flat n (runOf (owned b 1 (basisSamples b ms tol))) (length pts - 1) (λ i l. sized-keep (λ (s : Owned). s .point) n (λ (s : Owned). eqb (s .owner) (i + 1)) (owned b 1 (basisSamples b ms tol))
-    (owned-wide b n 1 (basisSamples b ms tol) (basis-samples-wide b ms tol n (sized-at n pts 0 s some))))
+    let all : List Owned = owned b 1 (basisSamples b ms tol) in
+    let wide = owned-wide b n 1 (basisSamples b ms tol) (basis-samples-wide b ms tol n (sized-at n pts 0 s some)) in
+    sized-flat n (runOf all) (length pts - 1) (λ i l. sized-keep (λ (s : Owned). s .point) n (λ (s : Owned). eqb (s .owner) (i + 1)) all wide)
 
-basis-run-few : (sd : ℕ) (ms : List ℕ) (tol : Float) (pts : List (List Float)) (ws : List Float) (i : ℕ) → length pts ≤ 257 → length (runOf (owned (basisOf sd pts ws) 1 (basisSamples (basisOf sd pts ws) ms tol)) i) ≤ 2 ^ 48
+basis-run-few : (sd : ℕ) (ms : List ℕ) (tol : Float) (pts : List (List Float)) (ws : List Float) (i : ℕ) → length pts ≤ mostPoints
+    → length (runOf (owned (basisOf sd pts ws) 1 (basisSamples (basisOf sd pts ws) ms tol)) i) ≤ 2 ^ 48
 unfolding runOf basisSamples basisOf
 basis-run-few sd ms tol pts ws i l =
     let b : Bspline = basisOf sd pts ws in
     let ss : List Sample = basisSamples b ms tol in
     let p : Owned → Bool = λ s. eqb (s .owner) (i + 1) in
-    let k : length ss ≤ spansOf b * 2 ^ 20 = long-flat (2 ^ 20) _ (spansOf b) (λ j. samples-few (evalBasis b) ms tol 20 _ _ _ _) in
-    let few : spansOf b ≤ 257 = omega arith in
-    let m : spansOf b * 2 ^ 20 ≤ 257 * 2 ^ 20 = mul-le-mul-right (2 ^ 20) few in
+    let k : length ss ≤ spansOf b * 2 ^ depth = long-flat (2 ^ depth) _ (spansOf b) (λ j. samples-le (evalBasis b) ms tol depth _ _ _ _) in
+    let few : spansOf b ≤ mostPoints = omega arith in
+    let m : spansOf b * 2 ^ depth ≤ mostPoints * 2 ^ depth = mul-le-mul-right (2 ^ depth) few in
     omega (arith, length-map (keep p (owned b 1 ss)) (λ (s : Owned). s .point), keep-most p (owned b 1 ss), owned-long b 1 ss)
 
 -- ---- either kind
@@ -206,24 +226,31 @@ fit-many cubic ms tol pts =
     let ks : List ℕ = keptTo ts (length pts - 1) in
     let none : ℕ → List (List Float) = λ i. [] in
     let some : ℕ → List (List Float) = fitRun (fitOf cubic pts ts ks) ms tol pts ts in
-    either (ltb (length ks) 2) (upto none (length pts - 1)) (upto some (length pts - 1)) (length pts - 1) (length-upto none (length pts - 1)) (length-upto some (length pts - 1))
+    let n : ℕ = length pts - 1 in
+    either (ltb (length ks) 2) (upto none n) (upto some n) n (length-upto none n) (length-upto some n)
 
 basis-many : (sd : ℕ) (ms : List ℕ) (tol : Float) (pts : List (List Float)) (ws : List Float) → length (basisRuns sd ms tol pts ws) ≡ length pts - 1
 unfolding basisRuns
 basis-many sd ms tol pts ws = length-upto (runOf (owned (basisOf sd pts ws) 1 (basisSamples (basisOf sd pts ws) ms tol))) (length pts - 1)
 
-pub runs-many : (motion sd : ℕ) (ms : List ℕ) (tol : Float) (pts : List (List Float)) (ws : List Float) → length (curveRuns motion sd ms tol pts ws) ≡ length pts - 1
-unfolding curveRuns
-runs-many motion sd ms tol pts ws =
-    either (eqb motion 6) (basisRuns sd ms tol pts ws) (fitRuns (eqb motion 7) ms tol pts) (length pts - 1) (basis-many sd ms tol pts ws) (fit-many (eqb motion 7) ms tol pts)
+pub by-many : (basis cubic : Bool) (sd : ℕ) (ms : List ℕ) (tol : Float) (pts : List (List Float)) (ws : List Float)
+    → length (runsBy basis cubic sd ms tol pts ws) ≡ length pts - 1
+by-many basis cubic sd ms tol pts ws =
+    either basis (basisRuns sd ms tol pts ws) (fitRuns cubic ms tol pts) (length pts - 1) (basis-many sd ms tol pts ws) (fit-many cubic ms tol pts)
 
-pub runs-wide : (motion sd : ℕ) (ms : List ℕ) (tol : Float) (pts : List (List Float)) (ws : List Float) (n : ℕ) → 1 ≤ length pts → Sized n pts → Sized n (flatten (curveRuns motion sd ms tol pts ws))
+pub runs-many : (motion sd : ℕ) (ms : List ℕ) (tol : Float) (pts : List (List Float)) (ws : List Float)
+    → length (curveRuns motion sd ms tol pts ws) ≡ length pts - 1
 unfolding curveRuns
-runs-wide motion sd ms tol pts ws n some s = one (eqb motion 6)
+runs-many motion sd ms tol pts ws = by-many (isBasis motion) (isCubic motion) sd ms tol pts ws
+
+pub runs-wide : (motion sd : ℕ) (ms : List ℕ) (tol : Float) (pts : List (List Float)) (ws : List Float) (n : ℕ) → 1 ≤ length pts → Sized n pts
+    → Sized n (flatten (curveRuns motion sd ms tol pts ws))
+unfolding curveRuns
+runs-wide motion sd ms tol pts ws n some s = one (isBasis motion)
   where
-    one : (b : Bool) → Sized n (flatten (cond b (basisRuns sd ms tol pts ws) (fitRuns (eqb motion 7) ms tol pts)))
+    one : (b : Bool) → Sized n (flatten (runsBy b (isCubic motion) sd ms tol pts ws))
     one true = basis-wide sd ms tol pts ws n some s
-    one false = fit-wide (eqb motion 7) ms tol pts n some s
+    one false = fit-wide (isCubic motion) ms tol pts n some s
 
 upto-few : (f : ℕ → List (List Float)) (c i b : ℕ) → ((j : ℕ) → length (f j) ≤ b) → length (getD (upto f c) i []) ≤ b
 upto-few f c i b h = ⊎-elim
@@ -231,7 +258,8 @@ upto-few f c i b h = ⊎-elim
     (λ (g : c ≤ i). rw (List·getD-eq-default (upto f c) [] {n = i} (rw (length-upto f c) g)) (omega arith))
     (lt-or-le i c)
 
-pick-few : (b : Bool) (xs ys : List (List (List Float))) (i n : ℕ) → length (getD xs i []) ≤ n → length (getD ys i []) ≤ n → length (getD (cond b xs ys) i []) ≤ n
+pick-few : (b : Bool) (xs ys : List (List (List Float))) (i n : ℕ) → length (getD xs i []) ≤ n → length (getD ys i []) ≤ n
+    → length (getD (cond b xs ys) i []) ≤ n
 pick-few true xs ys i n h k = h
 pick-few false xs ys i n h k = k
 
@@ -242,14 +270,23 @@ fit-few cubic ms tol pts i =
     let ks : List ℕ = keptTo ts (length pts - 1) in
     let none : ℕ → List (List Float) = λ i. [] in
     let some : ℕ → List (List Float) = fitRun (fitOf cubic pts ts ks) ms tol pts ts in
-    pick-few (ltb (length ks) 2) (upto none (length pts - 1)) (upto some (length pts - 1)) i (2 ^ 48) (upto-few none (length pts - 1) i (2 ^ 48) (λ j. omega arith))
-    (upto-few some (length pts - 1) i (2 ^ 48) (λ j. le-trans (fit-run-few (fitOf cubic pts ts ks) ms tol pts ts j) (omega arith)))
+    let n : ℕ = length pts - 1 in
+    pick-few (ltb (length ks) 2) (upto none n) (upto some n) i (2 ^ 48) (upto-few none n i (2 ^ 48) (λ j. omega arith))
+    (upto-few some n i (2 ^ 48) (λ j. le-trans (fit-run-few (fitOf cubic pts ts ks) ms tol pts ts j) (omega arith)))
 
-basis-few : (sd : ℕ) (ms : List ℕ) (tol : Float) (pts : List (List Float)) (ws : List Float) (i : ℕ) → length pts ≤ 257 → length (getD (basisRuns sd ms tol pts ws) i []) ≤ 2 ^ 48
+basis-few : (sd : ℕ) (ms : List ℕ) (tol : Float) (pts : List (List Float)) (ws : List Float) (i : ℕ) → length pts ≤ mostPoints
+    → length (getD (basisRuns sd ms tol pts ws) i []) ≤ 2 ^ 48
 unfolding basisRuns
-basis-few sd ms tol pts ws i l = upto-few (runOf (owned (basisOf sd pts ws) 1 (basisSamples (basisOf sd pts ws) ms tol))) (length pts - 1) i (2 ^ 48) (λ j. basis-run-few sd ms tol pts ws j l)
+basis-few sd ms tol pts ws i l =
+    let b : Bspline = basisOf sd pts ws in
+    upto-few (runOf (owned b 1 (basisSamples b ms tol))) (length pts - 1) i (2 ^ 48) (λ j. basis-run-few sd ms tol pts ws j l)
 
-pub runs-few : (motion sd : ℕ) (ms : List ℕ) (tol : Float) (pts : List (List Float)) (ws : List Float) (i : ℕ) → length pts ≤ 257 → length (getD (curveRuns motion sd ms tol pts ws) i []) ≤ 2 ^ 48
+pub by-few : (basis cubic : Bool) (sd : ℕ) (ms : List ℕ) (tol : Float) (pts : List (List Float)) (ws : List Float) (i : ℕ) → length pts ≤ mostPoints
+    → length (getD (runsBy basis cubic sd ms tol pts ws) i []) ≤ 2 ^ 48
+by-few basis cubic sd ms tol pts ws i l =
+    pick-few basis (basisRuns sd ms tol pts ws) (fitRuns cubic ms tol pts) i (2 ^ 48) (basis-few sd ms tol pts ws i l) (fit-few cubic ms tol pts i)
+
+pub runs-few : (motion sd : ℕ) (ms : List ℕ) (tol : Float) (pts : List (List Float)) (ws : List Float) (i : ℕ) → length pts ≤ mostPoints
+    → length (getD (curveRuns motion sd ms tol pts ws) i []) ≤ 2 ^ 48
 unfolding curveRuns
-runs-few motion sd ms tol pts ws i l =
-    pick-few (eqb motion 6) (basisRuns sd ms tol pts ws) (fitRuns (eqb motion 7) ms tol pts) i (2 ^ 48) (basis-few sd ms tol pts ws i l) (fit-few (eqb motion 7) ms tol pts i)
+runs-few motion sd ms tol pts ws i l = by-few (isBasis motion) (isCubic motion) sd ms tol pts ws i l

@@ -1,4 +1,4 @@
--- The groups of a spline, as the code writes them: the same rows, and their number. Assumes nothing.
+-- LAWS. The groups of a spline, as the code writes them: the same rows, and their number. Assumes nothing.
 use Prim.Native.Nat.{ℕ, zero, suc, _+_, _-_, _≤_, _<_}
 use mathlib.Core.Path.{_≡_, refl, sym, _∙_, ap, ap₂}
 use mathlib.Core.Bool.{Bool, true, false, cond, _||_, false≢true}
@@ -61,11 +61,14 @@ module _ {A : Type 0} (xss : List (List A)) (j t : ℕ) (d : A) (lj : j < length
   flat-in : length (flatten (take j xss)) + t < length (flatten xss)
   flat-in =
       let e : length (flatten xss) ≡ length (flatten (take j xss)) + (length (getD xss j []) + length (flatten (drop (suc j) xss))) =
-      ap length flat-split ∙ length-append (flatten (take j xss)) (getD xss j [] ++ flatten (drop (suc j) xss)) ∙ ap (λ (k : ℕ). length (flatten (take j xss)) + k) (length-append (getD xss j []) (flatten (drop (suc j) xss))) in
+      ap length flat-split ∙ length-append (flatten (take j xss)) (getD xss j [] ++ flatten (drop (suc j) xss))
+      ∙ ap (λ (k : ℕ). length (flatten (take j xss)) + k) (length-append (getD xss j []) (flatten (drop (suc j) xss))) in
       omega arith
 
-sized-flat-part : (n : ℕ) (xss : List (List (List Float))) → Sized n (flatten xss) → (j t : ℕ) → j < length xss → t < length (getD xss j []) → length (getD (getD xss j []) t []) ≡ n
-sized-flat-part n xss s j t lj lt = sym (ap length (flat-at xss j t [] lj lt)) ∙ sized-at n (flatten xss) (length (flatten (take j xss)) + t) s (flat-in xss j t [] lj lt)
+sized-flat-part : (n : ℕ) (xss : List (List (List Float))) → Sized n (flatten xss) → (j t : ℕ) → j < length xss → t < length (getD xss j [])
+    → length (getD (getD xss j []) t []) ≡ n
+sized-flat-part n xss s j t lj lt =
+    sym (ap length (flat-at xss j t [] lj lt)) ∙ sized-at n (flatten xss) (length (flatten (take j xss)) + t) s (flat-in xss j t [] lj lt)
 
 -- ---- the place of a channel
 pub place-below : (k : ℕ) (cs : List ℕ) → member k cs ≡ true → placeOf k cs < length cs
@@ -99,22 +102,26 @@ module _ (s : Spline) (runs : List (List (List Float))) (o : Frame) (places coun
   unfolding sampleCell rawCell
   same-sample p k e = rw (← (h .mask k)) (one (has (o .mask) k) refl)
     where
-      one : (b : Bool) → has (o .mask) k ≡ b → cond b (some (bits (at p (placeOf k (channels s))))) none ≡ cond b (some (getD (map bits p) (getD places k 0) 0)) none
+      one : (b : Bool) → has (o .mask) k ≡ b
+          → cond b (some (bits (at p (placeOf k (channels s))))) none ≡ cond b (some (getD (map bits p) (getD places k 0) 0)) none
       one false q = refl
       one true q = ap some (sym (ap (λ (i : ℕ). getD (map bits p) i 0) (h .placed k q)
           ∙ getD-map bits p (placeOf k (channels s)) nan 0 (rw e (place-below k (channels s) (sym (h .mask k) ∙ q)))))
 
-  same-group : (j c : ℕ) (run : List (List Float)) (r : List ℕ) (raw : ℕ → List ℕ) → c ≡ length run → ((t : ℕ) → t < c → raw t ≡ map bits (getD run t [])) → ((t : ℕ) → t < c → length (getD run t []) ≡ length (channels s))
+  same-group : (j c : ℕ) (run : List (List Float)) (r : List ℕ) (raw : ℕ → List ℕ) → c ≡ length run
+      → ((t : ℕ) → t < c → raw t ≡ map bits (getD run t [])) → ((t : ℕ) → t < c → length (getD run t []) ≡ length (channels s))
       → pointGroup s (channels s) (length runs) j run r ≡ rawGroup o places j c r raw
   unfolding pointGroup rawGroup bareRow rawRow rawMotion rawMark isMarked
   same-group j c run r raw ec er ew = rw (← ec)
       (ap₂ (λ (a b : List (List ℕ)). cond (eqb c 0) a b)
-      (ap (λ (x : List ℕ). x ∷ []) (made-same (s .axes) (axesOf (o .axes)) r true _ false (ownCell s r) (rawOwn o r) (λ k l. same-axes k) (λ k l. same-own r k)))
+      (ap (λ (x : List ℕ). x ∷ [])
+      (made-same (s .axes) (axesOf (o .axes)) r true _ false (ownCell s r) (rawOwn o r) (λ k l. same-axes k) (λ k l. same-own r k)))
       (upto-below _ _ c (λ t l.
       rw (← (h .basis), ← (h .points), er t l)
       (made-same (s .axes) (axesOf (o .axes)) r (eqb t 0) _ _ _ _ (λ k l. same-axes k) (λ k m. same-sample (getD run t []) k (ew t l))))))
 
-points-grow : (point : Bool) (counts : List ℕ) (p : Place) → (p .points ≤ moved point counts p .points) × (point ≡ true → moved point counts p .points ≡ p .points + 1)
+points-grow : (point : Bool) (counts : List ℕ) (p : Place)
+    → (p .points ≤ moved point counts p .points) × (point ≡ true → moved point counts p .points ≡ p .points + 1)
 unfolding moved
 points-grow true counts p = (omega arith, λ e. refl)
 points-grow false counts p = (omega arith, λ e. absurd (false≢true e))
@@ -128,32 +135,43 @@ points-mono gs counts f (suc n) i h = ⊎-elim
     (eq-or-lt-of-le h)
 
 -- block i < n with a point is one of the first m point blocks, where n blocks have m
-point-known : (gs counts : List ℕ) (f : ℕ → List ℕ) (n m i : ℕ) → i < n → hasPoint gs (f i) ≡ true → m ≡ length (keep (hasPoint gs) (upto f n)) → placeTo gs counts f i .points < m
+point-known : (gs counts : List ℕ) (f : ℕ → List ℕ) (n m i : ℕ) → i < n → hasPoint gs (f i) ≡ true → m ≡ length (keep (hasPoint gs) (upto f n))
+    → placeTo gs counts f i .points < m
 point-known gs counts f n m i l e em =
-    let g : placeTo gs counts f (i + 1) .points ≡ placeTo gs counts f i .points + 1 = ap (λ (p : Place). p .points) (place-next gs counts f i) ∙ points-grow (hasPoint gs (f i)) counts (placeTo gs counts f i) .1 e in
+    let p : Place = placeTo gs counts f i in
+    let g : placeTo gs counts f (i + 1) .points ≡ p .points + 1 =
+    ap (λ (p : Place). p .points) (place-next gs counts f i) ∙ points-grow (hasPoint gs (f i)) counts p .1 e in
     omega (arith, points-mono gs counts f n (i + 1) (omega arith), place-points gs counts f n)
 
 -- the samples before a block are those of the runs before it
-module _ (gs counts : List ℕ) (f : ℕ → List ℕ) (runs : List (List (List Float))) (is : (j : ℕ) → j < length runs → getD counts j 0 ≡ length (getD runs j [])) where
-  moved-sum : (b : Bool) (p : Place) → (b ≡ true → p .points < length runs) → p .samples ≡ length (flatten (take (p .points) runs)) → moved b counts p .samples ≡ length (flatten (take (moved b counts p .points) runs))
+module _ (gs counts : List ℕ) (f : ℕ → List ℕ) (runs : List (List (List Float)))
+    (is : (j : ℕ) → j < length runs → getD counts j 0 ≡ length (getD runs j [])) where
+  moved-sum : (b : Bool) (p : Place) → (b ≡ true → p .points < length runs) → p .samples ≡ length (flatten (take (p .points) runs))
+      → moved b counts p .samples ≡ length (flatten (take (moved b counts p .points) runs))
   unfolding moved flatten
   moved-sum false p l e = e
   moved-sum true p l e =
       let k : p .points < length runs = l refl in
       let d : take (p .points + 1) runs ≡ take (p .points) runs ++ (getD runs (p .points) [] ∷ []) = rw add-one (take-suc runs (p .points) [] k) in
+      let before : List (List (List Float)) = take (p .points) runs in
+      let run : List (List Float) = getD runs (p .points) [] in
       ap₂ (λ (a b : ℕ). a + b) e (is (p .points) k)
-      ∙ sym (ap (λ (l : List (List (List Float))). length (flatten l)) d ∙ ap length (flatten-append (take (p .points) runs) (getD runs (p .points) [] ∷ []) ∙ ap (λ (l : List (List Float)). flatten (take (p .points) runs) ++ l) (append-nil (getD runs (p .points) [])))
-      ∙ length-append (flatten (take (p .points) runs)) (getD runs (p .points) []))
+      ∙ sym (ap (λ (l : List (List (List Float))). length (flatten l)) d
+      ∙ ap length (flatten-append before (run ∷ []) ∙ ap (λ (l : List (List Float)). flatten before ++ l) (append-nil run))
+      ∙ length-append (flatten before) run)
 
-  pub place-sum : (n : ℕ) → length runs ≡ length (keep (hasPoint gs) (upto f n)) → (i : ℕ) → i ≤ n → placeTo gs counts f i .samples ≡ length (flatten (take (placeTo gs counts f i .points) runs))
+  pub place-sum : (n : ℕ) → length runs ≡ length (keep (hasPoint gs) (upto f n)) → (i : ℕ) → i ≤ n
+      → placeTo gs counts f i .samples ≡ length (flatten (take (placeTo gs counts f i .points) runs))
   unfolding placeTo flatten
   place-sum n em zero h = refl
-  place-sum n em (suc i) h = moved-sum (hasPoint gs (f i)) (placeTo gs counts f i) (λ e. point-known gs counts f n (length runs) i h e em) (place-sum n em i (omega arith))
+  place-sum n em (suc i) h =
+      moved-sum (hasPoint gs (f i)) (placeTo gs counts f i) (λ e. point-known gs counts f n (length runs) i h e em) (place-sum n em i (omega arith))
 
 -- ---- of the held blocks f 0, f 1, ..
 module _ (s : Spline) (runs : List (List (List Float))) (o : Frame) (places counts : List ℕ) (h : Lies s runs o places counts)
     (f : ℕ → List ℕ) (held : ℕ) (blocks : s .blocks ≡ upto f held) (many : length runs ≡ length (keep (hasPoint (s .axes)) (upto f held)))
-    (wide : Sized (length (channels s)) (flatten runs)) (raw : ℕ → List ℕ) (is : (q : ℕ) → q < length (flatten runs) → raw q ≡ map bits (getD (flatten runs) q [])) where
+    (wide : Sized (length (channels s)) (flatten runs)) (raw : ℕ → List ℕ) (is : (q : ℕ) → q < length (flatten runs)
+    → raw q ≡ map bits (getD (flatten runs) q [])) where
   same-block : (i : ℕ) → i < held → (b : Bool) → hasPoint (s .axes) (f i) ≡ b → (j : ℕ) → j ≡ placeTo (s .axes) counts f i .points
       → cond b (pointGroup s (channels s) (length runs) j (getD runs j []) (f i)) (outRow (f i) ∷ [])
       ≡ rawBlock o places b j (getD counts j 0) (f i) (λ (t : ℕ). raw (placeTo (s .axes) counts f i .samples + t))
@@ -161,7 +179,8 @@ module _ (s : Spline) (runs : List (List (List Float))) (o : Frame) (places coun
   same-block i l false e j ej = refl
   same-block i l true e j ej =
       let lj : j < length runs = rw ej (point-known (s .axes) counts f held (length runs) i l e many) in
-      let sum : placeTo (s .axes) counts f i .samples ≡ length (flatten (take j runs)) = place-sum (s .axes) counts f runs (h .counted) held many i (omega arith) ∙ ap (λ (k : ℕ). length (flatten (take k runs))) (sym ej) in
+      let sum : placeTo (s .axes) counts f i .samples ≡ length (flatten (take j runs)) =
+      place-sum (s .axes) counts f runs (h .counted) held many i (omega arith) ∙ ap (λ (k : ℕ). length (flatten (take k runs))) (sym ej) in
       let ec : getD counts j 0 ≡ length (getD runs j []) = h .counted j lj in
       same-group s runs o places counts h j (getD counts j 0) (getD runs j []) (f i) (λ (t : ℕ). raw (placeTo (s .axes) counts f i .samples + t)) ec
       (λ t lt. let lt′ : t < length (getD runs j []) = rw ec at lt in
@@ -173,14 +192,17 @@ module _ (s : Spline) (runs : List (List (List Float))) (o : Frame) (places coun
   same-held i l =
       let er : getD (s .blocks) i [] ≡ f i = ap (λ (bs : List (List ℕ)). getD bs i []) blocks ∙ at-upto f held i [] l in
       let ej : length (keep (hasPoint (s .axes)) (take i (s .blocks))) ≡ placeTo (s .axes) counts f i .points =
-      ap (λ (bs : List (List ℕ)). length (keep (hasPoint (s .axes)) (take i bs))) blocks ∙ ap (λ (bs : List (List ℕ)). length (keep (hasPoint (s .axes)) bs)) (take-upto f held i (omega arith)) ∙ sym (place-points (s .axes) counts f i) in
+      ap (λ (bs : List (List ℕ)). length (keep (hasPoint (s .axes)) (take i bs))) blocks
+      ∙ ap (λ (bs : List (List ℕ)). length (keep (hasPoint (s .axes)) bs)) (take-upto f held i (omega arith))
+      ∙ sym (place-points (s .axes) counts f i) in
       rw (er, ej) (same-block i l (hasPoint (s .axes) (f i)) refl (placeTo (s .axes) counts f i .points) refl)
 
-  pub same-words : flatten (flatten (upto (heldGroup s runs) (length (s .blocks)))) ≡ flatten (upto (λ (i : ℕ). flatten (rawHeld o places (s .axes) counts raw f i)) held)
+  pub same-words : flatten (flatten (upto (heldGroup s runs) (length (s .blocks))))
+      ≡ flatten (upto (λ (i : ℕ). flatten (rawHeld o places (s .axes) counts raw f i)) held)
   same-words =
       flat-flat (heldGroup s runs) (length (s .blocks))
       ∙ ap (λ (n : ℕ). flatten (upto (λ (i : ℕ). flatten (heldGroup s runs i)) n)) (ap length blocks ∙ length-upto f held)
-      ∙ ap flatten (upto-below (λ (i : ℕ). flatten (heldGroup s runs i)) (λ (i : ℕ). flatten (rawHeld o places (s .axes) counts raw f i)) held (λ i l. ap flatten (same-held i l)))
+      ∙ ap flatten (upto-below (λ (i : ℕ). flatten (heldGroup s runs i)) _ held (λ i l. ap flatten (same-held i l)))
 
   block-rows : (b : Bool) (j : ℕ) (r : List ℕ) (g : ℕ → List ℕ) → length (rawBlock o places b j (getD counts j 0) r g) ≡ sizeOf (samplesOf b counts j)
   unfolding rawBlock rawGroup sizeOf samplesOf

@@ -14,11 +14,12 @@ use lib.Ieee.{Float}
 use Rattle.floats.specs.Numbers.{bits, at}
 use Rattle.floats.specs.Lists.{upto, keep, member}
 use Rattle.motion.specs.Motion.{gOne}
+use Rattle.motion.specs.Motion as Motion
 use Rattle.rows.specs.Row.{cell, hasPoint, outRow, madeRow}
 use Rattle.spline_points.specs.Points.{Spline, channels}
 
 abbrev pub isBasis : Spline → Bool
-isBasis s = eqb (s .motion) 6
+isBasis s = Motion.isBasis (s .motion)
 
 -- ---- rows: the place of channel k, and the cells of a sample
 unfoldable pub placeOf : ℕ → List ℕ → ℕ

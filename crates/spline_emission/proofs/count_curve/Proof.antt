@@ -1,5 +1,6 @@
+-- `spline_emission::count_curve` meets its contract. Assumes nothing.
 use native.Mathlib.Omega.{arith}
-use Rattle.spline_emission.specs.Emits.{count-none}
+use Rattle.spline_emission.specs.Curves.{count-none}
 use borrow.Author.Needs.{needs}
 use Rattle.spline_emission.proofs.count_curve.Statement.{statement}
 use Rattle.spline_emission.proofs.count_curve.Tie as tie
@@ -8,7 +9,10 @@ returns : tie.Need-returns
 returns c = (count-none _ _ _ (c .if1 .taken), record { halvings = λ h. absurd (omega (arith, (c .if1 .taken))) })
 
 count-runs-requires : tie.Need-count-runs-requires
-count-runs-requires c κs = ((c .before .before .before .before .before .before .before .before .before .before .pre) .0 .tables (c .before .before .if1 .left), (c .before .before .before .before .before .before .before .before .before .before .pre) .1)
+count-runs-requires c κs =
+    let at-if1 = c .before .before in
+    let start = at-if1 .before .before .before .before .before .before .before .before in
+    ((start .pre) .0 .tables (at-if1 .if1 .left), (start .pre) .1)
 
 same-length : tie.Need-same-length
 same-length c = search needs
@@ -17,7 +21,9 @@ same-length-2 : tie.Need-same-length-2
 same-length-2 c = search needs
 
 returns-2 : tie.Need-returns-2
-returns-2 c = ((c .before .before .before .before .count-runs .ensures) .0, record { halvings = λ h. (c .before .before .before .before .count-runs .ensures) .1 })
+returns-2 c =
+    let at-count-runs = c .before .before .before .before in
+    ((at-count-runs .count-runs .ensures) .0, record { halvings = λ h. (at-count-runs .count-runs .ensures) .1 })
 
 pub count-curve-spec : {M : Type 1} → statement M
 count-curve-spec =

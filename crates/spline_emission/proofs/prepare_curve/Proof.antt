@@ -1,3 +1,4 @@
+-- `spline_emission::prepare_curve` meets its contract. Assumes nothing.
 use native.Mathlib.Omega.{arith}
 use borrow.Author.Needs.{needs}
 use Rattle.spline_emission.proofs.prepare_curve.Statement.{statement}
@@ -7,7 +8,10 @@ returns : tie.Need-returns
 returns c = record { tables = λ h. absurd (omega (arith, (c .if1 .taken))) }
 
 prepare-requires : tie.Need-prepare-requires
-prepare-requires c κs = (((c .before .before .if1 .left), ((c .before .before .before .before .before .before .before .before .pre) .0 .few, (c .before .before .before .before .before .before .before .before .pre) .0 .narrow)), (((c .before .before .before .before .before .before .before .before .pre) .0 .metric, ((c .before .before .before .before .before .before .before .before .pre) .0 .points, (c .before .before .before .before .before .before .before .before .pre) .0 .weights)), (c .before .before .before .before .before .before .before .before .pre) .1))
+prepare-requires c κs =
+    let pre = (c .before .before .before .before .before .before .before .before .pre) in
+    let of = pre .0 in
+    (((c .before .before .if1 .left), (of .few, of .narrow)), ((of .metric, (of .points, of .weights)), pre .1))
 
 same-length : tie.Need-same-length
 same-length c = search needs

@@ -1,13 +1,19 @@
-use Rattle.spline_emission.specs.Emits.{write-none}
+-- `spline_emission::write_curve` meets its contract. Assumes nothing.
+use Rattle.spline_emission.specs.Curves.{write-none}
 use borrow.Author.Needs.{needs}
 use Rattle.spline_emission.proofs.write_curve.Statement.{statement}
 use Rattle.spline_emission.proofs.write_curve.Tie as tie
 
 returns : tie.Need-returns
-returns c = write-none _ _ _ _ _ _ _ _ _ (c .if1 .taken)
+returns c =
+    let a = (c .before .before .before .before .before .before .before .before .args) in
+    write-none (a .d) (a .ms .now) (a .pts .now) (a .ws .now) (a .out .now) (c .if1 .taken)
 
 write-runs-requires : tie.Need-write-runs-requires
-write-runs-requires c κs = ((c .before .before .before .before .before .before .before .before .before .pre) .0 .tables (c .before .if1 .left), ((c .before .before .before .before .before .before .before .before .before .pre) .1 .0 .halvings (c .before .if1 .left), (c .before .before .before .before .before .before .before .before .before .pre) .1 .1))
+write-runs-requires c κs =
+    let pre = (c .before .before .before .before .before .before .before .before .before .pre) in
+    let two = (c .before .if1 .left) in
+    (pre .0 .tables two, (pre .1 .0 .halvings two, pre .1 .1))
 
 same-length : tie.Need-same-length
 same-length c = search needs

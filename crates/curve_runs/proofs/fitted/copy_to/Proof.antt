@@ -44,7 +44,10 @@ same-length : tie.Need-same-length Inv-loop μ-loop
 same-length c = (c .before .loop .inv) .1 .same
 
 returns : tie.Need-returns Inv-loop μ-loop
-returns c = let e : (c .before .loop .i) ≡ length (c .before .before .args .src .now) = omega arith in (c .before .loop .inv) .1 .is ∙ ap (λ (z : ℕ). filled (at (c .before .before .args .src .now)) z (c .before .before .args .dst .now)) e
+returns c =
+    let src = (c .before .before .args .src .now) in
+    let e : (c .before .loop .i) ≡ length (c .before .before .args .src .now) = omega arith in
+    (c .before .loop .inv) .1 .is ∙ ap (λ (z : ℕ). filled (at src) z (c .before .before .args .dst .now)) e
 
 pub copy-to-spec : {M : Type 1} → statement M
 copy-to-spec =

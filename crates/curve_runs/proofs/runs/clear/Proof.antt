@@ -37,7 +37,9 @@ same-length : tie.Need-same-length Inv-loop μ-loop
 same-length c = (c .before .loop .inv) .1 .same
 
 returns : tie.Need-returns Inv-loop μ-loop
-returns c = let e : (c .before .loop .i) ≡ (c .before .before .args .m) = omega arith in (c .before .loop .inv) .1 .is ∙ ap (λ (z : ℕ). filled (λ (k : ℕ). 0) z (c .before .before .args .counts .now)) e
+returns c =
+    let e : (c .before .loop .i) ≡ (c .before .before .args .m) = omega arith in
+    (c .before .loop .inv) .1 .is ∙ ap (λ (z : ℕ). filled (λ (k : ℕ). 0) z (c .before .before .args .counts .now)) e
 
 pub clear-spec : {M : Type 1} → statement M
 clear-spec =

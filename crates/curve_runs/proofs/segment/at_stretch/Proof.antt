@@ -1,7 +1,6 @@
 -- `curve_runs::segment::at_stretch` meets its contract. Assumes nothing.
-use mathlib.Core.Path.{ap, _∙_}
-use Prim.Native.Nat.{ℕ}
-use Rattle.curve_walk.specs.Walks.{withPiece}
+use mathlib.Core.Path.{ap}
+use Rattle.curve_runs.specs.Stretches.{inPiece}
 use borrow.Author.Needs.{needs}
 use Rattle.curve_runs.proofs.segment.at_stretch.Statement.{statement}
 use Rattle.curve_runs.proofs.segment.at_stretch.Tie as tie
@@ -30,11 +29,8 @@ part-piece-end c = search needs
 piece-requires : tie.Need-piece-requires
 piece-requires c κs = search needs
 
-with-piece-requires : tie.Need-with-piece-requires
-with-piece-requires c κs = search needs
-
 returns : tie.Need-returns
-returns c = c .with-piece .ensures ∙ ap (λ (w : ℕ). withPiece (c .before .before .before .before .before .args .s) w) (c .before .piece .ensures .0)
+returns c = ap (inPiece (c .before .before .before .before .args .s) (c .before .before .before .before .args .k)) ((c .piece .ensures) .0)
 
 pub at-stretch-spec : {M : Type 1} → statement M
 at-stretch-spec =
@@ -48,5 +44,4 @@ at-stretch-spec =
     part-piece-start
     part-piece-end
     piece-requires
-    with-piece-requires
     returns)

@@ -32,7 +32,9 @@ remember-requires : tie.Need-remember-requires
 remember-requires c κs = search needs
 
 add-result : tie.Need-add-result
-add-result c = omega (arith, cursor-one ((c .before .before .before .before .before .before .before .before .before .before .before .before .before .pre) .1 .1))
+add-result c =
+    let start = c .before .before .before .before .before .before .before .before .before .before .before .before .before in
+    omega (arith, cursor-one ((start .pre) .1 .1))
 
 same-length : tie.Need-same-length
 same-length c = search needs
@@ -41,19 +43,35 @@ same-length-2 : tie.Need-same-length-2
 same-length-2 c = search needs
 
 returns : tie.Need-returns
-returns c = (one-counted (c .before .before .before .before .before .before .before .before .before .before .before .before .before .args .s) (c .before .before .before .before .before .before .before .before .before .before .before .before .before .args .ms .now) (c .before .before .before .before .before .before .before .before .before .before .before .before .before .args .tol) (c .before .before .before .before .before .before .before .before .before .before .before .before .before .args .pts .now) (c .before .before .before .before .before .before .before .before .before .before .before .before .before .args .ks .now) (c .before .before .before .before .before .before .before .before .before .before .before .before .before .args .cs .now) (c .before .before .before .before .before .before .before .before .before .before .before .before .before .args .i) (c .before .before .before .before .before .before .before .before .before .before .before .before .before .args .counts .now) refl (c .before .before .before .before .if1 .taken), stored-one (lefts-one (c .before .before .before .before .before .before .before .before .before .before .before .before .before .args .s) (c .before .before .before .before .before .before .before .before .before .before .before .before .before .args .ms .now) (c .before .before .before .before .before .before .before .before .before .before .before .before .before .args .tol) (c .before .before .before .before .before .before .before .before .before .before .before .before .before .args .pts .now) (c .before .before .before .before .before .before .before .before .before .before .before .before .before .args .ks .now) (c .before .before .before .before .before .before .before .before .before .before .before .before .before .args .cs .now) (c .before .before .before .before .before .before .before .before .before .before .before .before .before .args .i) refl (c .before .before .before .before .if1 .taken)) refl (c .before .before .remember .ensures))
+returns c =
+    let at-remember = c .before .before in
+    let at-if1 = at-remember .before .before in
+    let start = at-if1 .before .before .before .before .before .before .before .before .before in
+    let a = (start .args) in
+    let short = (at-if1 .if1 .taken) in
+    let one = lefts-one (a .s) (a .ms .now) (a .pts .now) (a .ks .now) (a .cs .now) (a .i) refl short in
+    let stored = stored-one one refl (at-remember .remember .ensures) in
+    (one-counted (a .s) (a .ms .now) (a .pts .now) (a .ks .now) (a .cs .now) (a .i) (a .counts .now) refl short, stored)
 
 mul-a : tie.Need-mul-a
-mul-a c = omega (arith, from-in (c .before .before .before .before .before .before .before .before .before .args .i) (c .before .before .before .before .before .before .before .before .before .args .s .n) (c .before .before .before .before .before .before .before .before .before .args .s .ch) _ ((c .before .before .before .before .before .before .before .before .before .pre) .1 .0 .here) ((c .before .before .before .before .before .before .before .before .before .pre) .0 .points))
+mul-a c =
+    let start = c .before .before .before .before .before .before .before .before .before in
+    omega (arith, from-in (start .args .i) (start .args .s .n) (start .args .s .ch) _ ((start .pre) .1 .0 .here) ((start .pre) .0 .points))
 
 add-b : tie.Need-add-b
-add-b c = omega (arith, from-in (c .before .before .before .before .before .before .before .before .before .args .i) (c .before .before .before .before .before .before .before .before .before .args .s .n) (c .before .before .before .before .before .before .before .before .before .args .s .ch) _ ((c .before .before .before .before .before .before .before .before .before .pre) .1 .0 .here) ((c .before .before .before .before .before .before .before .before .before .pre) .0 .points))
+add-b c =
+    let start = c .before .before .before .before .before .before .before .before .before in
+    omega (arith, from-in (start .args .i) (start .args .s .n) (start .args .s .ch) _ ((start .pre) .1 .0 .here) ((start .pre) .0 .points))
 
 add-e : tie.Need-add-e
-add-e c = omega (arith, from-in (c .before .before .before .before .before .before .before .before .before .args .i) (c .before .before .before .before .before .before .before .before .before .args .s .n) (c .before .before .before .before .before .before .before .before .before .args .s .ch) _ ((c .before .before .before .before .before .before .before .before .before .pre) .1 .0 .here) ((c .before .before .before .before .before .before .before .before .before .pre) .0 .points))
+add-e c =
+    let start = c .before .before .before .before .before .before .before .before .before in
+    omega (arith, from-in (start .args .i) (start .args .s .n) (start .args .s .ch) _ ((start .pre) .1 .0 .here) ((start .pre) .0 .points))
 
 mul-count-walk : tie.Need-mul-count-walk
-mul-count-walk c = omega (arith, from-in (c .before .before .before .before .before .before .before .before .before .args .i) (c .before .before .before .before .before .before .before .before .before .args .s .n) (c .before .before .before .before .before .before .before .before .before .args .s .ch) _ ((c .before .before .before .before .before .before .before .before .before .pre) .1 .0 .here) ((c .before .before .before .before .before .before .before .before .before .pre) .0 .points))
+mul-count-walk c =
+    let start = c .before .before .before .before .before .before .before .before .before in
+    omega (arith, from-in (start .args .i) (start .args .s .n) (start .args .s .ch) _ ((start .pre) .1 .0 .here) ((start .pre) .0 .points))
 
 sub-count-walk : tie.Need-sub-count-walk
 sub-count-walk c = search needs
@@ -62,10 +80,14 @@ part-count-walk-start : tie.Need-part-count-walk-start
 part-count-walk-start c = search needs
 
 part-count-walk-end : tie.Need-part-count-walk-end
-part-count-walk-end c = omega (arith, from-in (c .before .before .before .before .before .before .before .before .before .args .i) (c .before .before .before .before .before .before .before .before .before .args .s .n) (c .before .before .before .before .before .before .before .before .before .args .s .ch) _ ((c .before .before .before .before .before .before .before .before .before .pre) .1 .0 .here) ((c .before .before .before .before .before .before .before .before .before .pre) .0 .points))
+part-count-walk-end c =
+    let start = c .before .before .before .before .before .before .before .before .before in
+    omega (arith, from-in (start .args .i) (start .args .s .n) (start .args .s .ch) _ ((start .pre) .1 .0 .here) ((start .pre) .0 .points))
 
 mul-count-walk-2 : tie.Need-mul-count-walk-2
-mul-count-walk-2 c = omega (arith, from-in (c .before .before .before .before .before .before .before .before .before .before .args .i) (c .before .before .before .before .before .before .before .before .before .before .args .s .n) (c .before .before .before .before .before .before .before .before .before .before .args .s .ch) _ ((c .before .before .before .before .before .before .before .before .before .before .pre) .1 .0 .here) ((c .before .before .before .before .before .before .before .before .before .before .pre) .0 .points))
+mul-count-walk-2 c =
+    let start = c .before .before .before .before .before .before .before .before .before .before in
+    omega (arith, from-in (start .args .i) (start .args .s .n) (start .args .s .ch) _ ((start .pre) .1 .0 .here) ((start .pre) .0 .points))
 
 sub-count-walk-2 : tie.Need-sub-count-walk-2
 sub-count-walk-2 c = search needs
@@ -74,10 +96,14 @@ part-count-walk-start-2 : tie.Need-part-count-walk-start-2
 part-count-walk-start-2 c = search needs
 
 part-count-walk-end-2 : tie.Need-part-count-walk-end-2
-part-count-walk-end-2 c = omega (arith, from-in (c .before .before .before .before .before .before .before .before .before .before .args .i) (c .before .before .before .before .before .before .before .before .before .before .args .s .n) (c .before .before .before .before .before .before .before .before .before .before .args .s .ch) _ ((c .before .before .before .before .before .before .before .before .before .before .pre) .1 .0 .here) ((c .before .before .before .before .before .before .before .before .before .before .pre) .0 .points))
+part-count-walk-end-2 c =
+    let start = c .before .before .before .before .before .before .before .before .before .before in
+    omega (arith, from-in (start .args .i) (start .args .s .n) (start .args .s .ch) _ ((start .pre) .1 .0 .here) ((start .pre) .0 .points))
 
 count-walk-requires : tie.Need-count-walk-requires
-count-walk-requires c κs = (stretch-of-points ((c .before .before .before .before .before .before .before .before .before .before .before .before .before .pre) .0) (c .before .before .before .before .before .before .before .before .before .before .before .before .before .args .i) ((c .before .before .before .before .before .before .before .before .before .before .before .before .before .pre) .1 .0 .here), (counts-at ((c .before .before .before .before .before .before .before .before .before .before .before .before .before .pre) .1 .0), (c .before .before .before .before .before .before .before .before .before .before .before .before .before .pre) .1 .1))
+count-walk-requires c κs =
+    let start = c .before .before .before .before .before .before .before .before .before .before .before .before .before in
+    (stretch-of-points ((start .pre) .0) (start .args .i) ((start .pre) .1 .0 .here), (counts-at ((start .pre) .1 .0), (start .pre) .1 .1))
 
 same-length-3 : tie.Need-same-length-3
 same-length-3 c = search needs
@@ -86,7 +112,17 @@ same-length-4 : tie.Need-same-length-4
 same-length-4 c = search needs
 
 returns-2 : tie.Need-returns-2
-returns-2 c = (walk-counted (c .before .before .before .before .before .before .before .before .before .before .before .before .before .before .before .before .before .before .args .s) (c .before .before .before .before .before .before .before .before .before .before .before .before .before .before .before .before .before .before .args .ms .now) (c .before .before .before .before .before .before .before .before .before .before .before .before .before .before .before .before .before .before .args .tol) (c .before .before .before .before .before .before .before .before .before .before .before .before .before .before .before .before .before .before .args .pts .now) (c .before .before .before .before .before .before .before .before .before .before .before .before .before .before .before .before .before .before .args .ks .now) (c .before .before .before .before .before .before .before .before .before .before .before .before .before .before .before .before .before .before .args .cs .now) (c .before .before .before .before .before .before .before .before .before .before .before .before .before .before .before .before .before .before .args .i) (c .before .before .before .before .before .before .before .before .before .before .before .before .before .before .before .before .before .before .args .counts .now) refl (c .before .before .before .before .before .before .before .before .before .if1 .left) ((c .before .before .before .before .before .before .before .before .before .before .before .before .before .before .before .before .before .before .pre) .0 .kind) ((c .before .before .before .before .before .before .before .before .before .before .before .before .before .before .before .before .before .before .pre) .1 .0) ((c .before .before .before .before .count-walk .ensures) .0), stored-as (lefts-walk (c .before .before .before .before .before .before .before .before .before .before .before .before .before .before .before .before .before .before .args .s) (c .before .before .before .before .before .before .before .before .before .before .before .before .before .before .before .before .before .before .args .ms .now) (c .before .before .before .before .before .before .before .before .before .before .before .before .before .before .before .before .before .before .args .tol) (c .before .before .before .before .before .before .before .before .before .before .before .before .before .before .before .before .before .before .args .pts .now) (c .before .before .before .before .before .before .before .before .before .before .before .before .before .before .before .before .before .before .args .ks .now) (c .before .before .before .before .before .before .before .before .before .before .before .before .before .before .before .before .before .before .args .cs .now) (c .before .before .before .before .before .before .before .before .before .before .before .before .before .before .before .before .before .before .args .i) refl (c .before .before .before .before .before .before .before .before .before .if1 .left)) ((c .before .before .before .before .count-walk .ensures) .1))
+returns-2 c =
+    let at-count-walk = c .before .before .before .before in
+    let at-if1 = at-count-walk .before .before .before .before .before in
+    let start = at-if1 .before .before .before .before .before .before .before .before .before in
+    let a = (start .args) in
+    let pre = (start .pre) in
+    let long = (at-if1 .if1 .left) in
+    let walked = (at-count-walk .count-walk .ensures) in (
+      walk-counted (a .s) (a .ms .now) (a .pts .now) (a .ks .now) (a .cs .now) (a .i) (a .counts .now) refl long (pre .0 .kind) (pre .1 .0) (walked .0),
+      stored-as (lefts-walk (a .s) (a .ms .now) (a .pts .now) (a .ks .now) (a .cs .now) (a .i) refl long) (walked .1),
+    )
 
 pub count-segment-spec : {M : Type 1} → statement M
 count-segment-spec =

@@ -17,13 +17,19 @@ add-next : tie.Need-add-next
 add-next c = search needs
 
 mul-a : tie.Need-mul-a
-mul-a c = omega (arith, from-in (c .before .before .before .before .before .before .args .i) (c .before .before .before .before .before .before .args .s .n) (c .before .before .before .before .before .before .args .s .ch) _ ((c .before .before .before .before .before .before .pre) .1 .1 .0) ((c .before .before .before .before .before .before .pre) .0 .points))
+mul-a c =
+    let start = c .before .before .before .before .before .before in
+    omega (arith, from-in (start .args .i) (start .args .s .n) (start .args .s .ch) _ ((start .pre) .1 .1 .0) ((start .pre) .0 .points))
 
 add-b : tie.Need-add-b
-add-b c = omega (arith, from-in (c .before .before .before .before .before .before .args .i) (c .before .before .before .before .before .before .args .s .n) (c .before .before .before .before .before .before .args .s .ch) _ ((c .before .before .before .before .before .before .pre) .1 .1 .0) ((c .before .before .before .before .before .before .pre) .0 .points))
+add-b c =
+    let start = c .before .before .before .before .before .before in
+    omega (arith, from-in (start .args .i) (start .args .s .n) (start .args .s .ch) _ ((start .pre) .1 .1 .0) ((start .pre) .0 .points))
 
 add-e : tie.Need-add-e
-add-e c = omega (arith, from-in (c .before .before .before .before .before .before .args .i) (c .before .before .before .before .before .before .args .s .n) (c .before .before .before .before .before .before .args .s .ch) _ ((c .before .before .before .before .before .before .pre) .1 .1 .0) ((c .before .before .before .before .before .before .pre) .0 .points))
+add-e c =
+    let start = c .before .before .before .before .before .before in
+    omega (arith, from-in (start .args .i) (start .args .s .n) (start .args .s .ch) _ ((start .pre) .1 .1 .0) ((start .pre) .0 .points))
 
 mul-t0 : tie.Need-mul-t0
 mul-t0 c = search needs
@@ -38,7 +44,9 @@ shared-slice-read-t1 : tie.Need-shared-slice-read-t1
 shared-slice-read-t1 c = search needs
 
 mul-put-sample : tie.Need-mul-put-sample
-mul-put-sample c = omega (arith, from-in (c .before .before .before .before .before .before .before .before .before .args .i) (c .before .before .before .before .before .before .before .before .before .args .s .n) (c .before .before .before .before .before .before .before .before .before .args .s .ch) _ ((c .before .before .before .before .before .before .before .before .before .pre) .1 .1 .0) ((c .before .before .before .before .before .before .before .before .before .pre) .0 .points))
+mul-put-sample c =
+    let start = c .before .before .before .before .before .before .before .before .before in
+    omega (arith, from-in (start .args .i) (start .args .s .n) (start .args .s .ch) _ ((start .pre) .1 .1 .0) ((start .pre) .0 .points))
 
 sub-put-sample : tie.Need-sub-put-sample
 sub-put-sample c = search needs
@@ -47,19 +55,38 @@ part-put-sample-start : tie.Need-part-put-sample-start
 part-put-sample-start c = search needs
 
 part-put-sample-end : tie.Need-part-put-sample-end
-part-put-sample-end c = omega (arith, from-in (c .before .before .before .before .before .before .before .before .before .args .i) (c .before .before .before .before .before .before .before .before .before .args .s .n) (c .before .before .before .before .before .before .before .before .before .args .s .ch) _ ((c .before .before .before .before .before .before .before .before .before .pre) .1 .1 .0) ((c .before .before .before .before .before .before .before .before .before .pre) .0 .points))
+part-put-sample-end c =
+    let start = c .before .before .before .before .before .before .before .before .before in
+    omega (arith, from-in (start .args .i) (start .args .s .n) (start .args .s .ch) _ ((start .pre) .1 .1 .0) ((start .pre) .0 .points))
 
 put-sample-requires : tie.Need-put-sample-requires
-put-sample-requires c κs = (one-room _ (c .before .before .before .before .before .before .before .before .before .before .before .args .out .now) _ (run-one (c .before .before .before .before .before .before .before .before .before .before .before .args .s) (c .before .before .before .before .before .before .before .before .before .before .before .args .ms .now) (c .before .before .before .before .before .before .before .before .before .before .before .args .tol) (c .before .before .before .before .before .before .before .before .before .before .before .args .pts .now) (c .before .before .before .before .before .before .before .before .before .before .before .args .ks .now) (c .before .before .before .before .before .before .before .before .before .before .before .args .cs .now) (c .before .before .before .before .before .before .before .before .before .before .before .args .i) refl (c .before .before .if1 .taken)) ((c .before .before .before .before .before .before .before .before .before .before .before .pre) .1 .1 .1), cursor-one ((c .before .before .before .before .before .before .before .before .before .before .before .pre) .1 .0 .1))
+put-sample-requires c κs =
+    let at-if1 = c .before .before in
+    let start = at-if1 .before .before .before .before .before .before .before .before .before in
+    let a = (start .args) in
+    let pre = (start .pre) .1 in
+    let run = run-one (a .s) (a .ms .now) (a .pts .now) (a .ks .now) (a .cs .now) (a .i) refl (at-if1 .if1 .taken) in
+    (one-room _ (a .out .now) _ run (pre .1 .1), cursor-one (pre .0 .1))
 
 same-length : tie.Need-same-length
 same-length c = search needs
 
 returns : tie.Need-returns
-returns c = (written-as (run-one (c .before .before .before .before .before .before .before .before .before .before .before .before .before .before .args .s) (c .before .before .before .before .before .before .before .before .before .before .before .before .before .before .args .ms .now) (c .before .before .before .before .before .before .before .before .before .before .before .before .before .before .args .tol) (c .before .before .before .before .before .before .before .before .before .before .before .before .before .before .args .pts .now) (c .before .before .before .before .before .before .before .before .before .before .before .before .before .before .args .ks .now) (c .before .before .before .before .before .before .before .before .before .before .before .before .before .before .args .cs .now) (c .before .before .before .before .before .before .before .before .before .before .before .before .before .before .args .i) refl (c .before .before .before .before .before .if1 .taken)) ((c .before .before .put-sample .ensures) .0), passed-one (c .before .before .before .before .before .before .before .before .before .before .before .before .before .before .args .at .sample) (lefts-one (c .before .before .before .before .before .before .before .before .before .before .before .before .before .before .args .s) (c .before .before .before .before .before .before .before .before .before .before .before .before .before .before .args .ms .now) (c .before .before .before .before .before .before .before .before .before .before .before .before .before .before .args .tol) (c .before .before .before .before .before .before .before .before .before .before .before .before .before .before .args .pts .now) (c .before .before .before .before .before .before .before .before .before .before .before .before .before .before .args .ks .now) (c .before .before .before .before .before .before .before .before .before .before .before .before .before .before .args .cs .now) (c .before .before .before .before .before .before .before .before .before .before .before .before .before .before .args .i) refl (c .before .before .before .before .before .if1 .taken)) ((c .before .before .put-sample .ensures) .1))
+returns c =
+    let at-put-sample = c .before .before in
+    let at-if1 = at-put-sample .before .before .before in
+    let start = at-if1 .before .before .before .before .before .before .before .before .before in
+    let a = (start .args) in
+    let short = (at-if1 .if1 .taken) in
+    let put = (at-put-sample .put-sample .ensures) in
+    let run = run-one (a .s) (a .ms .now) (a .pts .now) (a .ks .now) (a .cs .now) (a .i) refl short in
+    let lefts = lefts-one (a .s) (a .ms .now) (a .pts .now) (a .ks .now) (a .cs .now) (a .i) refl short in
+    (written-as run (put .0), passed-one (a .at .sample) lefts (put .1))
 
 mul-write-walk : tie.Need-mul-write-walk
-mul-write-walk c = omega (arith, from-in (c .before .before .before .before .before .before .before .before .before .args .i) (c .before .before .before .before .before .before .before .before .before .args .s .n) (c .before .before .before .before .before .before .before .before .before .args .s .ch) _ ((c .before .before .before .before .before .before .before .before .before .pre) .1 .1 .0) ((c .before .before .before .before .before .before .before .before .before .pre) .0 .points))
+mul-write-walk c =
+    let start = c .before .before .before .before .before .before .before .before .before in
+    omega (arith, from-in (start .args .i) (start .args .s .n) (start .args .s .ch) _ ((start .pre) .1 .1 .0) ((start .pre) .0 .points))
 
 sub-write-walk : tie.Need-sub-write-walk
 sub-write-walk c = search needs
@@ -68,10 +95,14 @@ part-write-walk-start : tie.Need-part-write-walk-start
 part-write-walk-start c = search needs
 
 part-write-walk-end : tie.Need-part-write-walk-end
-part-write-walk-end c = omega (arith, from-in (c .before .before .before .before .before .before .before .before .before .args .i) (c .before .before .before .before .before .before .before .before .before .args .s .n) (c .before .before .before .before .before .before .before .before .before .args .s .ch) _ ((c .before .before .before .before .before .before .before .before .before .pre) .1 .1 .0) ((c .before .before .before .before .before .before .before .before .before .pre) .0 .points))
+part-write-walk-end c =
+    let start = c .before .before .before .before .before .before .before .before .before in
+    omega (arith, from-in (start .args .i) (start .args .s .n) (start .args .s .ch) _ ((start .pre) .1 .1 .0) ((start .pre) .0 .points))
 
 mul-write-walk-2 : tie.Need-mul-write-walk-2
-mul-write-walk-2 c = omega (arith, from-in (c .before .before .before .before .before .before .before .before .before .before .args .i) (c .before .before .before .before .before .before .before .before .before .before .args .s .n) (c .before .before .before .before .before .before .before .before .before .before .args .s .ch) _ ((c .before .before .before .before .before .before .before .before .before .before .pre) .1 .1 .0) ((c .before .before .before .before .before .before .before .before .before .before .pre) .0 .points))
+mul-write-walk-2 c =
+    let start = c .before .before .before .before .before .before .before .before .before .before in
+    omega (arith, from-in (start .args .i) (start .args .s .n) (start .args .s .ch) _ ((start .pre) .1 .1 .0) ((start .pre) .0 .points))
 
 sub-write-walk-2 : tie.Need-sub-write-walk-2
 sub-write-walk-2 c = search needs
@@ -80,16 +111,37 @@ part-write-walk-start-2 : tie.Need-part-write-walk-start-2
 part-write-walk-start-2 c = search needs
 
 part-write-walk-end-2 : tie.Need-part-write-walk-end-2
-part-write-walk-end-2 c = omega (arith, from-in (c .before .before .before .before .before .before .before .before .before .before .args .i) (c .before .before .before .before .before .before .before .before .before .before .args .s .n) (c .before .before .before .before .before .before .before .before .before .before .args .s .ch) _ ((c .before .before .before .before .before .before .before .before .before .before .pre) .1 .1 .0) ((c .before .before .before .before .before .before .before .before .before .before .pre) .0 .points))
+part-write-walk-end-2 c =
+    let start = c .before .before .before .before .before .before .before .before .before .before in
+    omega (arith, from-in (start .args .i) (start .args .s .n) (start .args .s .ch) _ ((start .pre) .1 .1 .0) ((start .pre) .0 .points))
 
 write-walk-requires : tie.Need-write-walk-requires
-write-walk-requires c κs = (stretch-of-points ((c .before .before .before .before .before .before .before .before .before .before .before .before .pre) .0) (c .before .before .before .before .before .before .before .before .before .before .before .before .args .i) ((c .before .before .before .before .before .before .before .before .before .before .before .before .pre) .1 .1 .0), ((recalls-as (lefts-walk (c .before .before .before .before .before .before .before .before .before .before .before .before .args .s) (c .before .before .before .before .before .before .before .before .before .before .before .before .args .ms .now) (c .before .before .before .before .before .before .before .before .before .before .before .before .args .tol) (c .before .before .before .before .before .before .before .before .before .before .before .before .args .pts .now) (c .before .before .before .before .before .before .before .before .before .before .before .before .args .ks .now) (c .before .before .before .before .before .before .before .before .before .before .before .before .args .cs .now) (c .before .before .before .before .before .before .before .before .before .before .before .before .args .i) refl (c .before .before .before .if1 .left)) ((c .before .before .before .before .before .before .before .before .before .before .before .before .pre) .1 .0 .0), (c .before .before .before .before .before .before .before .before .before .before .before .before .pre) .1 .0 .1), subst (λ (z : List (List Float)). (c .before .before .before .before .before .before .before .before .before .before .before .before .args .at .word) + length (encode z) ≤ length (c .before .before .before .before .before .before .before .before .before .before .before .before .args .out .now)) (run-walk (c .before .before .before .before .before .before .before .before .before .before .before .before .args .s) (c .before .before .before .before .before .before .before .before .before .before .before .before .args .ms .now) (c .before .before .before .before .before .before .before .before .before .before .before .before .args .tol) (c .before .before .before .before .before .before .before .before .before .before .before .before .args .pts .now) (c .before .before .before .before .before .before .before .before .before .before .before .before .args .ks .now) (c .before .before .before .before .before .before .before .before .before .before .before .before .args .cs .now) (c .before .before .before .before .before .before .before .before .before .before .before .before .args .i) refl (c .before .before .before .if1 .left)) ((c .before .before .before .before .before .before .before .before .before .before .before .before .pre) .1 .1 .1)))
+write-walk-requires c κs =
+    let at-if1 = c .before .before .before in
+    let start = at-if1 .before .before .before .before .before .before .before .before .before in
+    let a = (start .args) in
+    let pre = (start .pre) in
+    let long = (at-if1 .if1 .left) in
+    let memory = recalls-as (lefts-walk (a .s) (a .ms .now) (a .pts .now) (a .ks .now) (a .cs .now) (a .i) refl long) (pre .1 .0 .0) in
+    let run = run-walk (a .s) (a .ms .now) (a .pts .now) (a .ks .now) (a .cs .now) (a .i) refl long in
+    let room = subst (λ (z : List (List Float)). a .at .word + length (encode z) ≤ length (a .out .now)) run (pre .1 .1 .1) in
+    (stretch-of-points (pre .0) (a .i) (pre .1 .1 .0), ((memory, pre .1 .0 .1), room))
 
 same-length-2 : tie.Need-same-length-2
 same-length-2 c = search needs
 
 returns-2 : tie.Need-returns-2
-returns-2 c = (written-as (run-walk (c .before .before .before .before .before .before .before .before .before .before .before .before .before .before .before .args .s) (c .before .before .before .before .before .before .before .before .before .before .before .before .before .before .before .args .ms .now) (c .before .before .before .before .before .before .before .before .before .before .before .before .before .before .before .args .tol) (c .before .before .before .before .before .before .before .before .before .before .before .before .before .before .before .args .pts .now) (c .before .before .before .before .before .before .before .before .before .before .before .before .before .before .before .args .ks .now) (c .before .before .before .before .before .before .before .before .before .before .before .before .before .before .before .args .cs .now) (c .before .before .before .before .before .before .before .before .before .before .before .before .before .before .before .args .i) refl (c .before .before .before .before .before .before .if1 .left)) ((c .before .before .write-walk .ensures) .0), ((c .before .before .write-walk .ensures) .1) ∙ ap (λ (z : List ℕ). (c .before .before .before .before .before .before .before .before .before .before .before .before .before .before .before .args .at .sample) + length z) (sym (lefts-walk (c .before .before .before .before .before .before .before .before .before .before .before .before .before .before .before .args .s) (c .before .before .before .before .before .before .before .before .before .before .before .before .before .before .before .args .ms .now) (c .before .before .before .before .before .before .before .before .before .before .before .before .before .before .before .args .tol) (c .before .before .before .before .before .before .before .before .before .before .before .before .before .before .before .args .pts .now) (c .before .before .before .before .before .before .before .before .before .before .before .before .before .before .before .args .ks .now) (c .before .before .before .before .before .before .before .before .before .before .before .before .before .before .before .args .cs .now) (c .before .before .before .before .before .before .before .before .before .before .before .before .before .before .before .args .i) refl (c .before .before .before .before .before .before .if1 .left))))
+returns-2 c =
+    let at-write-walk = c .before .before in
+    let at-if1 = at-write-walk .before .before .before .before in
+    let start = at-if1 .before .before .before .before .before .before .before .before .before in
+    let a = (start .args) in
+    let long = (at-if1 .if1 .left) in
+    let walked = (at-write-walk .write-walk .ensures) in
+    let lefts = lefts-walk (a .s) (a .ms .now) (a .pts .now) (a .ks .now) (a .cs .now) (a .i) refl long in (
+      written-as (run-walk (a .s) (a .ms .now) (a .pts .now) (a .ks .now) (a .cs .now) (a .i) refl long) (walked .0),
+      walked .1 ∙ ap (λ (z : List ℕ). a .at .sample + length z) (sym lefts),
+    )
 
 pub write-segment-spec : {M : Type 1} → statement M
 write-segment-spec =

@@ -3,7 +3,7 @@ use mathlib.Core.Path.{refl, sym, _∙_}
 use native.Mathlib.Omega.{arith}
 use lib.ListN.{length}
 use Rattle.curve_walk.specs.Walks.{evalOf}
-use Rattle.curve_walk.specs.Points.{point-is, point-length}
+use Rattle.curve_walk.specs.Points.{point-is, point-length, point-room}
 use Rattle.curve_walk.specs.Remembering.{flat-known, flat-new, not-flat}
 use Rattle.curve_walk.proofs.Walking.{stretch-at}
 use Rattle.curve_walk.proofs.Stopping.{leaf-zero, leaf-flat, halves-of, leaf-room, leaf-written, first-half, second-half, both-halves}
@@ -21,7 +21,7 @@ use Rattle.curve_walk.proofs.walk.+write_walk.{statement}
 use Rattle.curve_walk.proofs.walk.+write_walk.Tie.{close}
 
 abbrev μ-write-walk : Measures 7 write-walk-kinds.ps ℕ
-μ-write-walk κs a = a .1 .1 .1 .0
+μ-write-walk κs a = a .1 .1 .0 .left
 
 abbrev write-walk-at : ℕ → In 7 write-walk-kinds.ps
 write-walk-at t =
@@ -43,7 +43,12 @@ write-walk-put-sample-requires : (t : ℕ) → write-walk-lts.Need-put-sample-re
   write-walk-below t,
   write-walk.Post,
 ) (write-walk-at t) write-walk.Post
-write-walk-put-sample-requires t c κs = leaf-room (leaf-zero (evalOf (c .before .before .before .before .before .before .before .before .before .args .s) (c .before .before .before .before .before .before .before .before .before .args .ks .now) (c .before .before .before .before .before .before .before .before .before .args .cs .now)) _ _ _ _ _ _ _ (c .before .if1 .taken)) (c .before .before .before .before .before .before .before .before .before .args .out .now) _ (c .before .before .before .before .before .before .before .before .before .pre .1 .1 .1) (c .before .before .before .before .before .before .before .before .before .pre .1 .1 .0 .1)
+write-walk-put-sample-requires t c κs =
+    let at-if1 = c .before in
+    let start = at-if1 .before .before .before .before .before .before .before .before in
+    let ev = evalOf (start .args .s) (start .args .ks .now) (start .args .cs .now) in
+    let pre = (start .pre) .1 .1 in
+    leaf-room (leaf-zero ev _ _ _ _ _ _ _ (at-if1 .if1 .taken)) (start .args .out .now) _ (pre .1) (pre .0 .1)
 
 write-walk-same-length : (t : ℕ) → write-walk-lts.Need-same-length (
   put-sample-reads.Asked,
@@ -71,7 +76,12 @@ write-walk-returns : (t : ℕ) → write-walk-lts.Need-returns (
   write-walk-below t,
   write-walk.Post,
 ) (write-walk-at t) write-walk.Post
-write-walk-returns t c = leaf-written (leaf-zero (evalOf (c .before .before .before .before .before .before .before .before .before .before .before .before .args .s) (c .before .before .before .before .before .before .before .before .before .before .before .before .args .ks .now) (c .before .before .before .before .before .before .before .before .before .before .before .before .args .cs .now)) _ _ _ _ _ _ _ (c .before .before .before .before .if1 .taken)) (c .before .before .before .before .before .before .before .before .before .before .before .before .args .at .sample) (c .before .before .put-sample .ensures)
+write-walk-returns t c =
+    let at-put-sample = c .before .before in
+    let at-if1 = at-put-sample .before .before in
+    let start = at-if1 .before .before .before .before .before .before .before .before in
+    let ev = evalOf (start .args .s) (start .args .ks .now) (start .args .cs .now) in
+    leaf-written (leaf-zero ev _ _ _ _ _ _ _ (at-if1 .if1 .taken)) (start .args .at .sample) (at-put-sample .put-sample .ensures)
 
 write-walk-is-remembered-requires : (t : ℕ) → write-walk-lts.Need-is-remembered-requires (
   put-sample-reads.Asked,
@@ -99,7 +109,15 @@ write-walk-put-sample-requires-2 : (t : ℕ) → write-walk-lts.Need-put-sample-
   write-walk-below t,
   write-walk.Post,
 ) (write-walk-at t) write-walk.Post
-write-walk-put-sample-requires-2 t c κs = leaf-room (leaf-flat (evalOf (c .before .before .before .before .before .before .before .before .before .before .before .args .s) (c .before .before .before .before .before .before .before .before .before .before .before .args .ks .now) (c .before .before .before .before .before .before .before .before .before .before .before .args .cs .now)) _ _ _ _ _ _ _ refl (flat-known (evalOf (c .before .before .before .before .before .before .before .before .before .before .before .args .s) (c .before .before .before .before .before .before .before .before .before .before .before .args .ks .now) (c .before .before .before .before .before .before .before .before .before .before .before .args .cs .now)) _ _ _ _ _ _ _ (c .before .before .before .before .before .before .before .before .before .before .before .pre .1 .1 .0 .0) (c .before .before .before .if1 .left) (c .before .before .is-remembered .ensures) (c .before .if2 .taken))) (c .before .before .before .before .before .before .before .before .before .before .before .args .out .now) _ (c .before .before .before .before .before .before .before .before .before .before .before .pre .1 .1 .1) (c .before .before .before .before .before .before .before .before .before .before .before .pre .1 .1 .0 .1)
+write-walk-put-sample-requires-2 t c κs =
+    let at-if2 = c .before in
+    let at-is-remembered = at-if2 .before in
+    let at-if1 = at-is-remembered .before in
+    let start = at-if1 .before .before .before .before .before .before .before .before in
+    let ev = evalOf (start .args .s) (start .args .ks .now) (start .args .cs .now) in
+    let pre = (start .pre) .1 .1 in
+    let flat = flat-known ev _ _ _ _ _ _ _ (pre .0 .0) (at-if1 .if1 .left) (at-is-remembered .is-remembered .ensures) (at-if2 .if2 .taken) in
+    leaf-room (leaf-flat ev _ _ _ _ _ _ _ refl flat) (start .args .out .now) _ (pre .1) (pre .0 .1)
 
 write-walk-same-length-2 : (t : ℕ) → write-walk-lts.Need-same-length-2 (
   put-sample-reads.Asked,
@@ -127,7 +145,16 @@ write-walk-returns-2 : (t : ℕ) → write-walk-lts.Need-returns-2 (
   write-walk-below t,
   write-walk.Post,
 ) (write-walk-at t) write-walk.Post
-write-walk-returns-2 t c = leaf-written (leaf-flat (evalOf (c .before .before .before .before .before .before .before .before .before .before .before .before .before .before .args .s) (c .before .before .before .before .before .before .before .before .before .before .before .before .before .before .args .ks .now) (c .before .before .before .before .before .before .before .before .before .before .before .before .before .before .args .cs .now)) _ _ _ _ _ _ _ refl (flat-known (evalOf (c .before .before .before .before .before .before .before .before .before .before .before .before .before .before .args .s) (c .before .before .before .before .before .before .before .before .before .before .before .before .before .before .args .ks .now) (c .before .before .before .before .before .before .before .before .before .before .before .before .before .before .args .cs .now)) _ _ _ _ _ _ _ (c .before .before .before .before .before .before .before .before .before .before .before .before .before .before .pre .1 .1 .0 .0) (c .before .before .before .before .before .before .if1 .left) (c .before .before .before .before .before .is-remembered .ensures) (c .before .before .before .before .if2 .taken))) (c .before .before .before .before .before .before .before .before .before .before .before .before .before .before .args .at .sample) (c .before .before .put-sample2 .ensures)
+write-walk-returns-2 t c =
+    let at-put-sample2 = c .before .before in
+    let at-if2 = at-put-sample2 .before .before in
+    let at-is-remembered = at-if2 .before in
+    let at-if1 = at-is-remembered .before in
+    let start = at-if1 .before .before .before .before .before .before .before .before in
+    let ev = evalOf (start .args .s) (start .args .ks .now) (start .args .cs .now) in
+    let pre = (start .pre) .1 .1 in
+    let flat = flat-known ev _ _ _ _ _ _ _ (pre .0 .0) (at-if1 .if1 .left) (at-is-remembered .is-remembered .ensures) (at-if2 .if2 .taken) in
+    leaf-written (leaf-flat ev _ _ _ _ _ _ _ refl flat) (start .args .at .sample) (at-put-sample2 .put-sample2 .ensures)
 
 write-walk-point-at-requires : (t : ℕ) → write-walk-lts.Need-point-at-requires (
   put-sample-reads.Asked,
@@ -141,7 +168,9 @@ write-walk-point-at-requires : (t : ℕ) → write-walk-lts.Need-point-at-requir
   write-walk-below t,
   write-walk.Post,
 ) (write-walk-at t) write-walk.Post
-write-walk-point-at-requires t c κs = (c .before .before .before .before .before .before .before .before .before .before .pre .1 .0) .tables
+write-walk-point-at-requires t c κs =
+    let start = c .before .before .before .before .before .before .before .before .before .before in
+    (start .pre .1 .0) .tables
 
 write-walk-array-share-prefix-pm : (t : ℕ) → write-walk-lts.Need-array-share-prefix-pm (
   put-sample-reads.Asked,
@@ -155,7 +184,9 @@ write-walk-array-share-prefix-pm : (t : ℕ) → write-walk-lts.Need-array-share
   write-walk-below t,
   write-walk.Post,
 ) (write-walk-at t) write-walk.Post
-write-walk-array-share-prefix-pm t c = omega (arith, (c .before .before .before .before .before .before .before .before .before .before .before .pre .1 .0) .tables .narrow)
+write-walk-array-share-prefix-pm t c =
+    let start = c .before .before .before .before .before .before .before .before .before .before .before in
+    omega (arith, (start .pre .1 .0) .tables .narrow)
 
 write-walk-slice-aggregate-is-flat-from :
     (t : ℕ) → write-walk-lts.Need-slice-aggregate-is-flat-from (
@@ -184,7 +215,10 @@ write-walk-is-flat-from-requires : (t : ℕ) → write-walk-lts.Need-is-flat-fro
   write-walk-below t,
   write-walk.Post,
 ) (write-walk-at t) write-walk.Post
-write-walk-is-flat-from-requires t c κs = ((c .before .before .before .before .before .before .before .before .before .before .before .before .pre .1 .0), point-length _ _ (c .before .point-at .ensures))
+write-walk-is-flat-from-requires t c κs =
+    let at-point-at = c .before in
+    let start = at-point-at .before .before .before .before .before .before .before .before .before .before .before in
+    ((start .pre .1 .0), point-length _ _ (at-point-at .point-at .ensures))
 
 write-walk-put-sample-requires-3 : (t : ℕ) → write-walk-lts.Need-put-sample-requires-3 (
   put-sample-reads.Asked,
@@ -198,7 +232,17 @@ write-walk-put-sample-requires-3 : (t : ℕ) → write-walk-lts.Need-put-sample-
   write-walk-below t,
   write-walk.Post,
 ) (write-walk-at t) write-walk.Post
-write-walk-put-sample-requires-3 t c κs = leaf-room (leaf-flat (evalOf (c .before .before .before .before .before .before .before .before .before .before .before .before .before .before .before .args .s) (c .before .before .before .before .before .before .before .before .before .before .before .before .before .before .before .args .ks .now) (c .before .before .before .before .before .before .before .before .before .before .before .before .before .before .before .args .cs .now)) _ _ _ _ _ _ _ (point-is _ _ (c .before .before .before .before .point-at .ensures)) (flat-new (evalOf (c .before .before .before .before .before .before .before .before .before .before .before .before .before .before .before .args .s) (c .before .before .before .before .before .before .before .before .before .before .before .before .before .before .before .args .ks .now) (c .before .before .before .before .before .before .before .before .before .before .before .before .before .before .before .args .cs .now)) _ _ _ _ _ _ (length (c .before .before .before .before .before .before .before .before .before .before .before .before .before .before .before .args .lefts .now)) (c .before .before .before .before .before .before .before .before .before .before .before .before .before .before .before .args .at .sample) _ (c .before .before .is-flat-from .ensures) (c .before .if3 .taken))) (c .before .before .before .before .before .before .before .before .before .before .before .before .before .before .before .args .out .now) _ (c .before .before .before .before .before .before .before .before .before .before .before .before .before .before .before .pre .1 .1 .1) (c .before .before .before .before .before .before .before .before .before .before .before .before .before .before .before .pre .1 .1 .0 .1)
+write-walk-put-sample-requires-3 t c κs =
+    let at-if3 = c .before in
+    let at-is-flat-from = at-if3 .before in
+    let at-point-at = at-is-flat-from .before .before in
+    let start = at-point-at .before .before .before .before .before .before .before .before .before .before .before in
+    let ev = evalOf (start .args .s) (start .args .ks .now) (start .args .cs .now) in
+    let asked = (at-is-flat-from .is-flat-from .ensures) in
+    let flat = flat-new ev _ _ _ _ _ _ (length (start .args .lefts .now)) (start .args .at .sample) _ asked (at-if3 .if3 .taken) in
+    let leaf = leaf-flat ev _ _ _ _ _ _ _ (point-is _ _ (at-point-at .point-at .ensures)) flat in
+    let pre = (start .pre) .1 .1 in
+    leaf-room leaf (start .args .out .now) _ (pre .1) (pre .0 .1)
 
 write-walk-same-length-3 : (t : ℕ) → write-walk-lts.Need-same-length-3 (
   put-sample-reads.Asked,
@@ -226,9 +270,19 @@ write-walk-returns-3 : (t : ℕ) → write-walk-lts.Need-returns-3 (
   write-walk-below t,
   write-walk.Post,
 ) (write-walk-at t) write-walk.Post
-write-walk-returns-3 t c = leaf-written (leaf-flat (evalOf (c .before .before .before .before .before .before .before .before .before .before .before .before .before .before .before .before .before .before .args .s) (c .before .before .before .before .before .before .before .before .before .before .before .before .before .before .before .before .before .before .args .ks .now) (c .before .before .before .before .before .before .before .before .before .before .before .before .before .before .before .before .before .before .args .cs .now)) _ _ _ _ _ _ _ (point-is _ _ (c .before .before .before .before .before .before .before .point-at .ensures)) (flat-new (evalOf (c .before .before .before .before .before .before .before .before .before .before .before .before .before .before .before .before .before .before .args .s) (c .before .before .before .before .before .before .before .before .before .before .before .before .before .before .before .before .before .before .args .ks .now) (c .before .before .before .before .before .before .before .before .before .before .before .before .before .before .before .before .before .before .args .cs .now)) _ _ _ _ _ _ (length (c .before .before .before .before .before .before .before .before .before .before .before .before .before .before .before .before .before .before .args .lefts .now)) (c .before .before .before .before .before .before .before .before .before .before .before .before .before .before .before .before .before .before .args .at .sample) _ (c .before .before .before .before .before .is-flat-from .ensures) (c .before .before .before .before .if3 .taken))) (c .before .before .before .before .before .before .before .before .before .before .before .before .before .before .before .before .before .before .args .at .sample) (c .before .before .put-sample3 .ensures)
+write-walk-returns-3 t c =
+    let at-put-sample3 = c .before .before in
+    let at-if3 = at-put-sample3 .before .before in
+    let at-is-flat-from = at-if3 .before in
+    let at-point-at = at-is-flat-from .before .before in
+    let start = at-point-at .before .before .before .before .before .before .before .before .before .before .before in
+    let ev = evalOf (start .args .s) (start .args .ks .now) (start .args .cs .now) in
+    let asked = (at-is-flat-from .is-flat-from .ensures) in
+    let flat = flat-new ev _ _ _ _ _ _ (length (start .args .lefts .now)) (start .args .at .sample) _ asked (at-if3 .if3 .taken) in
+    let leaf = leaf-flat ev _ _ _ _ _ _ _ (point-is _ _ (at-point-at .point-at .ensures)) flat in
+    leaf-written leaf (start .args .at .sample) (at-put-sample3 .put-sample3 .ensures)
 
-write-walk-sub-write-walk : (t : ℕ) → write-walk-lts.Need-sub-write-walk (
+write-walk-sub-less : (t : ℕ) → write-walk-lts.Need-sub-less (
   put-sample-reads.Asked,
   put-sample-reads.Learnt,
   is-remembered-reads.Asked,
@@ -240,7 +294,7 @@ write-walk-sub-write-walk : (t : ℕ) → write-walk-lts.Need-sub-write-walk (
   write-walk-below t,
   write-walk.Post,
 ) (write-walk-at t) write-walk.Post
-write-walk-sub-write-walk t c = omega (arith, (c .before .before .before .before .before .before .if1 .left))
+write-walk-sub-less t c = omega (arith, (c .before .before .before .before .before .before .if1 .left))
 
 write-walk-array-share-prefix-pm-2 : (t : ℕ) → write-walk-lts.Need-array-share-prefix-pm-2 (
   put-sample-reads.Asked,
@@ -254,7 +308,9 @@ write-walk-array-share-prefix-pm-2 : (t : ℕ) → write-walk-lts.Need-array-sha
   write-walk-below t,
   write-walk.Post,
 ) (write-walk-at t) write-walk.Post
-write-walk-array-share-prefix-pm-2 t c = omega (arith, (c .before .before .before .before .before .before .before .before .before .before .before .before .before .before .pre .1 .0) .tables .narrow)
+write-walk-array-share-prefix-pm-2 t c =
+    let start = c .before .before .before .before .before .before .before .before .before .before .before .before .before .before in
+    omega (arith, (start .pre .1 .0) .tables .narrow)
 
 write-walk-slice-aggregate-write-walk : (t : ℕ) → write-walk-lts.Need-slice-aggregate-write-walk (
   put-sample-reads.Asked,
@@ -282,21 +338,25 @@ write-walk-write-walk-requires : (t : ℕ) → write-walk-lts.Need-write-walk-re
   write-walk-below t,
   write-walk.Post,
 ) (write-walk-at t) write-walk.Post
-write-walk-write-walk-requires t c κs = (omega (arith, (c .before .before .before .before .before .before .before .before .if1 .left), (c .before .before .before .before .before .before .before .before .before .before .before .before .before .before .before .before .pre .0)), (stretch-at (c .before .before .before .before .before .before .before .before .before .before .before .before .before .before .before .before .pre .1 .0) ((c .before .before .before .before .before .before .before .before .before .before .before .before .before .before .before .before .pre .1 .0) .first) (point-length _ _ (c .before .before .before .before .before .point-at .ensures)), first-half (halves-of (evalOf (c .before .before .before .before .before .before .before .before .before .before .before .before .before .before .before .before .args .s) (c .before .before .before .before .before .before .before .before .before .before .before .before .before .before .before .before .args .ks .now) (c .before .before .before .before .before .before .before .before .before .before .before .before .before .before .before .before .args .cs .now)) _ _ _ _ _ _ _ (c .before .before .before .before .before .before .before .before .if1 .left) (point-is _ _ (c .before .before .before .before .before .point-at .ensures)) (not-flat (evalOf (c .before .before .before .before .before .before .before .before .before .before .before .before .before .before .before .before .args .s) (c .before .before .before .before .before .before .before .before .before .before .before .before .before .before .before .before .args .ks .now) (c .before .before .before .before .before .before .before .before .before .before .before .before .before .before .before .before .args .cs .now)) _ _ _ _ _ _ _ (c .before .before .before .before .before .before .before .before .before .before .before .before .before .before .before .before .pre .1 .1 .0 .0) (c .before .before .before .before .before .before .before .before .if1 .left) (point-is _ _ (c .before .before .before .before .before .point-at .ensures)) (c .before .before .before .before .before .before .before .is-remembered .ensures) (c .before .before .before .before .before .before .if2 .left) (c .before .before .before .is-flat-from .ensures) (c .before .before .if3 .left))) (c .before .before .before .before .before .before .before .before .before .before .before .before .before .before .before .before .args .out .now) (c .before .before .before .before .before .before .before .before .before .before .before .before .before .before .before .before .args .at .word) (c .before .before .before .before .before .before .before .before .before .before .before .before .before .before .before .before .pre .1 .1 .1) (c .before .before .before .before .before .before .before .before .before .before .before .before .before .before .before .before .pre .1 .1 .0)))
-
-write-walk-sub-write-walk-2 : (t : ℕ) → write-walk-lts.Need-sub-write-walk-2 (
-  put-sample-reads.Asked,
-  put-sample-reads.Learnt,
-  is-remembered-reads.Asked,
-  is-remembered-reads.Learnt,
-  point-at-reads.Asked,
-  point-at-reads.Learnt,
-  is-flat-from-reads.Asked,
-  is-flat-from-reads.Learnt,
-  write-walk-below t,
-  write-walk.Post,
-) (write-walk-at t) write-walk.Post
-write-walk-sub-write-walk-2 t c = omega (arith, (c .before .before .before .before .before .before .before .before .before .before .before .if1 .left))
+write-walk-write-walk-requires t c κs =
+    let at-if3 = c .before .before in
+    let at-is-flat-from = at-if3 .before in
+    let at-point-at = at-is-flat-from .before .before in
+    let at-if2 = at-point-at .before in
+    let at-is-remembered = at-if2 .before in
+    let at-if1 = at-is-remembered .before in
+    let start = at-if1 .before .before .before .before .before .before .before .before in
+    let ev = evalOf (start .args .s) (start .args .ks .now) (start .args .cs .now) in
+    let pre = (start .pre) .1 in
+    let some = (at-if1 .if1 .left) in
+    let pm = point-is _ _ (at-point-at .point-at .ensures) in
+    let known = (at-is-remembered .is-remembered .ensures) in
+    let asked = (at-is-flat-from .is-flat-from .ensures) in
+    let no = not-flat ev _ _ _ _ _ _ _ (pre .1 .0 .0) some pm known (at-if2 .if2 .left) asked (at-if3 .if3 .left) in
+    let two = halves-of ev _ _ _ _ _ _ _ some pm no in
+    let middle = point-length _ _ (at-point-at .point-at .ensures) in
+    let half = first-half two (start .args .out .now) (start .args .at .word) (pre .1 .1) (pre .1 .0) in
+    (omega (arith, some, (start .pre) .0), (stretch-at (pre .0) (pre .0 .first) middle, half))
 
 write-walk-array-share-prefix-pm-3 : (t : ℕ) → write-walk-lts.Need-array-share-prefix-pm-3 (
   put-sample-reads.Asked,
@@ -310,7 +370,11 @@ write-walk-array-share-prefix-pm-3 : (t : ℕ) → write-walk-lts.Need-array-sha
   write-walk-below t,
   write-walk.Post,
 ) (write-walk-at t) write-walk.Post
-write-walk-array-share-prefix-pm-3 t c = omega (arith, (c .before .before .before .before .before .before .before .before .before .before .before .before .before .before .before .before .before .before .before .pre .1 .0) .tables .narrow)
+write-walk-array-share-prefix-pm-3 t c =
+    let at-point-at = c .before .before .before .before .before .before .before .before in
+    let start = at-point-at .before .before .before .before .before .before .before .before .before .before .before in
+    let narrow = (start .pre) .1 .0 .tables .narrow in
+    omega (arith, narrow, point-room _ _ (at-point-at .point-at .ensures) narrow)
 
 write-walk-slice-aggregate-write-walk-2 :
     (t : ℕ) → write-walk-lts.Need-slice-aggregate-write-walk-2 (
@@ -325,7 +389,9 @@ write-walk-slice-aggregate-write-walk-2 :
       write-walk-below t,
       write-walk.Post,
     ) (write-walk-at t) write-walk.Post
-write-walk-slice-aggregate-write-walk-2 t c = sym (point-length _ _ (c .before .before .before .before .before .before .before .before .before .point-at .ensures))
+write-walk-slice-aggregate-write-walk-2 t c =
+    let at-point-at = c .before .before .before .before .before .before .before .before .before in
+    sym (point-length _ _ (at-point-at .point-at .ensures))
 
 write-walk-write-walk-requires-2 : (t : ℕ) → write-walk-lts.Need-write-walk-requires-2 (
   put-sample-reads.Asked,
@@ -339,7 +405,26 @@ write-walk-write-walk-requires-2 : (t : ℕ) → write-walk-lts.Need-write-walk-
   write-walk-below t,
   write-walk.Post,
 ) (write-walk-at t) write-walk.Post
-write-walk-write-walk-requires-2 t c κs = (omega (arith, (c .before .before .before .before .before .before .before .before .before .before .before .before .before .if1 .left), (c .before .before .before .before .before .before .before .before .before .before .before .before .before .before .before .before .before .before .before .before .before .pre .0)), (stretch-at (c .before .before .before .before .before .before .before .before .before .before .before .before .before .before .before .before .before .before .before .before .before .pre .1 .0) (point-length _ _ (c .before .before .before .before .before .before .before .before .before .before .point-at .ensures)) ((c .before .before .before .before .before .before .before .before .before .before .before .before .before .before .before .before .before .before .before .before .before .pre .1 .0) .end), second-half (halves-of (evalOf (c .before .before .before .before .before .before .before .before .before .before .before .before .before .before .before .before .before .before .before .before .before .args .s) (c .before .before .before .before .before .before .before .before .before .before .before .before .before .before .before .before .before .before .before .before .before .args .ks .now) (c .before .before .before .before .before .before .before .before .before .before .before .before .before .before .before .before .before .before .before .before .before .args .cs .now)) _ _ _ _ _ _ _ (c .before .before .before .before .before .before .before .before .before .before .before .before .before .if1 .left) (point-is _ _ (c .before .before .before .before .before .before .before .before .before .before .point-at .ensures)) (not-flat (evalOf (c .before .before .before .before .before .before .before .before .before .before .before .before .before .before .before .before .before .before .before .before .before .args .s) (c .before .before .before .before .before .before .before .before .before .before .before .before .before .before .before .before .before .before .before .before .before .args .ks .now) (c .before .before .before .before .before .before .before .before .before .before .before .before .before .before .before .before .before .before .before .before .before .args .cs .now)) _ _ _ _ _ _ _ (c .before .before .before .before .before .before .before .before .before .before .before .before .before .before .before .before .before .before .before .before .before .pre .1 .1 .0 .0) (c .before .before .before .before .before .before .before .before .before .before .before .before .before .if1 .left) (point-is _ _ (c .before .before .before .before .before .before .before .before .before .before .point-at .ensures)) (c .before .before .before .before .before .before .before .before .before .before .before .before .is-remembered .ensures) (c .before .before .before .before .before .before .before .before .before .before .before .if2 .left) (c .before .before .before .before .before .before .before .before .is-flat-from .ensures) (c .before .before .before .before .before .before .before .if3 .left))) (c .before .before .before .before .before .before .before .before .before .before .before .before .before .before .before .before .before .before .before .before .before .args .out .now) (c .before .before .before .before .before .before .before .before .before .before .before .before .before .before .before .before .before .before .before .before .before .args .at .word) (c .before .before .before .before .before .before .before .before .before .before .before .before .before .before .before .before .before .before .before .before .before .pre .1 .1 .1) (c .before .before .before .before .before .before .before .before .before .before .before .before .before .before .before .before .before .before .before .before .before .pre .1 .1 .0) (c .before .before .before .before .write-walk .ensures)))
+write-walk-write-walk-requires-2 t c κs =
+    let at-write-walk = c .before .before .before .before in
+    let at-if3 = at-write-walk .before .before .before in
+    let at-is-flat-from = at-if3 .before in
+    let at-point-at = at-is-flat-from .before .before in
+    let at-if2 = at-point-at .before in
+    let at-is-remembered = at-if2 .before in
+    let at-if1 = at-is-remembered .before in
+    let start = at-if1 .before .before .before .before .before .before .before .before in
+    let ev = evalOf (start .args .s) (start .args .ks .now) (start .args .cs .now) in
+    let pre = (start .pre) .1 in
+    let some = (at-if1 .if1 .left) in
+    let pm = point-is _ _ (at-point-at .point-at .ensures) in
+    let known = (at-is-remembered .is-remembered .ensures) in
+    let asked = (at-is-flat-from .is-flat-from .ensures) in
+    let no = not-flat ev _ _ _ _ _ _ _ (pre .1 .0 .0) some pm known (at-if2 .if2 .left) asked (at-if3 .if3 .left) in
+    let two = halves-of ev _ _ _ _ _ _ _ some pm no in
+    let middle = point-length _ _ (at-point-at .point-at .ensures) in
+    let half = second-half two (start .args .out .now) (start .args .at .word) (pre .1 .1) (pre .1 .0) (at-write-walk .write-walk .ensures) in
+    (omega (arith, some, (start .pre) .0), (stretch-at (pre .0) middle (pre .0 .end), half))
 
 write-walk-same-length-4 : (t : ℕ) → write-walk-lts.Need-same-length-4 (
   put-sample-reads.Asked,
@@ -353,7 +438,10 @@ write-walk-same-length-4 : (t : ℕ) → write-walk-lts.Need-same-length-4 (
   write-walk-below t,
   write-walk.Post,
 ) (write-walk-at t) write-walk.Post
-write-walk-same-length-4 t c = (c .before .before .write-walk2 .kept .1 .1 .1 .1 .1 .1 .1 .1 .1 .1 .1 .1 .0) ∙ (c .before .before .before .before .before .before .before .write-walk .kept .1 .1 .1 .1 .1 .1 .1 .1 .1 .1 .1 .1 .0)
+write-walk-same-length-4 t c =
+    let at-write-walk2 = c .before .before in
+    let at-write-walk = at-write-walk2 .before .before .before .before .before in
+    (at-write-walk2 .write-walk2 .kept .1 .1 .1 .1 .1 .1 .1 .1 .1 .0) ∙ (at-write-walk .write-walk .kept .1 .1 .1 .1 .1 .1 .1 .1 .1 .0)
 
 write-walk-returns-4 : (t : ℕ) → write-walk-lts.Need-returns-4 (
   put-sample-reads.Asked,
@@ -367,7 +455,26 @@ write-walk-returns-4 : (t : ℕ) → write-walk-lts.Need-returns-4 (
   write-walk-below t,
   write-walk.Post,
 ) (write-walk-at t) write-walk.Post
-write-walk-returns-4 t c = both-halves (halves-of (evalOf (c .before .before .before .before .before .before .before .before .before .before .before .before .before .before .before .before .before .before .before .before .before .before .before .before .args .s) (c .before .before .before .before .before .before .before .before .before .before .before .before .before .before .before .before .before .before .before .before .before .before .before .before .args .ks .now) (c .before .before .before .before .before .before .before .before .before .before .before .before .before .before .before .before .before .before .before .before .before .before .before .before .args .cs .now)) _ _ _ _ _ _ _ (c .before .before .before .before .before .before .before .before .before .before .before .before .before .before .before .before .if1 .left) (point-is _ _ (c .before .before .before .before .before .before .before .before .before .before .before .before .before .point-at .ensures)) (not-flat (evalOf (c .before .before .before .before .before .before .before .before .before .before .before .before .before .before .before .before .before .before .before .before .before .before .before .before .args .s) (c .before .before .before .before .before .before .before .before .before .before .before .before .before .before .before .before .before .before .before .before .before .before .before .before .args .ks .now) (c .before .before .before .before .before .before .before .before .before .before .before .before .before .before .before .before .before .before .before .before .before .before .before .before .args .cs .now)) _ _ _ _ _ _ _ (c .before .before .before .before .before .before .before .before .before .before .before .before .before .before .before .before .before .before .before .before .before .before .before .before .pre .1 .1 .0 .0) (c .before .before .before .before .before .before .before .before .before .before .before .before .before .before .before .before .if1 .left) (point-is _ _ (c .before .before .before .before .before .before .before .before .before .before .before .before .before .point-at .ensures)) (c .before .before .before .before .before .before .before .before .before .before .before .before .before .before .before .is-remembered .ensures) (c .before .before .before .before .before .before .before .before .before .before .before .before .before .before .if2 .left) (c .before .before .before .before .before .before .before .before .before .before .before .is-flat-from .ensures) (c .before .before .before .before .before .before .before .before .before .before .if3 .left))) (c .before .before .before .before .before .before .before .before .before .before .before .before .before .before .before .before .before .before .before .before .before .before .before .before .args .out .now) (c .before .before .before .before .before .before .before .before .before .before .before .before .before .before .before .before .before .before .before .before .before .before .before .before .args .at .word) (c .before .before .before .before .before .before .before .before .before .before .before .before .before .before .before .before .before .before .before .before .before .before .before .before .pre .1 .1 .1) (c .before .before .before .before .before .before .before .before .before .before .before .before .before .before .before .before .before .before .before .before .before .before .before .before .pre .1 .1 .0) (c .before .before .before .before .before .before .before .write-walk .ensures) (c .before .before .write-walk2 .ensures)
+write-walk-returns-4 t c =
+    let at-write-walk2 = c .before .before in
+    let at-write-walk = at-write-walk2 .before .before .before .before .before in
+    let at-if3 = at-write-walk .before .before .before in
+    let at-is-flat-from = at-if3 .before in
+    let at-point-at = at-is-flat-from .before .before in
+    let at-if2 = at-point-at .before in
+    let at-is-remembered = at-if2 .before in
+    let at-if1 = at-is-remembered .before in
+    let start = at-if1 .before .before .before .before .before .before .before .before in
+    let ev = evalOf (start .args .s) (start .args .ks .now) (start .args .cs .now) in
+    let pre = (start .pre) .1 in
+    let some = (at-if1 .if1 .left) in
+    let pm = point-is _ _ (at-point-at .point-at .ensures) in
+    let known = (at-is-remembered .is-remembered .ensures) in
+    let asked = (at-is-flat-from .is-flat-from .ensures) in
+    let no = not-flat ev _ _ _ _ _ _ _ (pre .1 .0 .0) some pm known (at-if2 .if2 .left) asked (at-if3 .if3 .left) in
+    let two = halves-of ev _ _ _ _ _ _ _ some pm no in
+    let half = (at-write-walk .write-walk .ensures) in
+    both-halves two (start .args .out .now) (start .args .at .word) (pre .1 .1) (pre .1 .0) half (at-write-walk2 .write-walk2 .ensures)
 
 pub +write-walk-spec : {M : Type 1} → statement M
 +write-walk-spec = close μ-write-walk λ t. write-walk-lts.spec (
@@ -398,11 +505,10 @@ pub +write-walk-spec : {M : Type 1} → statement M
     (write-walk-put-sample-requires-3 t)
     (write-walk-same-length-3 t)
     (write-walk-returns-3 t)
-    (write-walk-sub-write-walk t)
+    (write-walk-sub-less t)
     (write-walk-array-share-prefix-pm-2 t)
     (write-walk-slice-aggregate-write-walk t)
     (write-walk-write-walk-requires t)
-    (write-walk-sub-write-walk-2 t)
     (write-walk-array-share-prefix-pm-3 t)
     (write-walk-slice-aggregate-write-walk-2 t)
     (write-walk-write-walk-requires-2 t)

@@ -13,7 +13,10 @@ wide-requires : tie.Need-wide-requires
 wide-requires c κs = search needs
 
 returns : tie.Need-returns
-returns c = rw (lt-ltb (c .before .before .before .before .args .c) (length (c .before .before .before .before .args .lefts .now)) (c .before .before .if1 .taken), (c .wide .ensures))
+returns c =
+    let at-if1 = c .before .before in
+    let start = at-if1 .before .before in
+    rw (lt-ltb (start .args .c) (length (start .args .lefts .now)) (at-if1 .if1 .taken), (c .wide .ensures))
 
 returns-2 : tie.Need-returns-2
 returns-2 c = rw (le-ltb (c .before .before .args .c) (length (c .before .before .args .lefts .now)) (omega (arith, (c .if1 .left))))

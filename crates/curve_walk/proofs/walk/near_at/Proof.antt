@@ -17,10 +17,14 @@ slice-aggregate-is-near : tie.Need-slice-aggregate-is-near
 slice-aggregate-is-near c = sym (point-length _ _ (c .before .point-at .ensures))
 
 is-near-requires : tie.Need-is-near-requires
-is-near-requires c κs = (rw ((c .before .before .before .before .before .before .before .pre) .first) ((c .before .before .before .before .before .before .before .pre) .metric), (omega (arith, (c .before .before .before .before .before .before .before .pre) .first, (c .before .before .before .before .before .before .before .pre) .end), omega (arith, (c .before .before .before .before .before .before .before .pre) .first, point-length _ _ (c .before .point-at .ensures))))
+is-near-requires c κs =
+    let pre = (c .before .before .before .before .before .before .before .pre) in
+    (rw (pre .first) (pre .metric), (omega (arith, pre .first, pre .end), omega (arith, pre .first, point-length _ _ (c .before .point-at .ensures))))
 
 returns : tie.Need-returns
-returns c = (c .is-near .ensures) ∙ ap (near (c .before .before .before .before .before .before .before .before .args .ms .now) (c .before .before .before .before .before .before .before .before .args .tol) (c .before .before .before .before .before .before .before .before .args .p0 .now) (c .before .before .before .before .before .before .before .before .args .p1 .now)) (point-is _ _ (c .before .before .point-at .ensures))
+returns c =
+    let a = (c .before .before .before .before .before .before .before .before .args) in
+    (c .is-near .ensures) ∙ ap (near (a .ms .now) (a .s .tol) (a .p0 .now) (a .p1 .now)) (point-is _ _ (c .before .before .point-at .ensures))
 
 pub near-at-spec : {M : Type 1} → statement M
 near-at-spec =
