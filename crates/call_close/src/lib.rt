@@ -62,7 +62,8 @@ pub fn put_emission(state: &[u64], store: &[u64], rows: &mut [u64], own: usize) 
 
 // Ends the run: a held spline is emitted.
 pub fn close(state: &mut [u64], store: &[u64], rows: &mut [u64]) -> Reply
-    ensures { λ r. ⌜ PushIs (closeSpec (now (state .entry)) (now (store .entry)) (now (rows .entry))) r (now (state .exit)) (now (store .exit)) (now (rows .exit)) ⌝ }
+    ensures { λ r. ⌜ PushIs (closeSpec (now (state .entry)) (now (store .entry)) (now (rows .entry))) r (now (state .exit)) (now (store .exit))
+        (now (rows .exit)) ⌝ }
 {
     let code = saved_check(state, store);
     if code != 0 {

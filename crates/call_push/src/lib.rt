@@ -54,7 +54,8 @@ fn settle(
     plan: Plan,
 ) -> Reply
     requires { ⌜ Settles (now state) (now store) (now row) b (now rows) first plan ⌝ }
-    ensures { λ r. ⌜ PushIs (settled (now (state .entry)) (now (store .entry)) (now (rows .entry)) (now (row .entry)) first plan) r (now (state .exit)) (now (store .exit)) (now (rows .exit)) ⌝ }
+    ensures { λ r. ⌜ PushIs (settled (now (state .entry)) (now (store .entry)) (now (rows .entry)) (now (row .entry)) first plan) r (now (state .exit))
+        (now (store .exit)) (now (rows .exit)) ⌝ }
 {
     let needed = first + plan.count;
     let warning = warning_of(b.news, plan.warning);
@@ -73,7 +74,8 @@ fn push_block(
     b: Resolved,
 ) -> Reply
     requires { ⌜ Passed (now state) (now store) (now row) b ⌝ }
-    ensures { λ r. ⌜ PushIs (pushSpec (now (state .entry)) (now (store .entry)) (now (rows .entry)) (now (row .entry))) r (now (state .exit)) (now (store .exit)) (now (rows .exit)) ⌝ }
+    ensures { λ r. ⌜ PushIs (pushSpec (now (state .entry)) (now (store .entry)) (now (rows .entry)) (now (row .entry))) r (now (state .exit))
+        (now (store .exit)) (now (rows .exit)) ⌝ }
 {
     let plan = plan_own(state, row, b);
     let first = put_before(state, store, rows, b.emits, plan.count);
@@ -86,7 +88,8 @@ fn push_block(
 
 // Pushes a block: its rows go to the front of `rows`.
 pub fn push(state: &mut [u64], store: &mut [u64], rows: &mut [u64], row: &[u64]) -> Reply
-    ensures { λ r. ⌜ PushIs (pushSpec (now (state .entry)) (now (store .entry)) (now (rows .entry)) (now (row .entry))) r (now (state .exit)) (now (store .exit)) (now (rows .exit)) ⌝ }
+    ensures { λ r. ⌜ PushIs (pushSpec (now (state .entry)) (now (store .entry)) (now (rows .entry)) (now (row .entry))) r (now (state .exit))
+        (now (store .exit)) (now (rows .exit)) ⌝ }
 {
     let due = check_push(state, store, row);
     match due {

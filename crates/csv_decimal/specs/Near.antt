@@ -1,4 +1,4 @@
--- The nearest whole number to a fraction, a tie going to the even one: from a quotient and its rest, at a power of two, and from a number cut short with a bit for what was cut. Assumes nothing.
+-- LAWS. The nearest whole number to a fraction, a tie going to the even one: from a quotient and its rest, and cut short. Assumes nothing.
 use mathlib.Core.Path.{_≡_, refl, sym, ap, _∙_, subst}
 use Prim.Native.Nat.{ℕ, zero, suc, _+_, _-_, _*_, _/_, _%_, _^_, _≤_, _<_, Ordering, Ordering·lt, Ordering·eq, Ordering·gt, compare}
 use native.Mathlib.Nat.{mul-assoc, mul-comm, mul-right-comm, add-mul, one-mul, div-mul-le-self, mod-lt, div-add-mod', mul-le-mul-right, lt-of-le-of-lt}

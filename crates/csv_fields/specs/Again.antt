@@ -111,7 +111,8 @@ module _ (s : Bool) (N : ℕ) (small : N < 1000000000000000) where
       let k : take w t ≡ f = take-at f (46 ∷ g) w l in
       let n : W ≡ num 0 (take w t) =
       sym
-      (ap (num 0) k ∙ num-figures w W 0 ∙ ap (λ (z : ℕ). 0 * 10 ^ w + z) (mod-eq-of-lt (width-holds W (omega arith))) ∙ ap (λ (z : ℕ). z + W) (native.Mathlib.Nat.zero-mul (10 ^ w)) ∙ native.Mathlib.Nat.zero-add W) in
+      (ap (num 0) k ∙ num-figures w W 0 ∙ ap (λ (z : ℕ). 0 * 10 ^ w + z) (mod-eq-of-lt (width-holds W (omega arith))) ∙ ap (λ (z : ℕ). z + W)
+      (native.Mathlib.Nat.zero-mul (10 ^ w)) ∙ native.Mathlib.Nat.zero-add W) in
       let len : length t ≡ w + suc (length g) = length-append f (46 ∷ g) ∙ ap (λ (z : ℕ). z + suc (length g)) l in
       let rest : drop (w + 1) t ≡ g = ap (λ (z : ℕ). drop (z + 1) t) (sym l) ∙ drop-append-add f (46 ∷ g) 1 in
       uns-point s t w W (sym r) n (λ (e : w ≡ 0). absurd (omega (arith, some-width W))) (λ (e : w ≡ length t). absurd (omega arith)) (getD-at f 46 g 0 w l)
@@ -127,7 +128,8 @@ pub plain-read : (N : ℕ) → N < 1000000000000000 → number (millionthsText N
 unfolding millionthsText
 plain-read N h =
     sym
-    (no-minus (millionthsText N) (first-of (width (N / 1000000)) (N / 1000000) (46 ∷ figures 6 N) (some-width (N / 1000000))) (Number.Value (quotient false N 6))
+    (no-minus (millionthsText N) (first-of (width (N / 1000000)) (N / 1000000) (46 ∷ figures 6 N) (some-width (N / 1000000)))
+    (Number.Value (quotient false N 6))
     (unsigned-read false N h))
 
 pub minus-read : (N : ℕ) → N < 1000000000000000 → number (45 ∷ millionthsText N) ≡ Number.Value (quotient true N 6)
@@ -267,7 +269,8 @@ of-unsigned s t x e = go (eqb (run 9 t) 0) (eqb (run 9 t) (length t)) (eqb (getD
         (le-trans (le-of-eq (native.Mathlib.Nat.one-mul (10 ^ run 9 t))) (pow-le-pow-right (lit< {m = 0} {n = 10} tt) (run-most 9 t)))
 
     go : (a b d : Bool)
-        → cond a Number.Bad (cond b (Number.Value (quotient s (num 0 (take (run 9 t) t)) 0)) (cond d (fraction s (num 0 (take (run 9 t) t)) (drop (suc (run 9 t)) t)) Number.Bad)) ≡ Number.Value x
+        → cond a Number.Bad (cond b (Number.Value (quotient s (num 0 (take (run 9 t) t)) 0))
+        (cond d (fraction s (num 0 (take (run 9 t) t)) (drop (suc (run 9 t)) t)) Number.Bad)) ≡ Number.Value x
         → Readable x
     go true b d e = absurd (no-value x e)
     go false true d e = record { sign = s; whole = num 0 (take (run 9 t) t); places = 0; few = zero-le; low = low; value = cc }

@@ -146,7 +146,8 @@ module _ (s : Bool) (x : Float) where
       w = take (run 9 t) t
 
       go : (p q r : Bool) → eqb (run 9 t) 0 ≡ p → eqb (run 9 t) (length t) ≡ q → eqb (getD t (run 9 t) 0) 46 ≡ r
-          → cond p Number.Bad (cond q (Number.Value (quotient s (num 0 (take (run 9 t) t)) 0)) (cond r (fraction s (num 0 (take (run 9 t) t)) (drop (suc (run 9 t)) t)) Number.Bad)) ≡ Number.Value x
+          → cond p Number.Bad (cond q (Number.Value (quotient s (num 0 (take (run 9 t) t)) 0))
+          (cond r (fraction s (num 0 (take (run 9 t) t)) (drop (suc (run 9 t)) t)) Number.Bad)) ≡ Number.Value x
           → Plain s t x
       go true q r f g i e = absurd (no-value x e)
       go false true r f g i e =

@@ -26,7 +26,8 @@ line-again v h =
     let k : take w t ≡ t = take-all w t (le-of-eq l) in
     let n : v ≡ num 0 (take w t) =
     sym
-    (ap (num 0) k ∙ num-figures w v 0 ∙ ap (λ (z : ℕ). 0 * 10 ^ w + z) (mod-eq-of-lt (width-holds v (omega arith))) ∙ ap (λ (z : ℕ). z + v) (zero-mul (10 ^ w)) ∙ zero-add v) in
+    (ap (num 0) k ∙ num-figures w v 0 ∙ ap (λ (z : ℕ). 0 * 10 ^ w + z) (mod-eq-of-lt (width-holds v (omega arith))) ∙ ap (λ (z : ℕ). z + v)
+    (zero-mul (10 ^ w)) ∙ zero-add v) in
     let one : 1 ≤ w = some-width v in
     sym (line-at t w v (sym r) n (λ (e : w ≡ 0). nought w one e) (sym l) h)
   where

@@ -239,7 +239,8 @@ number-clean x = go (lt x (ofBits binary64 0) && ltb 0 (millionths x))
         (and-i true (clean (figures 6 (millionths x))) tt (digits-clean (figures 6 (millionths x)) (figures-digits 6 (millionths x))))
 
     go : (b : Bool)
-        → T (clean (cond b (45 ∷ (wholeText (millionths x / 1000000) ++ (46 ∷ figures 6 (millionths x)))) (wholeText (millionths x / 1000000) ++ (46 ∷ figures 6 (millionths x)))))
+        → T (clean (cond b (45 ∷ (wholeText (millionths x / 1000000) ++ (46 ∷ figures 6 (millionths x))))
+        (wholeText (millionths x / 1000000) ++ (46 ∷ figures 6 (millionths x)))))
     go true = and-i true (clean (wholeText (millionths x / 1000000) ++ (46 ∷ figures 6 (millionths x)))) tt bare
     go false = bare
 

@@ -183,7 +183,8 @@ fields-read fs row f =
     let cs = f .cellFields in
     let ok : cellsOk cs ≡ true =
     both (eqb (length cs) columnCount) _ (eq-eqb (length cs) columnCount (f .count))
-    (all-of columnCount (λ (i : ℕ). cellOk (getD cs i [])) (λ (i : ℕ) (k : i < columnCount). form-cell (getD cs i []) (given (getD cs i [])) (f .cells-are i k) .0)) in
+    (all-of columnCount (λ (i : ℕ). cellOk (getD cs i []))
+    (λ (i : ℕ) (k : i < columnCount). form-cell (getD cs i []) (given (getD cs i [])) (f .cells-are i k) .0)) in
     ap fromLine (f .parts)
     ∙ ap (λ (x : Line). numbered x (λ (n : ℕ). fromMotion n (f .motionField ∷ f .planeField ∷ cs))) (line-form-read (f .lineField) (f .line) (f .line-is))
     ∙ ap (λ (x : Found). coded x (λ (c : ℕ). fromPlane (f .line) c (f .planeField ∷ cs)))
@@ -200,7 +201,8 @@ fields-clean fs row f =
     let p : T (clean (f .planeField)) = subst (λ (w : List ℕ). T (clean w)) (f .plane-is .0) (plane-clean (f .plane) (f .plane-is .1)) in
     let c : T (cleanAll (f .cellFields)) =
     clean-list (f .cellFields)
-    (λ (i : ℕ) (l : i < length (f .cellFields)). cell-clean (getD (f .cellFields) i []) (given (getD (f .cellFields) i [])) (f .cells-are i (subst (λ (n : ℕ). i < n) (f .count) l))) in
+    (λ (i : ℕ) (l : i < length (f .cellFields)). cell-clean (getD (f .cellFields) i []) (given (getD (f .cellFields) i []))
+    (f .cells-are i (subst (λ (n : ℕ). i < n) (f .count) l))) in
     (digits-clean (f .lineField) (f .line-is .digits), and-i (clean (f .motionField)) _ m (and-i (clean (f .planeField)) _ p c))
 
 -- The reader accepts all of it: a text of the layout's form is read as its row.

@@ -134,7 +134,8 @@ fn copy_row(row: &mut [u64], words: &[u64])
 // The rest of a row, from its plane word on.
 fn read_from_plane(text: &[u8], line: u64, motion: u64, row: &mut [u64]) -> bool
     requires { ⌜ length (now row) ≡ 29 ⌝ }
-    ensures { λ r. ⌜ (r ≡ isSome (fromPlane line motion (parted (now (text .entry))))) × (now (row .exit) ≡ Option·getD (fromPlane line motion (parted (now (text .entry)))) (now (row .entry))) ⌝ }
+    ensures { λ r. ⌜ (r ≡ isSome (fromPlane line motion (parted (now (text .entry))))) ×
+        (now (row .exit) ≡ Option·getD (fromPlane line motion (parted (now (text .entry)))) (now (row .entry))) ⌝ }
 {
     let end = field_end(text, 0);
     let Found::Code(plane) = csv_words::read_plane(&text[..end]) else {
@@ -158,7 +159,8 @@ fn read_from_plane(text: &[u8], line: u64, motion: u64, row: &mut [u64]) -> bool
 // The rest of a row, from its motion word on.
 fn read_from_motion(text: &[u8], line: u64, row: &mut [u64]) -> bool
     requires { ⌜ length (now row) ≡ 29 ⌝ }
-    ensures { λ r. ⌜ (r ≡ isSome (fromMotion line (parted (now (text .entry))))) × (now (row .exit) ≡ Option·getD (fromMotion line (parted (now (text .entry)))) (now (row .entry))) ⌝ }
+    ensures { λ r. ⌜ (r ≡ isSome (fromMotion line (parted (now (text .entry))))) ×
+        (now (row .exit) ≡ Option·getD (fromMotion line (parted (now (text .entry)))) (now (row .entry))) ⌝ }
 {
     let end = field_end(text, 0);
     let Found::Code(motion) = csv_words::read_motion(&text[..end]) else {

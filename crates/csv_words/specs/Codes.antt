@@ -35,7 +35,8 @@ own-place c h = eqb→eq (seek 0 16 (wordAt c)) c (each-at (λ (k : ℕ). eqb (s
 pub motion-again : (c : ℕ) → c < 16 → motionOf (wordAt c) ≡ Found.Code c
 motion-again c h = sym (motion-at (wordAt c) c (sym (own-place c h)) h)
 
-pub planes-again : (planeOf (planeText 0) ≡ Found.Code 0) × (planeOf (planeText 17) ≡ Found.Code 17) × (planeOf (planeText 18) ≡ Found.Code 18) × (planeOf (planeText 19) ≡ Found.Code 19)
+pub planes-again : (planeOf (planeText 0) ≡ Found.Code 0) × (planeOf (planeText 17) ≡ Found.Code 17) × (planeOf (planeText 18) ≡ Found.Code 18) ×
+    (planeOf (planeText 19) ≡ Found.Code 19)
 unfolding planeOf seek
 planes-again = (refl, refl, refl, refl)
 
@@ -45,7 +46,8 @@ unfolding seek
 found-there zero i t h = absurd (omega arith)
 found-there (suc k) i t h = go (same (wordAt i) t) (same-is (wordAt i) t) (found-there k (suc i) t) h
   where
-    go : (b : Bool) → (T b → wordAt i ≡ t) → (seek (suc i) k t < suc i + k → wordAt (seek (suc i) k t) ≡ t) → cond b i (seek (suc i) k t) < i + suc k → wordAt (cond b i (seek (suc i) k t)) ≡ t
+    go : (b : Bool) → (T b → wordAt i ≡ t) → (seek (suc i) k t < suc i + k → wordAt (seek (suc i) k t) ≡ t) → cond b i (seek (suc i) k t) < i + suc k →
+        wordAt (cond b i (seek (suc i) k t)) ≡ t
     go true f r h = f tt
     go false f r h = r (omega arith)
 
@@ -103,9 +105,11 @@ plane-only t c e = go (eqb (length t) 0) refl (ltb (seek 16 3 t) 19) refl e
     within : (c : ℕ) → 17 ≤ c → c ≤ 19 → (eqb c 0 || (leb 17 c && leb c 19)) ≡ true
     within c l u = rw (ne-eqb c 0 (λ (z : c ≡ 0). omega arith), le-leb 17 c l, le-leb c 19 u)
 
-    go : (a : Bool) → eqb (length t) 0 ≡ a → (b : Bool) → ltb (seek 16 3 t) 19 ≡ b → cond a (Found.Code 0) (cond b (Found.Code (seek 16 3 t + 1)) Found.Nowhere) ≡ Found.Code c
+    go : (a : Bool) → eqb (length t) 0 ≡ a → (b : Bool) → ltb (seek 16 3 t) 19 ≡ b → cond a (Found.Code 0)
+        (cond b (Found.Code (seek 16 3 t + 1)) Found.Nowhere) ≡ Found.Code c
         → (planeText c ≡ t) × ((eqb c 0 || (leb 17 c && leb c 19)) ≡ true)
-    go true f b g e = subst (λ (z : ℕ). (planeText z ≡ t) × ((eqb z 0 || (leb 17 z && leb z 19)) ≡ true)) (same-code 0 c e) (empty t (eqb-true (length t) 0 f), refl)
+    go true f b g e = subst (λ (z : ℕ). (planeText z ≡ t) × ((eqb z 0 || (leb 17 z && leb z 19)) ≡ true)) (same-code 0 c e)
+        (empty t (eqb-true (length t) 0 f), refl)
     go false f false g e = let z : _≡_ {A = ℕ} 0 1 = cc in absurd (omega arith)
     go false f true g e =
         let l : seek 16 3 t < 19 = ltb-true (seek 16 3 t) 19 g in

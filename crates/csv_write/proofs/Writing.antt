@@ -249,8 +249,11 @@ module _ (row o : List ℕ) (n : ℕ) where
     cells-wrote {o₁} {o₂} {a} {b} {r} q t =
         let g = passed (all 11 (cellShown row)) (sym q ∙ t .answer) in (
           g,
-          record
-              { next = upto-same b (a + length (tailed (cellTexts row 11))) (sym q ∙ t .answer ∙ ap (λ (z : Bool). cond z (Placed.Upto (a + length (tailed (cellTexts row 11)))) Placed.Refused) g); text = t .text g },
+          record {
+            next = upto-same b (a + length (tailed (cellTexts row 11)))
+                (sym q ∙ t .answer ∙ ap (λ (z : Bool). cond z (Placed.Upto (a + length (tailed (cellTexts row 11)))) Placed.Refused) g);
+            text = t .text g;
+          },
         )
       where
         passed : (z : Bool) → Placed.Upto b ≡ cond z (Placed.Upto (a + length (tailed (cellTexts row 11)))) Placed.Refused → z ≡ true

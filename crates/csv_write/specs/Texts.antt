@@ -100,7 +100,8 @@ number-length x e = go (lt x (ofBits binary64 0) && ltb 0 v)
         )
 
     go : (b : Bool)
-        → length (cond b (45 ∷ (wholeText (millionths x / 1000000) ++ (46 ∷ figures 6 (millionths x)))) (wholeText (millionths x / 1000000) ++ (46 ∷ figures 6 (millionths x)))) ≤ 17
+        → length (cond b (45 ∷ (wholeText (millionths x / 1000000) ++ (46 ∷ figures 6 (millionths x))))
+        (wholeText (millionths x / 1000000) ++ (46 ∷ figures 6 (millionths x)))) ≤ 17
     go true = omega (arith, bare)
     go false = omega (arith, bare)
 
@@ -120,7 +121,8 @@ pub cells-length : (r : List ℕ) → all columnCount (cellShown r) ≡ true →
 unfolding cellTexts
 cells-length r e =
     subst (λ (l : List ℕ). length l ≤ 198) (sym (tailed-upto (cellText r) columnCount))
-    (several-length (λ (i : ℕ). comma ∷ cellText r i) 18 columnCount (λ (i : ℕ) (l : i < columnCount). cell-length r i (all-at columnCount (cellShown r) e i l)))
+    (several-length (λ (i : ℕ). comma ∷ cellText r i) 18 columnCount
+    (λ (i : ℕ) (l : i < columnCount). cell-length r i (all-at columnCount (cellShown r) e i l)))
 
 pub head-length : (r : List ℕ) → motionOf r < 16 → planeOf r < 20 → length (joined (headFields r)) ≤ 26
 unfolding joined tailed

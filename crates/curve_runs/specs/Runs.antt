@@ -1,4 +1,4 @@
--- DEFINITIONS. Document 01, "Spline": the run of points of each block with a point, of each kind of spline. Assumes nothing.
+-- DEFINITIONS. The run of points of each block with a point, of each kind of spline (rules 5.8 to 5.25). Assumes nothing.
 use Prim.Native.Nat.{ℕ}
 use mathlib.Core.Bool.{Bool, cond}
 use mathlib.Core.List.{List}

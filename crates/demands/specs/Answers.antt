@@ -1,4 +1,4 @@
--- When a push or a close is done and when it is refused, that the needed count is the rows it writes given room, and that a contract allows one answer. Assumes nothing.
+-- LAWS. When a push or a close is done or refused, the needed count, and that a contract allows one answer. Assumes nothing.
 use Prim.Native.Nat.{ℕ, _/_, _≤_, _<_}
 use mathlib.Core.Path.{_≡_, sym, _∙_, ap}
 use mathlib.Core.List.{List}

@@ -1,4 +1,4 @@
--- Demands 1 and 3, as statements over the four calls' definitions. Demand1, Demand3 and NoTrace prove them; Answers, Places, ShutOut, StaysGood and Starred say what else follows. Assumes nothing.
+-- DEFINITIONS. Demands 1 and 3, as statements over the definitions of the four calls. Assumes nothing.
 use Prim.Native.Nat.{ℕ, _+_, _-_, _*_, _≤_, _<_}
 use mathlib.Core.Path.{_≡_}
 use mathlib.Core.Bool.{Bool, true, false, cond}

@@ -87,7 +87,8 @@ unfolding closeRows
 again-rows st store p = cond-t [] _ (eq-eqb _ 0 (none-left st store p))
 
 pub close-again : (st store rows lent : List ℕ) → closeSpec st store rows .reply .code ≡ 0
-    → (closeSpec (closeState st) store lent .reply .code ≡ 0) × (closeSpec (closeState st) store lent .reply .count ≡ 0) × (closeSpec (closeState st) store lent .rows ≡ lent)
+    → (closeSpec (closeState st) store lent .reply .code ≡ 0) × (closeSpec (closeState st) store lent .reply .count ≡ 0) ×
+    (closeSpec (closeState st) store lent .rows ≡ lent)
 unfolding closeDone flatten
 close-again st store rows lent z =
     let ok : (savedCheck st store ≡ 0) × (length (closeRows st store) ≤ places rows) = close-accepted st store rows z in

@@ -64,7 +64,8 @@ computed = refl
 
 -- the first word of answer i
 word : (i : ℕ)
-    → getD (getD ((pushedLine 1 .reply .code ∷ []) ∷ pushedLine 1 .rows ∷ pushedLine 2 .rows ∷ pushedNext .rows ∷ (pushedLine 2 .reply .code ∷ []) ∷ []) i []) 0 0
+    → getD (getD ((pushedLine 1 .reply .code ∷ []) ∷ pushedLine 1 .rows ∷ pushedLine 2 .rows ∷ pushedNext .rows ∷ (pushedLine 2 .reply .code ∷ []) ∷ []) i
+    []) 0 0
     ≡ getD (getD ((0 ∷ []) ∷ line 1 ∷ line 2 ∷ line 2 ∷ (0 ∷ []) ∷ []) i []) 0 0
 word i = ap (λ (l : List (List ℕ)). getD (getD l i []) 0 0) computed
 

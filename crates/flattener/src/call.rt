@@ -14,7 +14,8 @@ pub extern "C" fn flat_push(
     rows: &mut [u64],
     row: &[u64],
 ) -> Reply
-    ensures { λ r. ⌜ PushIs (pushSpec (now (state .entry)) (now (store .entry)) (now (rows .entry)) (now (row .entry))) r (now (state .exit)) (now (store .exit)) (now (rows .exit)) ⌝ }
+    ensures { λ r. ⌜ PushIs (pushSpec (now (state .entry)) (now (store .entry)) (now (rows .entry)) (now (row .entry))) r (now (state .exit))
+        (now (store .exit)) (now (rows .exit)) ⌝ }
 {
     push(state, store, rows, row)
 }
@@ -22,7 +23,8 @@ pub extern "C" fn flat_push(
 // Ends the run: a held spline is emitted.
 #[no_mangle]
 pub extern "C" fn flat_close(state: &mut [u64], store: &[u64], rows: &mut [u64]) -> Reply
-    ensures { λ r. ⌜ PushIs (closeSpec (now (state .entry)) (now (store .entry)) (now (rows .entry))) r (now (state .exit)) (now (store .exit)) (now (rows .exit)) ⌝ }
+    ensures { λ r. ⌜ PushIs (closeSpec (now (state .entry)) (now (store .entry)) (now (rows .entry))) r (now (state .exit)) (now (store .exit))
+        (now (rows .exit)) ⌝ }
 {
     close(state, store, rows)
 }

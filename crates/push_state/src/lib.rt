@@ -83,7 +83,8 @@ fn known_word(state: &[u64], k: usize) -> u64
 
 fn copy_positions(state: &mut [u64])
     requires { ⌜ length (now state) ≡ stateWords ⌝ }
-    ensures { λ _. ⌜ now (state .exit) ≡ spliced (now (state .entry)) (wStart + 1) (upto (λ (k : ℕ). Option·getD (position (now (state .entry)) k) 0) axisCodes) ⌝ }
+    ensures { λ _. ⌜ now (state .exit) ≡ spliced (now (state .entry)) (wStart + 1)
+        (upto (λ (k : ℕ). Option·getD (position (now (state .entry)) k) 0) axisCodes) ⌝ }
 {
     let mut k: usize = 0;
     while k < AXIS_CODES {
@@ -158,7 +159,8 @@ fn buffer_if(state: &mut [u64], row: &[u64], spline: bool)
 // The word is warned of from now on.
 fn warn_if(state: &mut [u64], word: u64, new: bool)
     requires { ⌜ (length (now state) ≡ stateWords) × (word < 64) ⌝ }
-    ensures { λ _. ⌜ now (state .exit) ≡ cond new (set (now (state .entry)) wWarned (withBit (getD (now (state .entry)) wWarned 0) word)) (now (state .entry)) ⌝ }
+    ensures { λ _. ⌜ now (state .exit) ≡ cond new (set (now (state .entry)) wWarned (withBit (getD (now (state .entry)) wWarned 0) word))
+        (now (state .entry)) ⌝ }
 {
     if new {
         let p = state[W_WARNED];

@@ -18,7 +18,7 @@ use Rattle.curve_walk.specs.Walks.{encode}
 use Rattle.curve_runs.specs.declared.Drawing.{Drawing}
 use Rattle.curve_runs.specs.Runs.{drawnRuns}
 use Rattle.curve_runs.specs.Draws.{drawn-as}
-use Rattle.spline_points.specs.Points.{channels, pointRows, startPoint, startValue, blockAt}
+use Rattle.spline_points.specs.Points.{channels, pointRows, startPoint, blockAt}
 use Rattle.spline_places.specs.Places.{Few}
 use Rattle.spline_emission.specs.declared.Curve.{Curve}
 use Rattle.spline_emission.specs.declared.Job.{Job}

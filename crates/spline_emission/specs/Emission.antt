@@ -1,4 +1,4 @@
--- DEFINITIONS. Document 01, "Spline": the group of each held block; an emission is their concatenation. Assumes nothing.
+-- DEFINITIONS. The group of each held block; an emission is their concatenation (section 5 of the rules). Assumes nothing.
 use Prim.Native.Nat.{ℕ, _+_, _/_}
 use mathlib.Core.Bool.{cond}
 use mathlib.Core.List.{List, _∷_, map}
