@@ -7,7 +7,7 @@ use lib.ListN.{length, getD}
 use borrow.Author.Tests.{eq-eqb, ne-eqb, le-leb, lt-leb}
 use Rattle.floats.specs.Lists.{flatten, spliced}
 use Rattle.floats.specs.Splice.{spliced-none}
-use Rattle.layout.specs.Layout.{rowWords, wStart, stateWords}
+use Rattle.layout.specs.Layout.{rowWords, wStart, stateWords, listCodes}
 use Rattle.floats.specs.Truth.{cond-t, cond-f}
 use Rattle.saved_state.specs.State.{axisCount, held, motionNow, degree, tolerance, savedCheck}
 use Rattle.call_reply.specs.Replies.{plain, After, tooFew, doneReply}
@@ -58,7 +58,7 @@ no-rows rows = spliced-none rows 0
 pub state-long : (st store : List ℕ) → savedCheck st store ≡ 0 → length st ≡ stateWords
 state-long st store p = good st (saved-ok st store p) .long
 
-pub state-axes : (st store : List ℕ) → savedCheck st store ≡ 0 → axisCount st ≤ 15
+pub state-axes : (st store : List ℕ) → savedCheck st store ≡ 0 → axisCount st ≤ listCodes
 state-axes st store p = axes-few st (good st (saved-ok st store p) .axes)
 
 module _ (st store : List ℕ) (saved : savedCheck st store ≡ 0) (axes : List ℕ) (tol : Float) (ea : axes ≡ codesOf st) (et : tol ≡ tolerance st) where

@@ -11,7 +11,7 @@ use lib.Ieee.{Float}
 use borrow.Author.Tests.{eq-eqb, le-leb, lt-leb, not-true}
 use Rattle.floats.specs.Lists.{upto, flatten, keep, spliced, all}
 use Rattle.floats.specs.Fill.{length-upto}
-use Rattle.layout.specs.Layout.{axisCodes, rowWords, wAxes, wStart, stateWords, mostHeld, lastCode}
+use Rattle.layout.specs.Layout.{axisCodes, rowWords, wAxes, wStart, stateWords, mostHeld, lastCode, listCodes}
 use Rattle.row_cells.specs.Row.{shown, hasPoint}
 use Rattle.row_cells.specs.RowLaws.{length-out}
 use Rattle.row_put.specs.MadeLaws.{length-made}
@@ -68,7 +68,7 @@ once-codes axes p =
     record {
       once = λ i j l m e.
           let c : (leb (getD axes j 0) lastCode && all j (λ (n : ℕ). not (eqb (getD axes n 0) (getD axes j 0)))) ≡ true =
-          all-at (length axes) (codeOk axes) j (and-right (leb (length axes) 15) (all (length axes) (codeOk axes)) p) m in
+          all-at (length axes) (codeOk axes) j (and-right (leb (length axes) listCodes) (all (length axes) (codeOk axes)) p) m in
           let d : not (eqb (getD axes i 0) (getD axes j 0)) ≡ true =
           all-at j (λ (n : ℕ). not (eqb (getD axes n 0) (getD axes j 0))) i
           (and-right (leb (getD axes j 0) lastCode) (all j (λ (n : ℕ). not (eqb (getD axes n 0) (getD axes j 0)))) c) l in
@@ -83,7 +83,7 @@ unfolding axesOk
 holds st store p =
     let g : Good st = good st (saved-ok st store p) in
     record {
-      once = once-codes (codesOf st) (and-right (leb (axisCount st) 15) (codesOk (codesOf st)) (g .axes));
+      once = once-codes (codesOf st) (and-right (leb (axisCount st) listCodes) (codesOk (codesOf st)) (g .axes));
       start = start-long st (g .long);
       lent = saved-store st store p;
       many = good-few st g;

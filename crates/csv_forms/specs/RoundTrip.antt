@@ -15,7 +15,7 @@ use borrow.Author.Tests.{ne-eqb, lt-ltb, ltb-true}
 use Rattle.floats.specs.Numbers.{num, bits}
 use Rattle.floats.specs.Lists.{upto, isSome, all}
 use Rattle.floats.specs.Fill.{length-upto}
-use Rattle.layout.specs.Layout.{rCells}
+use Rattle.layout.specs.Layout.{rCells, lineNumbers}
 use Rattle.row_cells.specs.Codes.{planeOk}
 use Rattle.row_cells.specs.Bits.{has}
 use Rattle.row_cells.specs.Row.{maskOf, rowOf, presentOf, lineOf, motionOf, planeOf, markOf}
@@ -176,7 +176,7 @@ module _ (n a b : ℕ) (cs : List (List ℕ)) where
       go f o (present {t = t} {s = s} {n = m} {k = k} v) p w =
           cell-present (rowOf n a b 0 0 (cellsIn cs)) i (quotient s m k) p (ap num w ∙ bits-again s m k) (read-again t (quotient s m k) (form-read t s m k v))
 
-  pub written-again : n < 4294967296 → a < 16 → planeOk b ≡ true → ((i : ℕ) → i < 11 → CellForm (getD cs i []) (given (getD cs i [])))
+  pub written-again : n < lineNumbers → a < 16 → planeOk b ≡ true → ((i : ℕ) → i < 11 → CellForm (getD cs i []) (given (getD cs i [])))
       → (writable (rowOf n a b 0 0 (cellsIn cs)) ≡ true) × FieldsForm (rowFields (rowOf n a b 0 0 (cellsIn cs))) (rowOf n a b 0 0 (cellsIn cs))
   unfolding writable headOk rowOf rowFields cellTexts
   written-again l m p c =
@@ -184,7 +184,7 @@ module _ (n a b : ℕ) (cs : List (List ℕ)) where
       let ds = upto (cellText r) 11 in
       let k : (i : ℕ) → i < 11 → Again r i (given (getD cs i [])) = λ (i : ℕ) (h : i < 11). again i h (c i h) in
       let t : (i : ℕ) → i < 11 → getD ds i [] ≡ cellText r i = text-at (cellText r) in (
-        both _ _ (both _ _ (lt-ltb n 4294967296 l) (both _ _ (lt-ltb a 16 m) p)) (all-of 11 (cellShown r) (λ (i : ℕ) (h : i < 11). k i h .may)),
+        both _ _ (both _ _ (lt-ltb n lineNumbers l) (both _ _ (lt-ltb a 16 m) p)) (all-of 11 (cellShown r) (λ (i : ℕ) (h : i < 11). k i h .may)),
         record {
           lineField = wholeText n;
           motionField = wordAt a;
@@ -269,7 +269,7 @@ pub written-is-clean : (r : List ℕ) → writable r ≡ true → CleanLine r
 unfolding writable headOk outFields rowFields cellTexts parted
 written-is-clean r e =
     let h = both-left (headOk r) (all columnCount (cellShown r)) e in
-    let k = both-right (ltb (lineOf r) 4294967296) (ltb (motionOf r) 16 && planeOk (planeOf r)) h in
+    let k = both-right (ltb (lineOf r) lineNumbers) (ltb (motionOf r) 16 && planeOk (planeOf r)) h in
     let m = ltb-true (motionOf r) 16 (both-left (ltb (motionOf r) 16) (planeOk (planeOf r)) k) in
     let p = plane-low (planeOf r) (both-right (ltb (motionOf r) 16) (planeOk (planeOf r)) k) in
     let l : T (clean (wholeText (lineOf r))) = digits-clean (wholeText (lineOf r)) (figures-digits (width (lineOf r)) (lineOf r)) in

@@ -4,6 +4,7 @@ use mathlib.Core.Bool.{cond}
 use mathlib.Core.List.{List, [], _∷_, _++_}
 use lib.Dec.{eqb, ltb}
 use lib.ListN.{length, getD}
+use Rattle.layout.specs.Layout.{axisCodes, cOffset, cCR, cTURN, cPW, cSD}
 use Rattle.csv_words.specs.Text.{bytes}
 use Rattle.csv_line.specs.declared.End.{End}
 use Rattle.csv_line.specs.declared.End.the-variants as End
@@ -30,7 +31,7 @@ headerOut = bytes "line_no,gg01_motion,gg06_plane_select,X,Y,Z,I,J,K,CR,TURN,PW,
 
 -- 7.4: the codes of X Y Z I J K CR TURN PW SD F
 abbrev pub columns : List ℕ
-columns = 0 ∷ 1 ∷ 2 ∷ 15 ∷ 16 ∷ 17 ∷ 18 ∷ 19 ∷ 20 ∷ 21 ∷ 11 ∷ []
+columns = 0 ∷ 1 ∷ 2 ∷ cOffset ∷ (cOffset + 1) ∷ (cOffset + 2) ∷ cCR ∷ cTURN ∷ cPW ∷ cSD ∷ (axisCodes + 1) ∷ []
 
 abbrev pub columnCount : ℕ
 columnCount = 11

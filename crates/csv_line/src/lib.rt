@@ -1,8 +1,11 @@
 // Lines: their ends, the headers, the columns, and the lines of standard error.
+use layout::AXIS_CODES;
+use layout::C_OFFSET;
 ghost use mathlib.Core.Path.{_≡_};
 ghost use mathlib.Core.List.{_++_};
 ghost use Prim.Native.Nat.{_+_, _≤_, _<_};
 ghost use lib.ListN.{length};
+ghost use Rattle.layout.specs.Layout.{cells};
 ghost use Rattle.csv_words.specs.Words.{same};
 ghost use Rattle.csv_fields.specs.Out.{Wrote};
 ghost use Rattle.csv_line.specs.LineText.{crlf, header, headerOut, endOf, codeAt};
@@ -94,18 +97,27 @@ pub fn put_header(out: &mut [u8], n: usize) -> usize
     put_crlf(out, a)
 }
 
+// Columns before those of I, and of F; how far a code from I to SD lies behind its column; F, behind N.
+const AXIS_COLUMNS: usize = 3;
+
+const F_COLUMN: usize = 10;
+
+const OFFSET_SHIFT: usize = C_OFFSET - AXIS_COLUMNS;
+
+const CODE_OF_F: usize = AXIS_CODES + 1;
+
 // The code of the cell in column i: X Y Z, I J K CR TURN PW SD, F.
 pub fn code_at(i: usize) -> usize
     requires { ⌜ i < 11 ⌝ }
-    ensures { λ r. ⌜ (r ≡ codeAt i) × (r < 23) ⌝ }
+    ensures { λ r. ⌜ (r ≡ codeAt i) × (r < cells) ⌝ }
 {
-    if i < 3 {
+    if i < AXIS_COLUMNS {
         return i;
     }
-    if i < 10 {
-        return i + 12;
+    if i < F_COLUMN {
+        return i + OFFSET_SHIFT;
     }
-    11
+    CODE_OF_F
 }
 
 // A line of standard error: a warning, or a refusal.

@@ -13,7 +13,7 @@ use lib.Seq.{take-length, take-suc, take-suc-set}
 use lib.Ieee.{Float}
 use borrow.Author.Tests.{eq-eqb, ne-eqb}
 use Rattle.floats.specs.Numbers.{bits}
-use Rattle.layout.specs.Layout.{rCells}
+use Rattle.layout.specs.Layout.{rCells, cPL, cells, rPresent}
 use Rattle.floats.specs.Lists.{all}
 use Rattle.csv_fields.specs.declared.Number.{Number}
 use Rattle.csv_fields.specs.declared.Number.the-variants as Number
@@ -49,9 +49,9 @@ pub seek-end : {t : List ℕ} {at i : ℕ} → Seeking t at i → length t ≤ i
 seek-end {t} {at} {i} s h = let e : i ≡ length t = omega (arith, s .within) in sym (s .left ∙ ap (λ (k : ℕ). i + k) (reach-end t i e) ∙ add-zero i)
 
 -- ---- `at_code`
-pub one-shifted : (b c : ℕ) → b ≤ 1 → c < 23 → b * 2 ^ c % 2 ^ 64 ≡ b * 2 ^ c
+pub one-shifted : (b c : ℕ) → b ≤ 1 → c < cells → b * 2 ^ c % 2 ^ 64 ≡ b * 2 ^ c
 one-shifted b c h l =
-    mod-eq-of-lt (lt-of-le-of-lt (mul-le-mul h (pow-le-pow-right {n = 2} (lit< tt) {i = c} {j = 22} (omega arith))) (lit< {m = 1 * 2 ^ 22} {n = 2 ^ 64} tt))
+    mod-eq-of-lt (lt-of-le-of-lt (mul-le-mul h (pow-le-pow-right {n = 2} (lit< tt) {i = c} {j = cPL} (omega arith))) (lit< {m = 1 * 2 ^ cPL} {n = 2 ^ 64} tt))
 
 -- ---- `read_cell`
 module _ (f : List ℕ) where
@@ -94,14 +94,14 @@ end-within t at end h e =
     let n : length (drop at t) ≡ length t - at = length-drop at t in
     (omega arith, omega arith)
 
-code-small : all 11 (λ (k : ℕ). ltb (codeAt k) 22) ≡ true
+code-small : all 11 (λ (k : ℕ). ltb (codeAt k) cPL) ≡ true
 unfolding all
 code-small = refl
 
-pub bit-low : (i code b : ℕ) → i < 11 → code ≡ codeAt i → b ≤ 1 → b * 2 ^ code ≤ 4194304
+pub bit-low : (i code b : ℕ) → i < 11 → code ≡ codeAt i → b ≤ 1 → b * 2 ^ code ≤ 2 ^ cPL
 bit-low i code b h e l =
-    let s : codeAt i < 22 = borrow.Author.Tests.ltb-true (codeAt i) 22 (all-at 11 (λ (k : ℕ). ltb (codeAt k) 22) code-small i h) in
-    le-trans (mul-le-mul l (pow-le-pow-right {n = 2} (lit< tt) {i = code} {j = 22} (omega arith))) (lit≤ {m = 1 * 2 ^ 22} {n = 4194304} tt)
+    let s : codeAt i < cPL = borrow.Author.Tests.ltb-true (codeAt i) cPL (all-at 11 (λ (k : ℕ). ltb (codeAt k) cPL) code-small i h) in
+    le-trans (mul-le-mul l (pow-le-pow-right {n = 2} (lit< tt) {i = code} {j = cPL} (omega arith))) (lit≤ {m = 1 * 2 ^ cPL} {n = 2 ^ cPL} tt)
 
 -- ---- `read_cells`: i cells of the line t were taken into row
 pub record Taking (t row₀ : List ℕ) (at mask i : ℕ) (row : List ℕ) : Type 0 where
@@ -111,7 +111,7 @@ pub record Taking (t row₀ : List ℕ) (at mask i : ℕ) (row : List ℕ) : Typ
   pub ok : all i (λ (j : ℕ). cellOk (getD (parted t) j [])) ≡ true
   pub words : row ≡ placed (parted t) row₀ i
   pub bits : mask ≡ masked (parted t) i
-  pub low : mask ≤ i * 4194304
+  pub low : mask ≤ i * 2 ^ cPL
   pub same : length row ≡ length row₀
 
 pub takes-none : (t row : List ℕ) → Taking t row 0 0 0 row
@@ -127,7 +127,7 @@ takes-more t row₀ at mask i row row′ r s h l k g =
     let fs = parted t in
     let w : Rest fs i [] (fieldAt t at) (restAt t (at + reach (drop at t) + 1)) =
     rest-of fs i [] (fieldAt t at) (restAt t (at + reach (drop at t) + 1)) (s .rest ∙ rest-step t at h) in
-    let bound : bitOf (given (fieldAt t at)) * 2 ^ codeAt i ≤ 4194304 =
+    let bound : bitOf (given (fieldAt t at)) * 2 ^ codeAt i ≤ 2 ^ cPL =
     bit-low i (codeAt i) (bitOf (given (fieldAt t at))) l refl (bit-one (given (fieldAt t at))) in
     record {
       few = omega arith;
@@ -177,7 +177,7 @@ module _ (t row₀ : List ℕ) (at mask i : ℕ) (row : List ℕ) (s : Taking t 
       rest-of fs i [] (fieldAt t at) (restAt t (at + reach (drop at t) + 1)) (s .rest ∙ rest-step t at h) in
       wrong row (not-left (eqb (length fs) 11) _ (ne-eqb (length fs) 11 (λ (e : length fs ≡ 11). omega (arith, w .inside))))
 
-  pub ends-well : 11 ≤ i → length t < at → CellsRead (parted t) row₀ (set row 5 mask) true
+  pub ends-well : 11 ≤ i → length t < at → CellsRead (parted t) row₀ (set row rPresent mask) true
   unfolding cellsOk
   ends-well l h =
       let fs = parted t in

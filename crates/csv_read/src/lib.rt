@@ -5,11 +5,16 @@ use csv_line::COLUMNS;
 use csv_line::code_at;
 use csv_words::Found;
 use layout::R_CELLS;
+use layout::R_LINE;
+use layout::R_MOTION;
+use layout::R_PLANE;
 use layout::R_PRESENT;
+use layout::ROW_WORDS;
 ghost use mathlib.Core.Path.{_≡_};
 ghost use mathlib.Core.Option.{Option·getD};
 ghost use Prim.Native.Nat.{_+_, _*_, _^_, _≤_, _<_};
 ghost use lib.ListN.{length, drop};
+ghost use Rattle.layout.specs.Layout.{cells, rowWords};
 ghost use Rattle.floats.specs.Lists.{isSome};
 ghost use Rattle.csv_line.specs.LineText.{parted, reach};
 ghost use Rattle.csv_read.specs.Reader.{fromPlane, fromMotion, readRow};
@@ -46,7 +51,7 @@ fn field_end(text: &[u8], at: usize) -> usize
 
 // The bit of a cell's code.
 fn at_code(bit: u64, code: usize) -> u64
-    requires { ⌜ (bit ≤ 1) × (code < 23) ⌝ }
+    requires { ⌜ (bit ≤ 1) × (code < cells) ⌝ }
     ensures { λ r. ⌜ r ≡ bit * 2 ^ code ⌝ }
 {
     bit << code
@@ -78,7 +83,7 @@ fn read_cell(field: &[u8]) -> Cell
 
 // The cell of column i, whose field begins at `at`, into its word of row.
 fn take_cell(text: &[u8], at: usize, i: usize, mask: u64, row: &mut [u64]) -> Taken
-    requires { ⌜ (at ≤ length (now text)) × ((i < 11) × ((length (now row) ≡ 29) × (mask < 2 ^ 32))) ⌝ }
+    requires { ⌜ (at ≤ length (now text)) × ((i < 11) × ((length (now row) ≡ rowWords) × (mask < 2 ^ 32))) ⌝ }
     ensures { λ r. ⌜ Took (now (text .entry)) at i mask (now (row .entry)) (now (row .exit)) r ⌝ }
 {
     let end = field_end(text, at);
@@ -95,7 +100,7 @@ fn take_cell(text: &[u8], at: usize, i: usize, mask: u64, row: &mut [u64]) -> Ta
 
 // The cells of text into row, in which none stands yet, and whether they are those of the layout.
 fn read_cells(text: &[u8], row: &mut [u64]) -> bool
-    requires { ⌜ length (now row) ≡ 29 ⌝ }
+    requires { ⌜ length (now row) ≡ rowWords ⌝ }
     ensures { λ r. ⌜ CellsRead (parted (now (text .entry))) (now (row .entry)) (now (row .exit)) r ⌝ }
 {
     let mut at: usize = 0;
@@ -133,7 +138,7 @@ fn copy_row(row: &mut [u64], words: &[u64])
 
 // The rest of a row, from its plane word on.
 fn read_from_plane(text: &[u8], line: u64, motion: u64, row: &mut [u64]) -> bool
-    requires { ⌜ length (now row) ≡ 29 ⌝ }
+    requires { ⌜ length (now row) ≡ rowWords ⌝ }
     ensures { λ r. ⌜ (r ≡ isSome (fromPlane line motion (parted (now (text .entry))))) ×
         (now (row .exit) ≡ Option·getD (fromPlane line motion (parted (now (text .entry)))) (now (row .entry))) ⌝ }
 {
@@ -144,10 +149,10 @@ fn read_from_plane(text: &[u8], line: u64, motion: u64, row: &mut [u64]) -> bool
     if end == text.len() {
         return false;
     }
-    let mut words = [0u64; 29];
-    words[0] = line;
-    words[1] = motion;
-    words[2] = plane as u64;
+    let mut words = [0u64; ROW_WORDS];
+    words[R_LINE] = line;
+    words[R_MOTION] = motion;
+    words[R_PLANE] = plane as u64;
     let from = end + 1;
     if read_cells(&text[from..], &mut words) {
         copy_row(row, &words);
@@ -158,7 +163,7 @@ fn read_from_plane(text: &[u8], line: u64, motion: u64, row: &mut [u64]) -> bool
 
 // The rest of a row, from its motion word on.
 fn read_from_motion(text: &[u8], line: u64, row: &mut [u64]) -> bool
-    requires { ⌜ length (now row) ≡ 29 ⌝ }
+    requires { ⌜ length (now row) ≡ rowWords ⌝ }
     ensures { λ r. ⌜ (r ≡ isSome (fromMotion line (parted (now (text .entry))))) ×
         (now (row .exit) ≡ Option·getD (fromMotion line (parted (now (text .entry)))) (now (row .entry))) ⌝ }
 {
@@ -175,7 +180,7 @@ fn read_from_motion(text: &[u8], line: u64, row: &mut [u64]) -> bool
 
 // The row that the text of a line, without its CRLF, is, into row; where it is none, row stays.
 pub fn read_row(text: &[u8], row: &mut [u64]) -> bool
-    requires { ⌜ length (now row) ≡ 29 ⌝ }
+    requires { ⌜ length (now row) ≡ rowWords ⌝ }
     ensures { λ r. ⌜ (r ≡ isSome (readRow (now (text .entry)))) × (now (row .exit) ≡ Option·getD (readRow (now (text .entry))) (now (row .entry))) ⌝ }
 {
     let end = field_end(text, 0);

@@ -13,7 +13,7 @@ use lib.Ieee.{Float}
 use borrow.Author.Tests.{lt-ltb, le-ltb, eq-eqb, ne-eqb}
 use Rattle.floats.specs.Numbers.{num}
 use Rattle.floats.specs.Lists.{upto, flatten, all}
-use Rattle.layout.specs.Layout.{rCells}
+use Rattle.layout.specs.Layout.{rCells, lineNumbers, rowWords}
 use Rattle.row_cells.specs.Codes.{planeOk}
 use Rattle.row_cells.specs.Bits.{has}
 use Rattle.row_cells.specs.Row.{lineOf, motionOf, planeOf, markOf, presentOf}
@@ -207,22 +207,22 @@ unfolding markText
 marked row e u v w = rw (ne-eqb (markOf row) 0 e) (wrote-then u (wrote-then v w))
 
 module _ (row o : List ℕ) (n : ℕ) where
-  pub line-high : 4294967296 ≤ lineOf row → Tried (writable row) (rowText row) o n o Placed.Refused
+  pub line-high : lineNumbers ≤ lineOf row → Tried (writable row) (rowText row) o n o Placed.Refused
   unfolding writable headOk
-  line-high h = not-tried (not-left _ _ (not-left _ _ (le-ltb (lineOf row) 4294967296 h)))
+  line-high h = not-tried (not-left _ _ (not-left _ _ (le-ltb (lineOf row) lineNumbers h)))
 
   pub motion-high : 16 ≤ motionOf row → Tried (writable row) (rowText row) o n o Placed.Refused
   unfolding writable headOk
-  motion-high h = not-tried (not-left _ _ (not-right (ltb (lineOf row) 4294967296) _ (not-left _ _ (le-ltb (motionOf row) 16 h))))
+  motion-high h = not-tried (not-left _ _ (not-right (ltb (lineOf row) lineNumbers) _ (not-left _ _ (le-ltb (motionOf row) 16 h))))
 
   pub no-plane : planeOk (planeOf row) ≡ false → Tried (writable row) (rowText row) o n o Placed.Refused
   unfolding writable headOk
-  no-plane h = not-tried (not-left _ _ (not-right (ltb (lineOf row) 4294967296) _ (not-right (ltb (motionOf row) 16) (planeOk (planeOf row)) h)))
+  no-plane h = not-tried (not-left _ _ (not-right (ltb (lineOf row) lineNumbers) _ (not-right (ltb (motionOf row) 16) (planeOk (planeOf row)) h)))
 
-  module _ (l : lineOf row < 4294967296) (m : motionOf row < 16) (p : planeOk (planeOf row) ≡ true) where
+  module _ (l : lineOf row < lineNumbers) (m : motionOf row < 16) (p : planeOk (planeOf row) ≡ true) where
     head-fine : headOk row ≡ true
     unfolding headOk
-    head-fine = both _ _ (lt-ltb (lineOf row) 4294967296 l) (both _ _ (lt-ltb (motionOf row) 16 m) p)
+    head-fine = both _ _ (lt-ltb (lineOf row) lineNumbers l) (both _ _ (lt-ltb (motionOf row) 16 m) p)
 
     pub behind-head : {o₁ : List ℕ} {a : ℕ} → Wrote o n (joined (headFields row)) o₁ a → a ≤ n + 26
     behind-head w = omega (arith, w .next, head-length row m (plane-low (planeOf row) p))
@@ -275,10 +275,11 @@ module _ (row o : List ℕ) (n : ℕ) where
 
 -- ---- `is_plane`
 -- ---- rows one after another
-pub row-part : (rows : List ℕ) (i from to : ℕ) → from ≡ i * 29 → to ≡ from + 29 → take (to - from) (drop from rows) ≡ rowAt rows i
-row-part rows i from to e f = let k : to - from ≡ 29 = omega arith in ap (λ (z : ℕ). take z (drop from rows)) k ∙ ap (λ (z : ℕ). take 29 (drop z rows)) e
+pub row-part : (rows : List ℕ) (i from to : ℕ) → from ≡ i * rowWords → to ≡ from + rowWords → take (to - from) (drop from rows) ≡ rowAt rows i
+row-part rows i from to e f = let k : to - from ≡ rowWords = omega arith in ap (λ (z : ℕ). take z (drop from rows)) k ∙ ap
+    (λ (z : ℕ). take rowWords (drop z rows)) e
 
-pub part-tried : {o o′ : List ℕ} {n : ℕ} {r : Placed} (rows : List ℕ) (i from to : ℕ) → from ≡ i * 29 → to ≡ from + 29
+pub part-tried : {o o′ : List ℕ} {n : ℕ} {r : Placed} (rows : List ℕ) (i from to : ℕ) → from ≡ i * rowWords → to ≡ from + rowWords
     → Tried (writable (take (to - from) (drop from rows))) (rowText (take (to - from) (drop from rows))) o n o′ r
     → Tried (writable (rowAt rows i)) (rowText (rowAt rows i)) o n o′ r
 part-tried {o} {o′} {n} {r} rows i from to e f t = subst (λ (z : List ℕ). Tried (writable z) (rowText z) o n o′ r) (row-part rows i from to e f) t

@@ -11,7 +11,7 @@ use lib.Ieee.{Float, binary64, lt, ofBits}
 use borrow.Author.Tests.{ltb-true}
 use Rattle.floats.specs.Numbers.{num}
 use Rattle.floats.specs.Lists.{upto, flatten, all}
-use Rattle.layout.specs.Layout.{rCells}
+use Rattle.layout.specs.Layout.{rCells, lineNumbers}
 use Rattle.row_cells.specs.Codes.{planeOk}
 use Rattle.row_cells.specs.Bits.{has}
 use Rattle.row_cells.specs.Row.{lineOf, motionOf, planeOf, markOf, presentOf}
@@ -146,7 +146,7 @@ pub row-length : (r : List ℕ) → writable r ≡ true → length (rowText r) �
 unfolding writable headOk markText
 row-length r e =
     let h = both-left (headOk r) (all columnCount (cellShown r)) e in
-    let k = both-right (ltb (lineOf r) 4294967296) (ltb (motionOf r) 16 && planeOk (planeOf r)) h in
+    let k = both-right (ltb (lineOf r) lineNumbers) (ltb (motionOf r) 16 && planeOk (planeOf r)) h in
     let m = ltb-true (motionOf r) 16 (both-left (ltb (motionOf r) 16) (planeOk (planeOf r)) k) in
     let p = plane-low (planeOf r) (both-right (ltb (motionOf r) 16) (planeOk (planeOf r)) k) in
     total r (head-length r m p) (cells-length r (both-right (headOk r) (all columnCount (cellShown r)) e))

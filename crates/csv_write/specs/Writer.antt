@@ -8,7 +8,7 @@ use lib.ListN.{length, take, drop, getD}
 use lib.Seq.{sets}
 use Rattle.floats.specs.Numbers.{num}
 use Rattle.floats.specs.Lists.{upto, flatten, all}
-use Rattle.layout.specs.Layout.{rCells, rowWords}
+use Rattle.layout.specs.Layout.{rCells, rowWords, lineNumbers}
 use Rattle.row_cells.specs.Codes.{planeOk}
 use Rattle.row_cells.specs.Bits.{has}
 use Rattle.row_cells.specs.Row.{lineOf, motionOf, planeOf, markOf, presentOf}
@@ -47,7 +47,7 @@ rowText r = joined (outFields r) ++ crlf
 
 -- a row has a text where its line number, its words and its numbers have one; refusal 10 is for the numbers, and no row that a flattener gives lacks the others
 unfoldable pub headOk : List ℕ → Bool
-headOk r = ltb (lineOf r) 4294967296 && (ltb (motionOf r) 16 && planeOk (planeOf r))
+headOk r = ltb (lineOf r) lineNumbers && (ltb (motionOf r) 16 && planeOk (planeOf r))
 
 unfoldable pub writable : List ℕ → Bool
 writable r = headOk r && all columnCount (cellShown r)

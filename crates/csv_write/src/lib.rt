@@ -4,6 +4,7 @@ use csv_fields::put_byte;
 use csv_line::COLUMNS;
 use csv_line::code_at;
 use csv_line::put_crlf;
+use layout::LINE_NUMBERS;
 use layout::R_CELLS;
 use layout::R_LINE;
 use layout::R_MARK;
@@ -15,6 +16,7 @@ ghost use mathlib.Core.Path.{_≡_};
 ghost use mathlib.Core.List.{_∷_, _++_};
 ghost use Prim.Native.Nat.{_+_, _*_, _≤_, _<_};
 ghost use lib.ListN.{length};
+ghost use Rattle.layout.specs.Layout.{rowWords};
 ghost use Rattle.floats.specs.Lists.{all};
 ghost use Rattle.row_cells.specs.Row.{motionOf, planeOf};
 ghost use Rattle.csv_fields.specs.Out.{Wrote};
@@ -23,11 +25,9 @@ ghost use Rattle.csv_write.specs.Writer.{cellText, cellShown, cellTexts,
 
 const MOTIONS: u64 = 16;
 
-const LINES: u64 = 4294967296;
-
 // A comma and the cell of column i.
 fn put_cell(row: &[u64], out: &mut [u8], n: usize, i: usize) -> Placed
-    requires { ⌜ (length (now row) ≡ 29) × ((i < 11) × (n + 18 ≤ length (now out))) ⌝ }
+    requires { ⌜ (length (now row) ≡ rowWords) × ((i < 11) × (n + 18 ≤ length (now out))) ⌝ }
     ensures { λ r. ⌜ Tried (cellShown (now (row .entry)) i) (comma ∷ cellText (now (row .entry)) i) (now (out .entry)) n (now (out .exit)) r ⌝ }
 {
     let at = put_byte(out, n, b',');
@@ -39,7 +39,7 @@ fn put_cell(row: &[u64], out: &mut [u8], n: usize, i: usize) -> Placed
 }
 
 fn put_cells(row: &[u64], out: &mut [u8], n: usize) -> Placed
-    requires { ⌜ (length (now row) ≡ 29) × (n + 198 ≤ length (now out)) ⌝ }
+    requires { ⌜ (length (now row) ≡ rowWords) × (n + 198 ≤ length (now out)) ⌝ }
     ensures { λ r. ⌜ Tried (all 11 (cellShown (now (row .entry)))) (tailed (cellTexts (now (row .entry)) 11)) (now (out .entry)) n (now (out .exit)) r ⌝ }
 {
     let mut at = n;
@@ -56,7 +56,7 @@ fn put_cells(row: &[u64], out: &mut [u8], n: usize) -> Placed
 
 // The source line, the motion word and the plane word.
 fn put_head(row: &[u64], out: &mut [u8], n: usize) -> usize
-    requires { ⌜ (length (now row) ≡ 29) × ((motionOf (now row) < 16) × ((planeOf (now row) < 20) × (n + 26 ≤ length (now out)))) ⌝ }
+    requires { ⌜ (length (now row) ≡ rowWords) × ((motionOf (now row) < 16) × ((planeOf (now row) < 20) × (n + 26 ≤ length (now out)))) ⌝ }
     ensures { λ r. ⌜ Wrote (now (out .entry)) n (joined (headFields (now (row .entry)))) (now (out .exit)) r ⌝ }
 {
     let a = csv_fields::put_whole(out, n, row[R_LINE]);
@@ -68,7 +68,7 @@ fn put_head(row: &[u64], out: &mut [u8], n: usize) -> usize
 
 // The mark, and the end of the line.
 fn put_end(row: &[u64], out: &mut [u8], n: usize) -> usize
-    requires { ⌜ (length (now row) ≡ 29) × (n + 4 ≤ length (now out)) ⌝ }
+    requires { ⌜ (length (now row) ≡ rowWords) × (n + 4 ≤ length (now out)) ⌝ }
     ensures { λ r. ⌜ Wrote (now (out .entry)) n (comma ∷ (markText (now (row .entry)) ++ crlf)) (now (out .exit)) r ⌝ }
 {
     let a = put_byte(out, n, b',');
@@ -81,10 +81,10 @@ fn put_end(row: &[u64], out: &mut [u8], n: usize) -> usize
 
 // The line of a row from n on, where it has one. None is longer than 224 bytes.
 pub fn write_row(row: &[u64], out: &mut [u8], n: usize) -> Placed
-    requires { ⌜ (length (now row) ≡ 29) × (n + 256 ≤ length (now out)) ⌝ }
+    requires { ⌜ (length (now row) ≡ rowWords) × (n + 256 ≤ length (now out)) ⌝ }
     ensures { λ r. ⌜ Tried (writable (now (row .entry))) (rowText (now (row .entry))) (now (out .entry)) n (now (out .exit)) r ⌝ }
 {
-    if row[R_LINE] >= LINES {
+    if row[R_LINE] >= LINE_NUMBERS {
         return Placed::Refused;
     }
     if row[R_MOTION] >= MOTIONS {
@@ -103,7 +103,7 @@ pub fn write_row(row: &[u64], out: &mut [u8], n: usize) -> Placed
 
 // The lines of the first `count` rows from n on, where each has one.
 pub fn write_rows(rows: &[u64], count: usize, out: &mut [u8], n: usize) -> Placed
-    requires { ⌜ (count * 29 ≤ length (now rows)) × (n + 256 * count ≤ length (now out)) ⌝ }
+    requires { ⌜ (count * rowWords ≤ length (now rows)) × (n + 256 * count ≤ length (now out)) ⌝ }
     ensures { λ r. ⌜ Tried (rowsWritable (now (rows .entry)) count) (rowsText (now (rows .entry)) count) (now (out .entry)) n (now (out .exit)) r ⌝ }
 {
     let mut at = n;

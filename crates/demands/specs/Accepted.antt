@@ -8,8 +8,8 @@ use mathlib.Core.Option.{none}
 use lib.ListN.{length, getD}
 use lib.Dec.{leb, ltb, eqb}
 use borrow.Author.Tests.{eqb-true, eqb-false, ne-eqb, leb-true, leb-false, ltb-true}
-use Rattle.layout.specs.Layout.{axisCodes, rowWords, wKnown, wStart, stateWords, mostHeld, mostDegree}
-use Rattle.motion.specs.Motion.{isSpline}
+use Rattle.layout.specs.Layout.{axisCodes, rowWords, wKnown, wStart, stateWords, mostHeld, mostDegree, listCodes, wTolerance}
+use Rattle.motion.specs.Motion.{isSpline, lastMotion}
 use Rattle.floats.specs.Lists.{all}
 use Rattle.row_check.specs.Check.{shapeOk, numbersOk, turnOk, rowCheck}
 use Rattle.row_cells.specs.Masks.{has-past}
@@ -53,7 +53,7 @@ conj-at (b ∷ d ∷ bs) (suc i) p = conj-at (d ∷ bs) i (and-right b (conj (d 
 
 abbrev tests : List ℕ → List Bool
 tests st =
-    eqb (length st) stateWords ∷ tolOk (getD st 0 0) ∷ axesOk st ∷ (leb 1 (motionNow st) && leb (motionNow st) 31)
+    eqb (length st) stateWords ∷ tolOk (getD st wTolerance 0) ∷ axesOk st ∷ (leb 1 (motionNow st) && leb (motionNow st) lastMotion)
     ∷ (leb 17 (planeNow st) && leb (planeNow st) 19) ∷ pointOk st wKnown ∷ pointOk st wStart
     ∷ (leb 1 (degree st) && leb (degree st) mostDegree) ∷ heldOk st ∷ []
 
@@ -64,9 +64,9 @@ test st i h = conj-at (tests st) i h
 pub state-words : (st : List ℕ) → stateOk st ≡ true → length st ≡ stateWords
 state-words st h = eqb-true (length st) stateWords (test st 0 h)
 
-pub few-axes : (st : List ℕ) → stateOk st ≡ true → axisCount st ≤ 15
+pub few-axes : (st : List ℕ) → stateOk st ≡ true → axisCount st ≤ listCodes
 unfolding axesOk
-few-axes st h = leb-true (axisCount st) 15 (and-left (leb (axisCount st) 15) _ (test st 2 h))
+few-axes st h = leb-true (axisCount st) listCodes (and-left (leb (axisCount st) listCodes) _ (test st 2 h))
 
 -- no axis is known past the last
 past-point : (st : List ℕ) (w : ℕ) → pointOk st w ≡ true → (k : ℕ) → axisCodes ≤ k → pointWord st w k ≡ none

@@ -14,8 +14,24 @@ use Rattle.floats.specs.Lists.{member, spliced, all}
 use Rattle.floats.specs.Fill.{length-upto, at-upto}
 use Rattle.floats.specs.Splice.{length-spliced}
 use Rattle.whole.specs.Whole.{truncCount}
-use Rattle.layout.specs.Layout.{axisCodes, rowWords, rCells, wMotion, wPlane, wKnown, wWarned, wStart, wDegree, wHeld, stateWords, mostHeld, mostDegree, cSD}
-use Rattle.motion.specs.Motion.{isSpline}
+use Rattle.layout.specs.Layout.{
+  axisCodes,
+  rowWords,
+  rCells,
+  wMotion,
+  wPlane,
+  wKnown,
+  wWarned,
+  wStart,
+  wDegree,
+  wHeld,
+  stateWords,
+  mostHeld,
+  mostDegree,
+  cSD,
+  listCodes,
+}
+use Rattle.motion.specs.Motion.{isSpline, lastMotion}
 use Rattle.row_cells.specs.Codes.{planeOk}
 use Rattle.row_cells.specs.Bits.{has, withBit}
 use Rattle.row_check.specs.Check.{within, rowCheck}
@@ -38,10 +54,10 @@ use Rattle.push_check.specs.BlockLaws.{full-room}
 use Rattle.saved_state.specs.Checked.{saved-ok, saved-rows}
 
 -- ---- points
-module _ (st st′ : List ℕ) (s : SameAxes st st′) (few : axisCount st ≤ 15) (long : length st ≡ stateWords) where
+module _ (st st′ : List ℕ) (s : SameAxes st st′) (few : axisCount st ≤ listCodes) (long : length st ≡ stateWords) where
   pub axes-same : axesOk st′ ≡ axesOk st
   unfolding axesOk
-  axes-same = ap₂ (λ (n : ℕ) (l : List ℕ). leb n 15 && codesOk l) (s .low 1 (omega arith)) (same-codes st st′ s few long)
+  axes-same = ap₂ (λ (n : ℕ) (l : List ℕ). leb n listCodes && codesOk l) (s .low 1 (omega arith)) (same-codes st st′ s few long)
 
   -- a point whose mask and present numbers are another's
   pub point-from : (w w′ : ℕ) → getD st′ w′ 0 ≡ getD st w 0
@@ -68,7 +84,7 @@ no-point st w e =
 
 -- ---- a state with another's axes, and the rest as it must be
 pub record Rest (st : List ℕ) : Type 0 where
-  pub motion : (leb 1 (motionNow st) && leb (motionNow st) 31) ≡ true
+  pub motion : (leb 1 (motionNow st) && leb (motionNow st) lastMotion) ≡ true
   pub plane : (leb 17 (planeNow st) && leb (planeNow st) 19) ≡ true
   pub known : pointOk st wKnown ≡ true
   pub start : pointOk st wStart ≡ true
@@ -90,8 +106,8 @@ good-from st st′ g s r =
     }
 
 -- a field by its word
-word-motion : (st st′ : List ℕ) → motionNow st′ ≡ motionNow st → Good st → (leb 1 (motionNow st′) && leb (motionNow st′) 31) ≡ true
-word-motion st st′ e g = ap (λ (n : ℕ). leb 1 n && leb n 31) e ∙ g .motion
+word-motion : (st st′ : List ℕ) → motionNow st′ ≡ motionNow st → Good st → (leb 1 (motionNow st′) && leb (motionNow st′) lastMotion) ≡ true
+word-motion st st′ e g = ap (λ (n : ℕ). leb 1 n && leb n lastMotion) e ∙ g .motion
 
 word-plane : (st st′ : List ℕ) → planeNow st′ ≡ planeNow st → Good st → (leb 17 (planeNow st′) && leb (planeNow st′) 19) ≡ true
 word-plane st st′ e g = ap (λ (n : ℕ). leb 17 n && leb n 19) e ∙ g .plane
@@ -249,7 +265,7 @@ good-to (suc n) st r g p h =
 
 -- ---- one word set, away from the points
 pub record Four (st : List ℕ) : Type 0 where
-  pub motion : (leb 1 (motionNow st) && leb (motionNow st) 31) ≡ true
+  pub motion : (leb 1 (motionNow st) && leb (motionNow st) lastMotion) ≡ true
   pub plane : (leb 17 (planeNow st) && leb (planeNow st) 19) ≡ true
   pub power : (leb 1 (degree st) && leb (degree st) mostDegree) ≡ true
   pub count : heldOk st ≡ true
@@ -412,12 +428,12 @@ kept-curve st r g d =
     (λ a. let p : (leb (held st) mostHeld && (eqb (held st) 0 || isSpline (motionNow st))) ≡ true = g .count in
     sym (or-f (isSpline (motionNow st)) a) ∙ and-right (leb (held st) mostHeld) (eqb (held st) 0 || isSpline (motionNow st)) p)
 
-or-now-motion : (v now : ℕ) → v ≤ 31 → (leb 1 now && leb now 31) ≡ true → (leb 1 (orNow v now) && leb (orNow v now) 31) ≡ true
+or-now-motion : (v now : ℕ) → v ≤ lastMotion → (leb 1 now && leb now lastMotion) ≡ true → (leb 1 (orNow v now) && leb (orNow v now) lastMotion) ≡ true
 unfolding orNow
 or-now-motion v now h p =
     by-bit (eqb v 0)
     (λ b. rw b p)
-    (λ b. let d : v ≡ 0 → ⊥ = eqb-false v 0 b in rw b (and-i (le-leb 1 v (omega (arith, d))) (le-leb v 31 h)))
+    (λ b. let d : v ≡ 0 → ⊥ = eqb-false v 0 b in rw b (and-i (le-leb 1 v (omega (arith, d))) (le-leb v lastMotion h)))
 
 or-now-plane : (v now : ℕ) → planeOk v ≡ true → (leb 17 now && leb now 19) ≡ true → (leb 17 (orNow v now) && leb (orNow v now) 19) ≡ true
 unfolding orNow planeOk
@@ -475,7 +491,7 @@ module _ (st r : List ℕ) (ok : stateOk st ≡ true) (pass : rowCheck r ≡ 0) 
   good-2 =
       good-from s1 s2 good-1 same-12
       (record {
-        motion = ap (λ (n : ℕ). leb 1 n && leb n 31) motion-2 ∙ or-now-motion (motionOf r) (motionNow st) (check-motion r pass) (g₀ .motion);
+        motion = ap (λ (n : ℕ). leb 1 n && leb n lastMotion) motion-2 ∙ or-now-motion (motionOf r) (motionNow st) (check-motion r pass) (g₀ .motion);
         plane = ap (λ (n : ℕ). leb 17 n && leb n 19) plane-2 ∙ or-now-plane (planeOf r) (planeNow st) (check-plane r pass) (g₀ .plane);
         known = point-stays s1 s2 good-1 same-12 wKnown (λ j l. keeps-2 (wKnown + j) (λ e. omega arith) (λ e. omega arith)) (good-1 .known);
         start = point-stays s1 s2 good-1 same-12 wStart (λ j l. keeps-2 (wStart + j) (λ e. omega arith) (λ e. omega arith)) (good-1 .start);

@@ -41,14 +41,14 @@ pub forgotten-length : (st : List ℕ) → length st ≡ stateWords → length (
 unfolding forgotten
 forgotten-length st e =
     let z : List ℕ = upto (λ (k : ℕ). 0) (axisCodes + 1) in
-    let n : length z ≡ 11 = length-upto _ _ in
+    let n : length z ≡ (axisCodes + 1) = length-upto _ _ in
     length-set (spliced st wStart z) wHeld 0 ∙ length-spliced st wStart z (omega (arith, e, n)) ∙ e
 
 pub opened-length : (st : List ℕ) → length st ≡ stateWords → length (opened st) ≡ stateWords
 unfolding opened
 opened-length st e =
     let p : List ℕ = upto (λ (k : ℕ). Option·getD (position st k) 0) axisCodes in
-    let n : length p ≡ 10 = length-upto _ _ in
+    let n : length p ≡ axisCodes = length-upto _ _ in
     length-set (spliced st wStart (getD st wKnown 0 ∷ p)) wDegree 3 ∙ length-spliced st wStart (getD st wKnown 0 ∷ p) (omega (arith, e, n)) ∙ e
 
 pub buffered-length : (st r : List ℕ) → length st ≡ stateWords → length (buffered st r) ≡ stateWords

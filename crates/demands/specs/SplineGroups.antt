@@ -33,7 +33,7 @@ use Rattle.bspline_tables.specs.BasisLaws.{runs-length}
 use Rattle.bspline_tables.specs.LastRun.{last-run}
 use Rattle.bspline_tables.specs.EndPoint.{end-point}
 use Rattle.curve_runs.specs.Runs.{curveRuns}
-use Rattle.spline_emission.specs.Emission.{Spline, isBasis, pointRows, channels, startPoint, pointsFrom, metricOf, weightOf, runsOf, placeOf, sampleCell}
+use Rattle.spline_emission.specs.Emission.{Spline, isBspline, pointRows, channels, startPoint, pointsFrom, metricOf, weightOf, runsOf, placeOf, sampleCell}
 use Rattle.spline_emission.specs.Emission.{ownCell, isMarked, pointGroup, heldGroup}
 use Rattle.demands.specs.Demands.{Bare}
 use Rattle.demands.specs.Laws.{some-same, none-some, Every, every-head, every-tail, every-keep}
@@ -121,7 +121,7 @@ module _ (sp : Spline) (B : List (List ℕ)) (r : List ℕ) (M : List (List ℕ)
   fit : List (List (List Float))
   fit = fitRuns (isCubic (sp .motion)) (metricOf (channels sp)) (sp .tol) pts
 
-  runs-is : runsOf sp ≡ cond (isBasis sp) bas fit
+  runs-is : runsOf sp ≡ cond (isBspline sp) bas fit
   unfolding runsOf curveRuns bas fit pts ws
   runs-is = refl
 
@@ -133,7 +133,7 @@ module _ (sp : Spline) (B : List (List ℕ)) (r : List ℕ) (M : List (List ℕ)
   unfolding bas fit
   runs-size =
       ap length runs-is
-      ∙ by-bit (isBasis sp)
+      ∙ by-bit (isBspline sp)
       (λ b.
       ap length (cond-t bas fit b)
       ∙ runs-length (sp .power) (metricOf (channels sp)) (sp .tol) pts ws
@@ -183,7 +183,7 @@ module _ (sp : Spline) (B : List (List ℕ)) (r : List ℕ) (M : List (List ℕ)
           ∙ point-number (channels sp) (q .from) r k v m e
 
       -- a fit's: the programmed point
-      fit-end : isBasis sp ≡ false → (length run ≡ 0 → ⊥) → end ≡ pointOf pts (length X + 1)
+      fit-end : isBspline sp ≡ false → (length run ≡ 0 → ⊥) → end ≡ pointOf pts (length X + 1)
       unfolding end run fit
       fit-end b has =
           let e : run ≡ getD fit (length X) [] = ap (λ (l : List (List (List Float))). getD l (length X) []) (runs-is ∙ cond-f bas fit b) in
@@ -193,7 +193,7 @@ module _ (sp : Spline) (B : List (List ℕ)) (r : List ℕ) (M : List (List ℕ)
           (fit-ends (isCubic (sp .motion)) (metricOf (channels sp)) (sp .tol) pts (length X) run-within)
 
       -- a B-spline's last: the curve's end
-      basis-end : isBasis sp ≡ true → length Y ≡ 0 → end ≡ evalBasis (basisOf (sp .power) pts ws) (ofNat (spansOf (basisOf (sp .power) pts ws)))
+      basis-end : isBspline sp ≡ true → length Y ≡ 0 → end ≡ evalBasis (basisOf (sp .power) pts ws) (ofNat (spansOf (basisOf (sp .power) pts ws)))
       unfolding end run bas
       basis-end b z =
           let n : length pts ≡ suc (length X + suc (length Y)) = pts-length ∙ ap suc (rows-length y) in
@@ -233,7 +233,7 @@ module _ (sp : Spline) (B : List (List ℕ)) (r : List ℕ) (M : List (List ℕ)
       start-length = length-map (channels sp) _
 
       -- 8.9: on the last point of a B-spline this asks for weight 1
-      basis-number : isBasis sp ≡ true → length Y ≡ 0 → eq (weightOf r) f1 ≡ true → (k v : ℕ) → member k (channels sp) ≡ true → cell r k ≡ some v
+      basis-number : isBspline sp ≡ true → length Y ≡ 0 → eq (weightOf r) f1 ≡ true → (k v : ℕ) → member k (channels sp) ≡ true → cell r k ≡ some v
           → tidy (at end (placeOf k (channels sp))) ≡ tidy (num v)
       basis-number b z one k v m e =
           let c : ℕ = placeOf k (channels sp) in
@@ -249,7 +249,7 @@ module _ (sp : Spline) (B : List (List ℕ)) (r : List ℕ) (M : List (List ℕ)
           ∙ weight-one (weightOf r) (subst (λ (x : Float). T (fits binary64 x)) (own-weight z) (word-fits (weight-words (length pts - 1) (omega arith)))) one)
           ∙ ap tidy (ap (λ (i : ℕ). at (pointOf pts i) c) last ∙ own-point k v m e)
 
-      basis-fits : isBasis sp ≡ true → length Y ≡ 0 → (k : ℕ) → member k (channels sp) ≡ true → T (fits binary64 (at end (placeOf k (channels sp))))
+      basis-fits : isBspline sp ≡ true → length Y ≡ 0 → (k : ℕ) → member k (channels sp) ≡ true → T (fits binary64 (at end (placeOf k (channels sp))))
       unfolding evalBasis basisOf
       basis-fits b z k m =
           let q : Placed k (channels sp) = place-of k (channels sp) m in
@@ -260,13 +260,13 @@ module _ (sp : Spline) (B : List (List ℕ)) (r : List ℕ) (M : List (List ℕ)
           (div-fits binary64 _ _)
 
       -- ---- the group
-      module _ {asks : Type 0} (ask : isBasis sp ≡ true → length Y ≡ 0 → asks → eq (weightOf r) f1 ≡ true) where
-        end-number : (isBasis sp && not (eqb (length X + 1) (length (runsOf sp)))) ≡ false → (length run ≡ 0 → ⊥) → asks → (k v : ℕ)
+      module _ {asks : Type 0} (ask : isBspline sp ≡ true → length Y ≡ 0 → asks → eq (weightOf r) f1 ≡ true) where
+        end-number : (isBspline sp && not (eqb (length X + 1) (length (runsOf sp)))) ≡ false → (length run ≡ 0 → ⊥) → asks → (k v : ℕ)
             → member k (channels sp) ≡ true → member k (sp .axes) ≡ true → cell r k ≡ some v → eq (num (bits (at end (placeOf k (channels sp))))) (num v) ≡ true
         end-number f has a k v m g e =
             let low-code : k < axisCodes = small k g in
             let passes : within v ≡ true = programmed (sp .axes) r fine k v (omega arith) e in
-            by-bit (isBasis sp)
+            by-bit (isBspline sp)
             (λ b.
             let t : eqb (length X + 1) (length (runsOf sp)) ≡ true = not-false _
             (sym (ap (λ (z : Bool). z && not (eqb (length X + 1) (length (runsOf sp)))) b) ∙ f) in
@@ -277,7 +277,7 @@ module _ (sp : Spline) (B : List (List ℕ)) (r : List ℕ) (M : List (List ℕ)
             (λ b. ap (λ (x : Float). eq (num (bits x)) (num v)) (ap (λ (p : List Float). at p (placeOf k (channels sp))) (fit-end b has) ∙ own-point k v m e)
             ∙ shown-bits v passes)
 
-        end-shows : (isBasis sp && not (eqb (length X + 1) (length (runsOf sp)))) ≡ false → (length run ≡ 0 → ⊥) → asks → (k v w : ℕ)
+        end-shows : (isBspline sp && not (eqb (length X + 1) (length (runsOf sp)))) ≡ false → (length run ≡ 0 → ⊥) → asks → (k v w : ℕ)
             → member k (sp .axes) ≡ true → cell r k ≡ some v → sampleCell (channels sp) end k ≡ some w → eq (num w) (num v) ≡ true
         unfolding sampleCell
         end-shows f has a k v w g e c =
@@ -310,17 +310,18 @@ module _ (sp : Spline) (B : List (List ℕ)) (r : List ℕ) (M : List (List ℕ)
         unfolding row isMarked
         row-marked i h =
             made-mark (sp .axes) r _ _ _ _
-            ∙ ap (λ (b : Bool). cond (not b || (isBasis sp && not (eqb (length X + 1) (length (runsOf sp))))) 1 0)
+            ∙ ap (λ (b : Bool). cond (not b || (isBspline sp && not (eqb (length X + 1) (length (runsOf sp))))) 1 0)
             (ne-eqb (i + 1) (length run) (λ z. omega arith))
 
-        row-end : 0 < length run → markOf (row (length run - 1)) ≡ 0 → (isBasis sp && not (eqb (length X + 1) (length (runsOf sp)))) ≡ false
+        row-end : 0 < length run → markOf (row (length run - 1)) ≡ 0 → (isBspline sp && not (eqb (length X + 1) (length (runsOf sp)))) ≡ false
         unfolding row isMarked
         row-end p u =
             let i : length run - 1 + 1 ≡ length run = omega arith in
             unmarked _
             (sym
             (made-mark (sp .axes) r _ _ _ _
-            ∙ ap (λ (b : Bool). cond (not b || (isBasis sp && not (eqb (length X + 1) (length (runsOf sp))))) 1 0) (eq-eqb (length run - 1 + 1) (length run) i))
+            ∙ ap (λ (b : Bool). cond (not b || (isBspline sp && not (eqb (length X + 1) (length (runsOf sp))))) 1 0)
+            (eq-eqb (length run - 1 + 1) (length run) i))
             ∙ u)
 
         made-shaped : (length run ≡ 0 → ⊥) → Shaped (sp .axes) r asks (upto row (length run))
@@ -336,9 +337,9 @@ module _ (sp : Spline) (B : List (List ℕ)) (r : List ℕ) (M : List (List ℕ)
         bare-shaped =
             one-shaped _ (made-formed (sp .axes) r _ _ _ _) (made-line (sp .axes) r _ _ _ _) (made-carries (sp .axes) r word0 false (ownCell sp r))
             (λ a. made-shows (sp .axes) r fine true word0 false (ownCell sp r)
-            (λ k m. cond-f (cell r k) none (ap (λ (b : Bool). b && not (isBasis sp)) m))
+            (λ k m. cond-f (cell r k) none (ap (λ (b : Bool). b && not (isBspline sp)) m))
             (λ k v w g e c. let h : k < axisCodes = small k g in
-            by-bit (member k (sp .axes) && not (isBasis sp))
+            by-bit (member k (sp .axes) && not (isBspline sp))
             (λ b. same-number (sp .axes) r fine k v w (omega arith) e (sym (cond-t (cell r k) none b) ∙ c))
             (λ b. absurd (none-some (sym (cond-f (cell r k) none b) ∙ c)))))
 
@@ -351,7 +352,7 @@ module _ (sp : Spline) (B : List (List ℕ)) (r : List ℕ) (M : List (List ℕ)
 
     -- a held block of a spline
     pub held-shaped : {asks : Type 0}
-        → (isBasis sp ≡ true → hasPoint (sp .axes) r ≡ true → length (keep (hasPoint (sp .axes)) M) ≡ 0 → asks → eq (weightOf r) f1 ≡ true)
+        → (isBspline sp ≡ true → hasPoint (sp .axes) r ≡ true → length (keep (hasPoint (sp .axes)) M) ≡ 0 → asks → eq (weightOf r) f1 ≡ true)
         → Shaped (sp .axes) r asks (heldGroup sp (runsOf sp) (length B))
     unfolding run Y P
     held-shaped {asks} ask =

@@ -12,7 +12,7 @@ use lib.Dec.{leb, eqb, ltb}
 use borrow.Author.Tests.{eqb-true, eqb-false, eq-eqb, ne-eqb, leb-true, lt-ltb, ltb-true}
 use Rattle.floats.specs.Lists.{upto, member, spliced, all}
 use Rattle.floats.specs.Fill.{length-upto, at-upto}
-use Rattle.layout.specs.Layout.{axisCodes, cSD, rowWords, wAxes, wKnown, wStart, wMotion, wPlane, wDegree, wHeld, stateWords, mostHeld}
+use Rattle.layout.specs.Layout.{axisCodes, cSD, rowWords, wAxes, wKnown, wStart, wMotion, wPlane, wDegree, wHeld, stateWords, mostHeld, listCodes, wTolerance}
 use Rattle.motion.specs.Motion.{isSpline}
 use Rattle.row_cells.specs.Codes.{geometricOf}
 use Rattle.row_cells.specs.Bits.{has}
@@ -36,7 +36,7 @@ use Rattle.demands.specs.StateWords.{later-start}
 use Rattle.demands.specs.StoreRows.{held-after}
 
 pub record Stands (tol : ℕ) (gs : List ℕ) (s : Standing) (st store : List ℕ) : Type 0 where
-  pub tolerance : getD st 0 0 ≡ tol
+  pub tolerance : getD st wTolerance 0 ≡ tol
   pub axes : geometric st ≡ gs
   pub motion : motionNow st ≡ s .motion
   pub plane : planeNow st ≡ s .plane
@@ -309,13 +309,13 @@ module _ {tol : ℕ} {gs : List ℕ} {s : Standing} {st store : List ℕ} (r : L
 
 -- ---- a seed
 module _ {tol : ℕ} {gs : List ℕ} {s : Standing} {st store : List ℕ} (c x : ℕ) (t : Stands tol gs s st store) (n : length st ≡ stateWords)
-    (few : axisCount st ≤ 15) where
+    (few : axisCount st ≤ listCodes) where
   module _ (on : member c gs ≡ true) where
     low-code : c < axisCodes
     unfolding geometric
     low-code = small-axes (take (axisCount st) (drop wAxes st)) c (ap (member c) (t .axes) ∙ on)
 
-    else-word : (j : ℕ) → (wKnown ≤ j → j < wKnown + 11 → ⊥) → getD (placed st c x) j 0 ≡ getD st j 0
+    else-word : (j : ℕ) → (wKnown ≤ j → j < wKnown + (axisCodes + 1) → ⊥) → getD (placed st c x) j 0 ≡ getD st j 0
     else-word j out = let h : c < axisCodes = low-code in placed-else st n c x h j (λ e. out (omega arith) (omega arith)) (λ e. out (omega arith) (omega arith))
 
     seed-place : (k : ℕ) → k < axisCodes → position (placed st c x) k ≡ movedBySeed gs (s .place) c x k
@@ -389,7 +389,8 @@ module _ {tol : ℕ} {gs : List ℕ} {s : Standing} {st store : List ℕ} (c x :
       (λ b. rw b (kept-stands (ap (member c) (sym (t .axes)) ∙ b)))
 
 -- ---- a close
-module _ {tol : ℕ} {gs : List ℕ} {s : Standing} {st store : List ℕ} (t : Stands tol gs s st store) (n : length st ≡ stateWords) (few : axisCount st ≤ 15) where
+module _ {tol : ℕ} {gs : List ℕ} {s : Standing} {st store : List ℕ} (t : Stands tol gs s st store) (n : length st ≡ stateWords)
+    (few : axisCount st ≤ listCodes) where
   forgotten-place : (k : ℕ) → k < axisCodes → position (forgotten st) k ≡ position st k
   unfolding pointWord
   forgotten-place k h =
@@ -431,9 +432,9 @@ module _ {tol : ℕ} {gs : List ℕ} {s : Standing} {st store : List ℕ} (t : S
 
 -- ---- a start
 module _ (tol : ℕ) (axes : List ℕ) (ok : codesOk axes ≡ true) where
-  pub few-codes : length axes ≤ 15
+  pub few-codes : length axes ≤ listCodes
   unfolding codesOk
-  few-codes = leb-true (length axes) 15 (and-left (leb (length axes) 15) (all (length axes) (codeOk axes)) ok)
+  few-codes = leb-true (length axes) listCodes (and-left (leb (length axes) listCodes) (all (length axes) (codeOk axes)) ok)
 
   pub fresh-at : (i : ℕ) → i < stateWords → getD (fresh tol axes) i 0 ≡ freshWord tol axes i
   unfolding fresh
@@ -442,7 +443,7 @@ module _ (tol : ℕ) (axes : List ℕ) (ok : codesOk axes ≡ true) where
   fresh-code : (i : ℕ) → i < length axes → getD (fresh tol axes) (wAxes + i) 0 ≡ getD axes i 0
   unfolding freshWord
   fresh-code i h =
-      let few : length axes ≤ 15 = few-codes in
+      let few : length axes ≤ listCodes = few-codes in
       let e : wAxes + i - wAxes ≡ i = omega arith in
       fresh-at (wAxes + i) (omega arith)
       ∙ cond-f _ _ (ne-eqb (wAxes + i) 0 (λ z. omega arith))
@@ -453,7 +454,7 @@ module _ (tol : ℕ) (axes : List ℕ) (ok : codesOk axes ≡ true) where
   pub fresh-list : take (length axes) (drop wAxes (fresh tol axes)) ≡ axes
   unfolding fresh
   fresh-list =
-      let few : length axes ≤ 15 = few-codes in
+      let few : length axes ≤ listCodes = few-codes in
       let n : length (fresh tol axes) ≡ stateWords = length-upto (freshWord tol axes) stateWords in
       let d : length (drop wAxes (fresh tol axes)) ≡ length (fresh tol axes) - 2 = length-drop wAxes (fresh tol axes) in
       let m : length (take (length axes) (drop wAxes (fresh tol axes))) ≡ length axes =

@@ -4,7 +4,7 @@ use mathlib.Core.Path.{_≡_, refl}
 use mathlib.Core.List.{List, [], _∷_, _++_, map}
 use lib.ListN.{getD, set, replicate}
 use lib.Ieee as Ieee
-use Rattle.layout.specs.Layout.{rowWords, rLine, rMotion, rPresent, rCells}
+use Rattle.layout.specs.Layout.{rowWords, rLine, rMotion, rPresent, rCells, cCR, cOffset, cTURN, stateWords}
 use Rattle.floats.specs.Lists as Lists
 use Rattle.root.specs.Root as Root
 use Rattle.whole.specs.Whole as Whole
@@ -90,27 +90,27 @@ unfolding Lists.upto Lists.keep Lists.member Lists.anyOf Lists.flatten Lists.row
     Pushed.trackTo Pushed.forgotten Pushed.opened Pushed.degreeWith Pushed.buffered Pushed.pushState Pushed.pushStore Push.pushRows Blocks.isFull
     Blocks.pushCheck Close.untouched Replies.tooFew Push.pushDone Push.pushSpec Close.closeRows Close.closeState Close.closeSpec Demands.answer
     Demands.wrote Ieee.add Ieee.sub Ieee.mul Ieee.div Ieee.rem Ieee.neg Ieee.lt Ieee.le Ieee.eq Ieee.ofBits Ieee.toBits Ieee.ofInt lastOf
-asked t cs = lastOf (Start.startSpec (replicate 44 7) t xyz .state) (replicate 116 0) cs
+asked t cs = lastOf (Start.startSpec (replicate stateWords 7) t xyz .state) (replicate (4 * rowWords) 0) cs
 
 -- X and Y programmed on a line, with room for one row
 unfoldable pub from : ℕ → ℕ → Call
-from x y = pushing (replicate 29 7) (row 1 2 (0 ∷ x ∷ 1 ∷ y ∷ []))
+from x y = pushing (replicate rowWords 7) (row 1 2 (0 ∷ x ∷ 1 ∷ y ∷ []))
 
 -- a start with this tolerance: its reply
 unfoldable pub started : ℕ → ℕ
-started t = Start.startSpec (replicate 44 7) t xyz .reply .code
+started t = Start.startSpec (replicate stateWords 7) t xyz .reply .code
 
 -- a block with this TURN: its reply
 unfoldable pub turning : ℕ → ℕ
-turning t = getD (asked w0·1 (pushing (replicate 29 7) (row 1 2 (19 ∷ t ∷ [])) ∷ [])) 0 9
+turning t = getD (asked w0·1 (pushing (replicate rowWords 7) (row 1 2 (cTURN ∷ t ∷ [])) ∷ [])) 0 9
 
 -- from (0,0) to (10,0) with this CR, by G2 and G3: the warning
 unfoldable pub chord : ℕ → ℕ → ℕ
-chord motion cr = getD (asked w0·1 (from 0 0 ∷ pushing (replicate 261 7) (row 2 motion (0 ∷ w10 ∷ 1 ∷ 0 ∷ 18 ∷ cr ∷ [])) ∷ [])) 2 9
+chord motion cr = getD (asked w0·1 (from 0 0 ∷ pushing (replicate (9 * rowWords) 7) (row 2 motion (0 ∷ w10 ∷ 1 ∷ 0 ∷ cCR ∷ cr ∷ [])) ∷ [])) 2 9
 
 -- the full circle of radius 10 at this tolerance: the count
 unfoldable pub circle : ℕ → ℕ
-circle t = getD (asked t (from w10 0 ∷ pushing (replicate 87 7) (row 2 4 (0 ∷ w10 ∷ 1 ∷ 0 ∷ 15 ∷ -w10 ∷ [])) ∷ [])) 1 9
+circle t = getD (asked t (from w10 0 ∷ pushing (replicate (3 * rowWords) 7) (row 2 4 (0 ∷ w10 ∷ 1 ∷ 0 ∷ cOffset ∷ -w10 ∷ [])) ∷ [])) 1 9
 
 -- a B-spline from (0,0) by (10,0) to (10,10), at tolerance 100
 unfoldable pub bent : List ℕ
@@ -119,7 +119,7 @@ bent =
     (from 0 0
     ∷ pushing [] (row 2 6 (0 ∷ w10 ∷ 1 ∷ 0 ∷ []))
     ∷ pushing [] (row 3 0 (0 ∷ w10 ∷ 1 ∷ w10 ∷ []))
-    ∷ closing (replicate 87 7) ∷ [])
+    ∷ closing (replicate (3 * rowWords) 7) ∷ [])
 
 -- 0, -1, NaN and infinity are refused by 1
 tolerances : map started (0 ∷ 0xbff0000000000000 ∷ 0x7ff8000000000000 ∷ 0x7ff0000000000000 ∷ []) ≡ 1 ∷ 1 ∷ 1 ∷ 1 ∷ []

@@ -14,7 +14,7 @@ use borrow.Author.Tests.{eq-eqb, ne-eqb}
 use Rattle.floats.specs.Lists.{upto, member, spliced}
 use Rattle.floats.specs.Fill.{length-upto, at-upto}
 use Rattle.floats.specs.Splice.{length-spliced}
-use Rattle.layout.specs.Layout.{axisCodes, cSD, rCells, wAxes, wMotion, wPlane, wKnown, wWarned, wStart, wDegree, wHeld, stateWords}
+use Rattle.layout.specs.Layout.{axisCodes, cSD, rCells, wAxes, wMotion, wPlane, wKnown, wWarned, wStart, wDegree, wHeld, stateWords, listCodes}
 use Rattle.motion.specs.Motion.{isSpline}
 use Rattle.row_cells.specs.Codes.{geometricOf}
 use Rattle.row_cells.specs.Bits.{has, withBit}
@@ -65,7 +65,8 @@ unfolding withBit
 with-other p k j d = by-bit (has p k) (λ b. rw b) (λ b. rw b (add-other p k j b d))
 
 -- ---- the axes stand below the motion
-pub same-axes : (st st′ : List ℕ) → length st ≡ stateWords → length st′ ≡ stateWords → axisCount st ≤ 15 → ((j : ℕ) → j < wMotion → getD st′ j 0 ≡ getD st j 0)
+pub same-axes : (st st′ : List ℕ) → length st ≡ stateWords → length st′ ≡ stateWords → axisCount st ≤ listCodes →
+    ((j : ℕ) → j < wMotion → getD st′ j 0 ≡ getD st j 0)
     → geometric st′ ≡ geometric st
 unfolding geometric
 same-axes st st′ n n′ few low =
@@ -88,7 +89,7 @@ module _ (st : List ℕ) (n : length st ≡ stateWords) where
   zeros : List ℕ
   zeros = upto (λ (k : ℕ). 0) (axisCodes + 1)
 
-  zeros-length : length zeros ≡ 11
+  zeros-length : length zeros ≡ (axisCodes + 1)
   unfolding zeros
   zeros-length = length-upto _ _
 
@@ -101,7 +102,7 @@ module _ (st : List ℕ) (n : length st ≡ stateWords) where
   pub forgotten-held : held (forgotten st) ≡ 0
   unfolding forgotten zeros
   forgotten-held =
-      let m : length zeros ≡ 11 = zeros-length in
+      let m : length zeros ≡ (axisCodes + 1) = zeros-length in
       getD-set-same (spliced st wStart zeros) wHeld 0 0
       (subst (λ (k : ℕ). wHeld < k) (sym (length-spliced st wStart zeros (omega (arith, n, m)) ∙ n)) (omega arith))
 
@@ -109,9 +110,9 @@ module _ (st : List ℕ) (n : length st ≡ stateWords) where
   known : List ℕ
   known = getD st wKnown 0 ∷ upto (λ (k : ℕ). Option·getD (position st k) 0) axisCodes
 
-  known-length : length known ≡ 11
+  known-length : length known ≡ (axisCodes + 1)
   unfolding known
-  known-length = let e : length (upto (λ (k : ℕ). Option·getD (position st k) 0) axisCodes) ≡ 10 = length-upto _ _ in omega arith
+  known-length = let e : length (upto (λ (k : ℕ). Option·getD (position st k) 0) axisCodes) ≡ axisCodes = length-upto _ _ in omega arith
 
   pub opened-low : (j : ℕ) → j < wStart → getD (opened st) j 0 ≡ getD st j 0
   unfolding opened known
@@ -125,7 +126,7 @@ module _ (st : List ℕ) (n : length st ≡ stateWords) where
       getD-set-same (spliced st wStart known) wDegree 3 0
       (subst (λ (k : ℕ). wDegree < k) (sym (length-spliced st wStart known (omega (arith, n, known-length)) ∙ n)) (omega arith))
 
-  opened-in : (m : ℕ) → m < 11 → getD (opened st) (wStart + m) 0 ≡ getD known m 0
+  opened-in : (m : ℕ) → m < (axisCodes + 1) → getD (opened st) (wStart + m) 0 ≡ getD known m 0
   unfolding opened known
   opened-in m h =
       getD-set-other (spliced st wStart known) wDegree (wStart + m) 3 0 (λ e. omega arith)
@@ -370,7 +371,7 @@ module _ (st r : List ℕ) (n : length st ≡ stateWords) where
   told-low : (j : ℕ) → j < wMotion → getD (told st r) j 0 ≡ getD st j 0
   told-low j h = told-else j (λ e. omega arith) ∙ laid-low j (omega arith) ∙ worded-else j (λ e. omega arith) (λ e. omega arith) ∙ emptied-low j (omega arith)
 
-  pub push-place : axisCount st ≤ 15 → (k : ℕ) → k < axisCodes
+  pub push-place : axisCount st ≤ listCodes → (k : ℕ) → k < axisCodes
       → position (pushState st r) k ≡ cond (has (presentOf r) k && member k (geometric st)) (some (getD r (rCells + k) 0)) (position st k)
   push-place few k h =
       ap (λ (s : List ℕ). position s k) (pushState-steps st r)

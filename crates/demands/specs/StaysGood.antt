@@ -7,9 +7,10 @@ use native.Mathlib.Omega.{arith}
 use lib.ListN.{length, getD, take, drop}
 use lib.Dec.{leb, eqb}
 use borrow.Author.Tests.{eqb-true, le-leb}
+use Rattle.motion.specs.Motion.{lastMotion}
 use Rattle.floats.specs.Lists.{member, all}
 use Rattle.floats.specs.Fill.{length-upto}
-use Rattle.layout.specs.Layout.{rowWords, wAxes, wMotion, wPlane, wKnown, wStart, wDegree, wHeld, stateWords, mostDegree}
+use Rattle.layout.specs.Layout.{rowWords, wAxes, wMotion, wPlane, wKnown, wStart, wDegree, wHeld, stateWords, mostDegree, axisCodes, listCodes}
 use Rattle.row_check.specs.Check.{within, rowCheck}
 use Rattle.row_cells.specs.Row.{motionOf}
 use Rattle.floats.specs.Truth.{by-bit, cond-t, cond-f, and-i, all-ext}
@@ -37,7 +38,7 @@ module _ (tol : ℕ) (axes : List ℕ) (t : tolOk tol ≡ true) (ok : codesOk ax
   unfolding axesOk freshWord
   fresh-codes =
       let n : axisCount (fresh tol axes) ≡ length axes = fresh-at tol axes ok 1 (omega arith) in
-      and-i (ap (λ (k : ℕ). leb k 15) n ∙ le-leb (length axes) 15 (few-codes tol axes ok))
+      and-i (ap (λ (k : ℕ). leb k listCodes) n ∙ le-leb (length axes) listCodes (few-codes tol axes ok))
       (ap (λ (k : ℕ). codesOk (take k (drop wAxes (fresh tol axes)))) n ∙ ap codesOk (fresh-list tol axes ok) ∙ ok)
 
   fresh-good : Good (fresh tol axes)
@@ -48,7 +49,7 @@ module _ (tol : ℕ) (axes : List ℕ) (t : tolOk tol ≡ true) (ok : codesOk ax
         long = length-upto (freshWord tol axes) stateWords;
         tolerance = ap tolOk (w 0 (omega arith)) ∙ t;
         axes = fresh-codes;
-        motion = ap (λ (m : ℕ). leb 1 m && leb m 31) (w wMotion (omega arith));
+        motion = ap (λ (m : ℕ). leb 1 m && leb m lastMotion) (w wMotion (omega arith));
         plane = ap (λ (m : ℕ). leb 17 m && leb m 19) (w wPlane (omega arith));
         known = no-point (fresh tol axes) wKnown (w wKnown (omega arith));
         start = no-point (fresh tol axes) wStart (w wStart (omega arith));
@@ -64,11 +65,11 @@ module _ (tol : ℕ) (axes : List ℕ) (t : tolOk tol ≡ true) (ok : codesOk ax
 
 -- ---- a seed
 module _ (st store : List ℕ) (c x : ℕ) (s : savedCheck st store ≡ 0) (w : within x ≡ true) where
-  else-word : (j : ℕ) → (wKnown ≤ j → j < wKnown + 11 → ⊥) → getD (seeded st c x) j 0 ≡ getD st j 0
+  else-word : (j : ℕ) → (wKnown ≤ j → j < wKnown + (axisCodes + 1) → ⊥) → getD (seeded st c x) j 0 ≡ getD st j 0
   unfolding seeded
   else-word j out =
       by-bit (member c (geometric st))
-      (λ b. let h : c < 10 = geometric-small st c b in
+      (λ b. let h : c < axisCodes = geometric-small st c b in
       ap (λ (l : List ℕ). getD l j 0) (cond-t (placed st c x) st b)
       ∙ placed-else st (saved st store s .words) c x h j (λ e. out (omega arith) (omega arith)) (λ e. out (omega arith) (omega arith)))
       (λ b. ap (λ (l : List ℕ). getD l j 0) (cond-f (placed st c x) st b))

@@ -11,7 +11,7 @@ use lib.Dec.{eqb}
 use Rattle.floats.specs.Lists.{upto, member, spliced}
 use Rattle.floats.specs.Fill.{length-upto}
 use Rattle.floats.specs.Splice.{length-spliced}
-use Rattle.layout.specs.Layout.{axisCodes, rCells, wAxes, wMotion, wKnown, wStart, wDegree, wHeld, stateWords, cSD}
+use Rattle.layout.specs.Layout.{axisCodes, rCells, wAxes, wMotion, wKnown, wStart, wDegree, wHeld, stateWords, cSD, listCodes}
 use Rattle.row_cells.specs.Codes.{geometricOf}
 use Rattle.row_cells.specs.Bits.{has, withBit}
 use Rattle.row_cells.specs.Row.{presentOf, number}
@@ -50,7 +50,7 @@ pub record SameAxes (st st′ : List ℕ) : Type 0 where
   pub long : length st′ ≡ length st
   pub low : (j : ℕ) → j < wMotion → getD st′ j 0 ≡ getD st j 0
 
-pub same-codes : (st st′ : List ℕ) → SameAxes st st′ → axisCount st ≤ 15 → length st ≡ stateWords
+pub same-codes : (st st′ : List ℕ) → SameAxes st st′ → axisCount st ≤ listCodes → length st ≡ stateWords
     → take (axisCount st′) (drop wAxes st′) ≡ take (axisCount st) (drop wAxes st)
 same-codes st st′ s few long =
     let n : axisCount st′ ≡ axisCount st = s .low 1 (omega arith) in
@@ -62,7 +62,7 @@ same-codes st st′ s few long =
     getD-take (axisCount st) (drop wAxes st′) i 0 l ∙ getD-drop wAxes st′ i 0 ∙ s .low (wAxes + i) (omega arith)
     ∙ sym (getD-take (axisCount st) (drop wAxes st) i 0 l ∙ getD-drop wAxes st i 0))
 
-pub same-geometric : (st st′ : List ℕ) → SameAxes st st′ → axisCount st ≤ 15 → length st ≡ stateWords → geometric st′ ≡ geometric st
+pub same-geometric : (st st′ : List ℕ) → SameAxes st st′ → axisCount st ≤ listCodes → length st ≡ stateWords → geometric st′ ≡ geometric st
 unfolding geometric
 same-geometric st st′ s few long = ap geometricOf (same-codes st st′ s few long)
 

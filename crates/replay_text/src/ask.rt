@@ -1,4 +1,5 @@
 // What a line of input asks for.
+ghost use Rattle.layout.specs.Layout.{rowWords};
 use crate::input::DECIMAL;
 use crate::input::HEX;
 use crate::input::Part;
@@ -99,8 +100,8 @@ fn read_head(line: &[u8], from: usize) -> Head {
 }
 
 fn set_head(h: Head, row: &mut [u64])
-    requires { ⌜ length (now row) ≡ 29 ⌝ }
-    ensures { λ _. ⌜ length (now (row .exit)) ≡ 29 ⌝ }
+    requires { ⌜ length (now row) ≡ rowWords ⌝ }
+    ensures { λ _. ⌜ length (now (row .exit)) ≡ rowWords ⌝ }
 {
     row[R_LINE] = h.line;
     row[R_MOTION] = h.motion;
@@ -112,7 +113,7 @@ fn set_head(h: Head, row: &mut [u64])
 
 // The row of a push, whether the line says one.
 fn fill_row(line: &[u8], from: usize, row: &mut [u64]) -> bool
-    requires { ⌜ length (now row) ≡ 29 ⌝ }
+    requires { ⌜ length (now row) ≡ rowWords ⌝ }
 {
     let h = read_head(line, from);
     if !h.ok {

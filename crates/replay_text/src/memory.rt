@@ -1,4 +1,5 @@
 // The memory that is lent, and whether a refused call left it alone.
+use layout::MOST_HELD;
 use layout::ROW_WORDS;
 ghost use Prim.Native.Nat.{_≤_, _<_, _+_};
 ghost use Rattle.io.specs.Counts.{Counts};
@@ -6,7 +7,7 @@ ghost use Rattle.io.specs.Counts.{Counts};
 // The most that is lent, by docs/INTERFACE.md: words of a state or a row, blocks of a store, rows; and the words of these.
 pub const MOST_LENGTH: usize = 64;
 
-pub const MOST_BLOCKS: usize = 256;
+pub const MOST_BLOCKS: usize = MOST_HELD as usize;
 
 pub const MOST_ROOM: usize = 16384;
 

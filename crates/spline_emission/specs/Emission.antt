@@ -10,7 +10,7 @@ use Rattle.floats.specs.Lists.{upto, flatten, spliced}
 use Rattle.layout.specs.Layout.{rowWords}
 use Rattle.curve_runs.specs.Runs.{curveRuns}
 pub use Rattle.spline_points.specs.Points.{Spline}
-pub use Rattle.spline_places.specs.Groups.{isBasis}
+pub use Rattle.spline_places.specs.Groups.{isBspline}
 unfoldable pub use Rattle.spline_points.specs.Points.{pointRows, channelsFrom, channels, firstCell, startPoint, nextPoint, pointsFrom, metricOf, weightOf}
 unfoldable pub use Rattle.spline_points.specs.Points.{placeOf}
 unfoldable pub use Rattle.spline_places.specs.Groups.{sampleCell, ownCell, isMarked, pointGroup, heldGroup}

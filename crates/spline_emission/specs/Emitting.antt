@@ -28,7 +28,6 @@ use Rattle.spline_points.specs.Channels.{channels-few}
 use Rattle.spline_points.specs.Curve.{points-sized, points-length}
 use Rattle.spline_places.specs.declared.frame.Frame.{Frame}
 use Rattle.spline_places.specs.declared.place.Place.{Place}
-use Rattle.spline_places.specs.Groups.{isBasis}
 use Rattle.spline_places.specs.Places.{Few}
 use Rattle.spline_places.specs.Sizes.{placeTo}
 use Rattle.spline_places.specs.SizeLaws.{place-few, place-points, place-order, moved-rows}

@@ -16,7 +16,7 @@ use Rattle.row_cells.specs.Bits.{has, maskSum}
 use Rattle.row_cells.specs.Masks.{has-mask, mask-lt, has-past, member-keep}
 use Rattle.spline_points.specs.Points.{Spline, channels, placeOf}
 use Rattle.spline_places.specs.declared.frame.Frame.{Frame}
-use Rattle.spline_places.specs.Groups.{isBasis}
+use Rattle.spline_places.specs.Groups.{isBspline}
 use Rattle.spline_rows.specs.Puts.{Sound}
 use Rattle.spline_emission.specs.Emission.{runsOf}
 use Rattle.spline_emission.specs.Words.{Lies, place-below}
@@ -76,7 +76,7 @@ module _ (s : Spline) (axes chans : List ℕ) (basis : Bool) (points : ℕ)
     narrow = rw ec few;
   }
 
-  pub laid-lies : (counts : List ℕ) → basis ≡ isBasis s → points ≡ length (runsOf s)
+  pub laid-lies : (counts : List ℕ) → basis ≡ isBspline s → points ≡ length (runsOf s)
       → ((j : ℕ) → j < length (runsOf s) → getD counts j 0 ≡ length (getD (runsOf s) j []))
       → Lies s (runsOf s) (frameOf axes chans basis points) (placesOf chans) counts
   unfolding laid

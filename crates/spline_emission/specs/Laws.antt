@@ -66,7 +66,7 @@ module _ (s : Spline) (axes : List ℕ) (once : Once axes) (is : s .axes ≡ geo
   pub channels-once : Distinct (channels s)
   channels-once = spline-good .distinct
 
-  pub channels-ten : length (channels s) ≤ 10
+  pub channels-ten : length (channels s) ≤ axisCodes
   unfolding channels
   channels-ten = rw is (channels-few axes (s .blocks) once)
 

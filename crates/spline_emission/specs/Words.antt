@@ -12,6 +12,7 @@ use lib.Dec.{eqb}
 use lib.ListN.{length, getD, take, drop, length-append, List·getD-append}
 use lib.Seq.{take-suc, take-all, take-append-le, split-at, getD-append-add}
 use lib.Ieee.{Float, nan}
+use Rattle.layout.specs.Layout.{axisMasks}
 use Rattle.floats.specs.Numbers.{bits, at}
 use Rattle.floats.specs.Lists.{upto, keep, member, flatten}
 use Rattle.floats.specs.Fill.{length-upto, at-upto, upto-below}
@@ -23,7 +24,7 @@ use Rattle.spline_points.specs.Flat.{Sized, flatten-append}
 use Rattle.spline_points.specs.Points.{Spline, channels, placeOf}
 use Rattle.spline_places.specs.declared.frame.Frame.{Frame}
 use Rattle.spline_places.specs.declared.place.Place.{Place}
-use Rattle.spline_places.specs.Groups.{isBasis, sampleCell, ownCell, isMarked, pointGroup, heldGroup}
+use Rattle.spline_places.specs.Groups.{isBspline, sampleCell, ownCell, isMarked, pointGroup, heldGroup}
 use Rattle.spline_places.specs.Sizes.{sizeOf, moved, placeTo, samplesOf}
 use Rattle.spline_places.specs.SizeLaws.{place-next, place-points, moved-rows}
 use Rattle.spline_rows.specs.Raw.{rawCell, rawOwn, rawMark, rawMotion, rawRow, bareRow, rawGroup, rawBlock, rawHeld}
@@ -83,11 +84,11 @@ place-below k (c ∷ cs) m = one (eqb c k) m (place-below k cs)
 
 -- ---- the masks, places and counts are the spline's
 pub record Lies (s : Spline) (runs : List (List (List Float))) (o : Frame) (places counts : List ℕ) : Type 0 where
-  pub small : o .axes < 1024
+  pub small : o .axes < axisMasks
   pub axes : (k : ℕ) → has (o .axes) k ≡ member k (s .axes)
   pub mask : (k : ℕ) → has (o .mask) k ≡ member k (channels s)
   pub placed : (k : ℕ) → has (o .mask) k ≡ true → getD places k 0 ≡ placeOf k (channels s)
-  pub basis : o .basis ≡ isBasis s
+  pub basis : o .basis ≡ isBspline s
   pub points : o .points ≡ length runs
   pub counted : (j : ℕ) → j < length runs → getD counts j 0 ≡ length (getD runs j [])
 

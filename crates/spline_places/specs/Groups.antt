@@ -14,8 +14,8 @@ use Rattle.row_cells.specs.Row.{cell, hasPoint, outRow}
 use Rattle.row_put.specs.Made.{madeRow}
 use Rattle.spline_points.specs.Points.{Spline, channels, placeOf}
 
-abbrev pub isBasis : Spline → Bool
-isBasis s = motions.isBasis (s .motion)
+abbrev pub isBspline : Spline → Bool
+isBspline s = motions.isBasis (s .motion)
 
 -- the axis cells of a sample: its channels
 unfoldable pub sampleCell : List ℕ → List Float → ℕ → Option ℕ
@@ -23,11 +23,11 @@ sampleCell cs p k = let w : Option ℕ = some (bits (at p (placeOf k cs))) in co
 
 -- .. and of a block without samples: those that it programs itself; a B-spline's block has none
 unfoldable pub ownCell : Spline → List ℕ → ℕ → Option ℕ
-ownCell s r k = cond (member k (s .axes) && not (isBasis s)) (cell r k) none
+ownCell s r k = cond (member k (s .axes) && not (isBspline s)) (cell r k) none
 
 -- of a group the last row alone is unmarked, of a B-spline the curve's last: j counts the point blocks, n is how many there are
 unfoldable pub isMarked : Spline → ℕ → ℕ → ℕ → ℕ → Bool
-isMarked s n j len i = not (eqb (i + 1) len) || (isBasis s && not (eqb (j + 1) n))
+isMarked s n j len i = not (eqb (i + 1) len) || (isBspline s && not (eqb (j + 1) n))
 
 -- the first row of the first point block is a G1, later first rows have no motion
 unfoldable pub pointGroup : Spline → List ℕ → ℕ → ℕ → List (List Float) → List ℕ → List (List ℕ)

@@ -6,11 +6,12 @@ use native.Mathlib.Omega.{arith}
 use lib.ListN.{length, take}
 use lib.Seq.{length-take-le}
 use borrow.Author.Needs.{needs}
+use Rattle.layout.specs.Layout.{rowWords}
 use Rattle.replay_text.proofs.ask.push_ask.Statement.{statement}
 use Rattle.replay_text.proofs.ask.push_ask.Tie as tie
 
-row-words : (l : List ℕ) → length l ≡ 64 → length (take 29 l) ≡ 29
-row-words l e = length-take-le 29 l (omega arith)
+row-words : (l : List ℕ) → length l ≡ 64 → length (take rowWords l) ≡ rowWords
+row-words l e = length-take-le rowWords l (omega arith)
 
 slice-relend-prefix-fill-row : tie.Need-slice-relend-prefix-fill-row
 slice-relend-prefix-fill-row c = search needs
