@@ -46,9 +46,8 @@ fn now() -> f64 {
     time.seconds as f64 + time.nanoseconds as f64 * 1e-9
 }
 
-const AXES: [u64; 3] = [0, 1, 2];
+const XYZ: [u64; 3] = [0, 1, 2];
 const PLACES: usize = 120_000;
-const I: usize = 15;
 
 /// Blocks to push after a start with this tolerance, then a close.
 struct Work {
@@ -80,7 +79,7 @@ struct Lent {
 
 fn start(tolerance: f64, lent: &mut Lent) -> Reply {
     let state = &mut lent.state;
-    unsafe { flat_start(state.as_mut_ptr(), state.len(), tolerance.to_bits(), AXES.as_ptr(), AXES.len()) }
+    unsafe { flat_start(state.as_mut_ptr(), state.len(), tolerance.to_bits(), XYZ.as_ptr(), XYZ.len()) }
 }
 
 fn push(row: &RowWords, lent: &mut Lent) -> Reply {
@@ -120,7 +119,7 @@ fn library(work: &Work, lent: &mut Lent) -> u64 {
 }
 
 fn unchanged(tolerance: f64, blocks: Vec<Row>) -> u64 {
-    let mut flattener = rust::fresh(tolerance.to_bits(), &AXES);
+    let mut flattener = rust::fresh(tolerance.to_bits(), &XYZ);
     let mut out = Vec::new();
     let mut count = 0;
     for row in blocks {
@@ -185,7 +184,7 @@ fn measure(work: &Work, lent: &mut Lent) {
 fn measure_checks(held: usize, lent: &mut Lent) {
     assert_eq!(start(0.1, lent).code, 0);
     for i in 0..held {
-        let motion = if i == 0 { 5 } else { 0 };
+        let motion = if i == 0 { ASPLINE } else { 0 };
         assert_eq!(push(&block(motion, &[(0, i as f64), (1, 0.5), (2, 1.0)]), lent).code, 0);
     }
     let mut marked = block(0, &[]);
@@ -207,7 +206,7 @@ fn measure_checks(held: usize, lent: &mut Lent) {
 /// Rows per second where a row is only copied to each place, so many places a call: what no call that writes its rows
 /// can pass.
 fn measure_copies(places: usize, lent: &mut Lent) {
-    let row = block(2, &[(0, 1.0), (1, 0.5), (2, 1.0)]);
+    let row = block(G1, &[(0, 1.0), (1, 0.5), (2, 1.0)]);
     let mut best = 0f64;
     for _ in 0..ROUNDS {
         best = best.max(round(|| {
@@ -228,16 +227,16 @@ fn measure_copies(places: usize, lent: &mut Lent) {
 // ---- the work
 
 fn pass_through() -> Work {
-    let blocks = (0..10_000).map(|i| block(if i == 0 { 2 } else { 0 }, &[(0, i as f64), (1, 0.5), (11, 1000.0)]));
+    let blocks = (0..10_000).map(|i| block(if i == 0 { G1 } else { 0 }, &[(0, i as f64), (1, 0.5), (F, 1000.0)]));
     Work { name: "pass-through".into(), tolerance: 0.1, blocks: blocks.collect() }
 }
 
 /// Quarter turns there and back, of about so many rows each.
 fn arcs(rows: usize) -> Work {
-    let mut blocks = vec![block(2, &[(0, 10.0), (1, 0.0)])];
+    let mut blocks = vec![block(G1, &[(0, 10.0), (1, 0.0)])];
     for _ in 0..(10_000 / rows).max(1) {
-        blocks.push(block(4, &[(0, 0.0), (1, 10.0), (I, -10.0), (I + 1, 0.0)]));
-        blocks.push(block(3, &[(0, 10.0), (1, 0.0), (I, 0.0), (I + 1, -10.0)]));
+        blocks.push(block(G3, &[(0, 0.0), (1, 10.0), (I, -10.0), (I + 1, 0.0)]));
+        blocks.push(block(G2, &[(0, 10.0), (1, 0.0), (I, 0.0), (I + 1, -10.0)]));
     }
     let step = std::f64::consts::FRAC_PI_2 / (rows as f64 - 0.5);
     Work { name: format!("arcs of {rows} rows"), tolerance: 10.0 * (1.0 - (step / 2.0).cos()), blocks }
@@ -254,7 +253,7 @@ fn tolerance_for(rows: u64, blocks: &[Row]) -> f64 {
 }
 
 fn spline(name: &str, motion: u64, degree: u64, points: usize, rows: u64) -> Work {
-    let mut blocks = vec![block(2, &[(0, 0.0), (1, 0.0), (2, 0.0)])];
+    let mut blocks = vec![block(G1, &[(0, 0.0), (1, 0.0), (2, 0.0)])];
     for i in 1..=points {
         let t = i as f64;
         let mut row = block(0, &[(0, t * 10.0), (1, 50.0 * (t * 1.3).sin()), (2, 5.0 * (t * 0.7).cos())]);
@@ -277,12 +276,12 @@ fn mixed() -> Work {
     let mut blocks = Vec::new();
     for i in 0..300 {
         let t = i as f64;
-        blocks.push(block(2, &[(0, t), (1, 0.0), (2, 0.0), (11, 800.0)]));
+        blocks.push(block(G1, &[(0, t), (1, 0.0), (2, 0.0), (F, 800.0)]));
         blocks.push(block(0, &[(0, t + 10.0)]));
-        blocks.push(block(4, &[(0, t), (1, 10.0), (I, -10.0), (2, 1.0)]));
-        blocks.push(block(0, &[(11, 600.0)]));
+        blocks.push(block(G3, &[(0, t), (1, 10.0), (I, -10.0), (2, 1.0)]));
+        blocks.push(block(0, &[(F, 600.0)]));
         for j in 1..=5 {
-            let motion = if j == 1 { 5 + i as u64 % 3 } else { 0 };
+            let motion = if j == 1 { ASPLINE + i as u64 % 3 } else { 0 };
             blocks.push(block(motion, &[(0, t + 4.0 * j as f64), (1, 10.0 + 6.0 * (j as f64).sin())]));
         }
     }
@@ -298,10 +297,15 @@ fn main() {
     for rows in [6, 100, 10_000] {
         measure(&arcs(rows), &mut lent);
     }
-    let kinds =
-        [("Akima", 5, 3), ("cubic", 7, 3), ("B-spline 3", 6, 3), ("B-spline 10", 6, 10), ("B-spline 50", 6, 50)];
+    let kinds = [
+        ("Akima", ASPLINE, 3),
+        ("cubic", CSPLINE, 3),
+        ("B-spline 3", BSPLINE, 3),
+        ("B-spline 10", BSPLINE, 10),
+        ("B-spline 50", BSPLINE, 50),
+    ];
     for (name, motion, degree) in kinds {
-        for points in [4, 30, 256] {
+        for points in [4, 30, MOST_HELD] {
             for rows in [2, 10, 100] {
                 if !quick || points == 30 && rows == 10 {
                     measure(&spline(name, motion, degree, points, rows), &mut lent);

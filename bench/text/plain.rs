@@ -1,4 +1,4 @@
-//! The row text of document 01 in plain Rust, for a comparison of speed: reads and writes rows of linear motion.
+//! The row text of docs/ROWTEXT.md in plain Rust, for a comparison of speed: reads and writes rows of linear motion.
 use std::io::{self, BufRead, BufWriter, Write};
 
 const HEADER: &str = "line_no,gg01_motion,gg06_plane_select,X,Y,Z,I,J,K,CR,TURN,PW,SD,F";

@@ -3,13 +3,13 @@
 //! All lent memory stands between canary words. After each call the number, the state, the store, the row places
 //! beyond those written, and every canary are held against the model; a reply of 7 is asked again with one place or
 //! one word too few and with just enough. An emission whose tolerance is tiny against its numbers would run for
-//! minutes, as document 01 lets it: such a call is not made, and is counted.
+//! minutes, as it may: such a call is not made, and is counted.
 
 mod model;
 #[path = "../../hosts/rust/src/raw.rs"]
 mod raw;
 
-use model::{Expected, ROW, STATE};
+use model::*;
 use raw::{flat_close, flat_push, flat_seed, flat_start, Reply};
 
 struct Rng(u64);
@@ -160,7 +160,7 @@ fn check(case: &Case, tally: &mut Tally) {
     must(reply.count <= places, "0 with more rows than places", case, &reply);
     must(want.rows.0 <= reply.count && reply.count <= want.rows.1, "an impossible count", case, &reply);
     must(want.warnings.contains(&reply.warning), "an impossible warning", case, &reply);
-    must((reply.wanted > 100_000) == (reply.warning == 6), "a wanted count without 6", case, &reply);
+    must((reply.wanted > MOST_ARC_ROWS) == (reply.warning == 6), "a wanted count without 6", case, &reply);
     must((reply.wanted == 0) == (reply.warning != 6), "a wanted count without 6", case, &reply);
     must(reply.held & !want.may_hold == 0, "an axis held that is not held", case, &reply);
     must(state == want.state, "the state's words", case, &reply);
@@ -172,10 +172,10 @@ fn check(case: &Case, tally: &mut Tally) {
 }
 
 fn is_row(row: &[u64]) -> bool {
-    let finite = |k: usize| f64::from_bits(row[6 + k]).is_finite();
-    let absent = |k: usize| row[5] >> k & 1 == 0;
-    let shape = row[0] >> 32 == 0 && row[1] <= 31 && row[3] <= 1 && row[5] >> 23 == 0;
-    shape && (0..23).all(|k| if absent(k) { row[6 + k] == 0 } else { finite(k) })
+    let finite = |k: usize| f64::from_bits(row[FIRST + k]).is_finite();
+    let absent = |k: usize| row[PRESENT] >> k & 1 == 0;
+    let shape = row[LINE] >> 32 == 0 && row[WORD] <= LAST_MOTION && row[MARK] <= 1 && row[PRESENT] >> CELLS == 0;
+    shape && (0..CELLS).all(|k| if absent(k) { row[FIRST + k] == 0 } else { finite(k) })
 }
 
 fn ask_again(case: &Case, reply: &Reply, tally: &mut Tally) {
@@ -195,13 +195,13 @@ fn ask_again(case: &Case, reply: &Reply, tally: &mut Tally) {
 
 /// An emission, or an arc, is as long as its numbers are large against the tolerance.
 fn would_run_long(case: &Case, want: &Expected) -> bool {
-    if want.rows.1 <= 100_000 {
+    if want.rows.1 <= MOST_ARC_ROWS {
         return false;
     }
-    let held = case.state[43] as usize;
+    let held = case.state[HELD] as usize;
     let size = |bits: u64| if model::is_small(bits) { f64::from_bits(bits).abs() } else { 0.0 };
-    let cells = case.store[..held * ROW].chunks_exact(ROW).flat_map(|row| row[6..16].iter());
-    let most = cells.chain(&case.state[32..42]).map(|&bits| size(bits)).fold(0.0, f64::max);
+    let cells = case.store[..held * ROW].chunks_exact(ROW).flat_map(|row| row[FIRST..FIRST + AXES].iter());
+    let most = cells.chain(&case.state[START + 1..START + POINT]).map(|&bits| size(bits)).fold(0.0, f64::max);
     f64::from_bits(case.state[0]) < 1e-6 * most
 }
 
@@ -217,8 +217,31 @@ struct Tally {
 
 /// Words about the bounds of the rules.
 fn special(rng: &mut Rng) -> u64 {
-    const WHOLE: [u64; 22] =
-        [0, 1, 2, 3, 5, 6, 7, 8, 14, 15, 16, 17, 19, 20, 31, 32, 256, 257, 1 << 32, 1 << 63, (1 << 23) - 1, u64::MAX];
+    const CODE: u64 = LISTED as u64;
+    const WHOLE: [u64; 22] = [
+        0,
+        1,
+        2,
+        3,
+        5,
+        6,
+        7,
+        8,
+        CODE - 1,
+        CODE,
+        CODE + 1,
+        17,
+        19,
+        20,
+        LAST_MOTION,
+        LAST_MOTION + 1,
+        MOST_HELD,
+        MOST_HELD + 1,
+        1 << 32,
+        1 << 63,
+        (1 << CELLS) - 1,
+        u64::MAX,
+    ];
     const OVER: f64 = 1_000_000_000.000_000_1;
     const NUMBERS: [f64; 10] = [f64::NAN, f64::INFINITY, OVER, -OVER, 1e9, -1e9, 1000.0, 1000.5, 0.5, -1.0];
     match rng.below(6) {
@@ -239,7 +262,7 @@ fn number(rng: &mut Rng) -> u64 {
 }
 
 fn good_list(rng: &mut Rng) -> Vec<u64> {
-    let mut list: Vec<u64> = (0..15).filter(|_| !rng.one_in(3)).collect();
+    let mut list: Vec<u64> = (0..LISTED as u64).filter(|_| !rng.one_in(3)).collect();
     for i in (1..list.len()).rev() {
         list.swap(i, rng.below(i as u64 + 1) as usize);
     }
@@ -247,7 +270,7 @@ fn good_list(rng: &mut Rng) -> Vec<u64> {
 }
 
 fn point(words: &mut [u64], axes: &[u64], rng: &mut Rng) {
-    for &k in axes.iter().filter(|&&k| k <= 9) {
+    for &k in axes.iter().filter(|&&k| k < AXES as u64) {
         if !rng.one_in(4) {
             words[0] |= 1 << k;
             words[1 + k as usize] = number(rng);
@@ -260,30 +283,30 @@ fn good_state(rng: &mut Rng, held: u64) -> Vec<u64> {
     let list = good_list(rng);
     words[0] = [0.01f64, 0.5, 2.0, 100.0][rng.below(4) as usize].to_bits();
     words[1] = list.len() as u64;
-    words[2..2 + list.len()].copy_from_slice(&list);
-    words[17] = if held > 0 { 5 + rng.below(3) } else { 1 + rng.below(31) };
-    words[18] = 17 + rng.below(3);
-    point(&mut words[19..30], &list, rng);
-    words[30] = rng.next() & 0xffff_ff00;
+    words[LIST..LIST + list.len()].copy_from_slice(&list);
+    words[MOTION] = if held > 0 { SPLINES.start() + rng.below(3) } else { 1 + rng.below(LAST_MOTION) };
+    words[IN_PLANE] = 17 + rng.below(3);
+    point(&mut words[KNOWN..KNOWN + POINT], &list, rng);
+    words[WARNED] = rng.next() & 0xffff_ff00;
     if held > 0 {
-        point(&mut words[31..42], &list, rng);
+        point(&mut words[START..START + POINT], &list, rng);
     }
-    let most = if rng.one_in(5) { 256 } else { 6 };
-    words[42] = 1 + rng.below(most);
-    words[43] = held;
+    let most = if rng.one_in(5) { MOST_DEGREE } else { 6 };
+    words[DEGREE] = 1 + rng.below(most);
+    words[HELD] = held;
     words
 }
 
 fn good_row(rng: &mut Rng, motion: u64) -> Vec<u64> {
     let mut row = vec![0; ROW];
-    row[0] = rng.below(1 << 32);
-    row[1] = motion;
-    row[2] = if rng.one_in(4) { 17 + rng.below(3) } else { 0 };
-    row[4] = rng.next() >> rng.below(64);
-    row[5] = rng.next() & rng.next() & 0x7f_ffff;
-    for k in 0..23 {
+    row[LINE] = rng.below(1 << 32);
+    row[WORD] = motion;
+    row[PLANE] = if rng.one_in(4) { 17 + rng.below(3) } else { 0 };
+    row[CARRY] = rng.next() >> rng.below(64);
+    row[PRESENT] = rng.next() & rng.next() & ((1 << CELLS) - 1);
+    for k in 0..CELLS {
         // What an absent cell holds is not read: leave rubbish there.
-        row[6 + k] = if row[5] >> k & 1 == 1 { number(rng) } else { rng.next() };
+        row[FIRST + k] = if row[PRESENT] >> k & 1 == 1 { number(rng) } else { rng.next() };
     }
     row
 }
@@ -303,15 +326,15 @@ fn good_store(rng: &mut Rng, held: u64, motion: u64) -> Vec<u64> {
 
 /// A TURN about the bound of rule 5.
 fn put_turn(row: &mut [u64], rng: &mut Rng) {
-    row[5] |= 1 << 19;
-    row[6 + 19] = [1000f64, 1000.0000000000001, -1001.0, 1e9, 999.5][rng.below(5) as usize].to_bits();
+    row[PRESENT] |= 1 << TURN;
+    row[FIRST + TURN] = [1000f64, 1000.0000000000001, -1001.0, 1e9, 999.5][rng.below(5) as usize].to_bits();
 }
 
 fn held_count(rng: &mut Rng) -> u64 {
     match rng.below(8) {
         0..=3 => 0,
         4..=6 => 1 + rng.below(5),
-        _ if rng.one_in(20) => 256,
+        _ if rng.one_in(20) => MOST_HELD,
         _ => 1 + rng.below(20),
     }
 }
@@ -319,18 +342,22 @@ fn held_count(rng: &mut Rng) -> u64 {
 fn any_call(rng: &mut Rng, state: &[u64]) -> Call {
     match rng.below(12) {
         0 => {
-            let list = if rng.one_in(2) { good_list(rng) } else { (0..rng.below(20)).map(|_| rng.below(17)).collect() };
+            let list = if rng.one_in(2) {
+                good_list(rng)
+            } else {
+                (0..rng.below(LISTED as u64 + 5)).map(|_| rng.below(LISTED as u64 + 2)).collect()
+            };
             let tolerance = if rng.one_in(2) { 1f64.to_bits() } else { special(rng) };
             Call::Start(tolerance, list)
         }
         1 => Call::Seed(
-            if rng.one_in(3) { special(rng) } else { rng.below(17) },
+            if rng.one_in(3) { special(rng) } else { rng.below(LISTED as u64 + 2) },
             if rng.one_in(3) { special(rng) } else { number(rng) },
         ),
         2..=4 => Call::Close,
         _ => {
-            let now = state.get(17).copied().unwrap_or(0) % 32;
-            let motion = [0, now, rng.below(32), 2, 3, 4][rng.below(6) as usize];
+            let now = state.get(MOTION).copied().unwrap_or(0) % (LAST_MOTION + 1);
+            let motion = [0, now, rng.below(LAST_MOTION + 1), 2, 3, 4][rng.below(6) as usize];
             Call::Push(good_row(rng, motion))
         }
     }
@@ -339,9 +366,9 @@ fn any_call(rng: &mut Rng, state: &[u64]) -> Call {
 fn any_case(rng: &mut Rng) -> Case {
     let held = held_count(rng);
     let mut state = good_state(rng, held);
-    let mut store = good_store(rng, held, state[17]);
+    let mut store = good_store(rng, held, state[MOTION]);
     let mut call = any_call(rng, &state);
-    let mut row_words = [0, 28, 29, 100, 1000, 60 * ROW, 3000 * ROW][rng.below(7) as usize];
+    let mut row_words = [0, ROW - 1, ROW, 100, 1000, 60 * ROW, 3000 * ROW][rng.below(7) as usize];
     match rng.below(8) {
         0 => {
             state = (0..rng.below(65)).map(|_| if rng.one_in(2) { rng.next() } else { special(rng) }).collect();
@@ -384,14 +411,14 @@ fn clamped_arc(tally: &mut Tally) {
     let state = model::start(&vec![0; STATE], 1e-9f64.to_bits(), &[0, 1, 2]).state;
     let state = model::seed(&model::seed(&state, 0, 1000f64.to_bits()).state, 1, 0).state;
     let mut row = vec![0; ROW];
-    (row[1], row[5]) = (4, 1 << 0 | 1 << 1 | 1 << 15);
-    (row[6], row[6 + 15]) = (1000f64.to_bits(), (-1000f64).to_bits());
-    let case = Case { call: Call::Push(row), state, store: Vec::new(), row_words: 100_001 * ROW };
+    (row[WORD], row[PRESENT]) = (4, 1 << 0 | 1 << 1 | 1 << OFFSETS);
+    (row[FIRST], row[FIRST + OFFSETS]) = (1000f64.to_bits(), (-1000f64).to_bits());
+    let case = Case { call: Call::Push(row), state, store: Vec::new(), row_words: (MOST_ARC_ROWS as usize + 1) * ROW };
     check(&case, tally);
     let (reply, ..) = run(&case);
     let step = 2.0 * (1.0 - 1e-12f64).acos();
     let wanted = (std::f64::consts::TAU / step).ceil() as u64;
-    must(reply.count == 100_000 && reply.warning == 6, "no warning 6 for a clamped arc", &case, &reply);
+    must(reply.count == MOST_ARC_ROWS && reply.warning == 6, "no warning 6 for a clamped arc", &case, &reply);
     // The wanted count may differ by one where the quotient is near a whole number.
     must(reply.wanted.abs_diff(wanted) <= 1, &format!("wanted is not {wanted}"), &case, &reply);
 }
@@ -399,14 +426,14 @@ fn clamped_arc(tally: &mut Tally) {
 /// Stores at the bounds of 6 and 8 by the word, where the replay program lends whole blocks: one word too few for the
 /// held blocks, just enough, one word too few for a block more, and room for it.
 fn store_bounds(rng: &mut Rng, tally: &mut Tally) {
-    for held in [1, 2, 3, 254, 255, 256] {
+    for held in [1, 2, 3, MOST_HELD - 2, MOST_HELD - 1, MOST_HELD] {
         let mut state = good_state(rng, held);
-        (state[0], state[17]) = (100f64.to_bits(), 5 + held % 3);
+        (state[0], state[MOTION]) = (100f64.to_bits(), SPLINES.start() + held % 3);
         let kept = held as usize * ROW;
-        let one_more = if held < 256 { 0 } else { 6 };
+        let one_more = if held < MOST_HELD { 0 } else { 6 };
         let bounds = [(kept - 1, 8, 8), (kept, 6, 0), (kept + ROW - 1, 6, 0), (kept + ROW, one_more, 0)];
         for (words, block, close) in bounds {
-            let mut store = good_store(rng, held, state[17]);
+            let mut store = good_store(rng, held, state[MOTION]);
             store.resize(words, 7);
             for (call, code) in [(Call::Push(good_row(rng, 0)), block), (Call::Close, close)] {
                 let case = Case { call, state: state.clone(), store: store.clone(), row_words: 3000 * ROW };

@@ -1,12 +1,10 @@
-/* Document 01's whole case through the C interface: a start, six blocks, a close; each row written is printed. */
+/* The whole case of docs/ROWTEXT.md through the C interface: a start, six blocks, a close; each row written is printed. */
 #include "flatten.h"
 
 #include <inttypes.h>
 #include <stdio.h>
 #include <string.h>
 
-enum { X = 0, Y = 1, F = 11, I = 15 };
-enum { NONE = 0, G1 = 2, G3 = 4, ASPLINE = 5 };
 enum { ROOM = 256 };
 
 static uint64_t state[FLAT_STATE_WORDS];
@@ -48,18 +46,19 @@ static int refused(struct flat_reply reply) {
 }
 
 int main(void) {
-    const uint64_t axes[] = {0, 1, 2};
+    const uint64_t axes[] = {FLAT_X, FLAT_Y, FLAT_Z};
+    const size_t axis_count = sizeof axes / sizeof axes[0];
     uint64_t blocks[6][FLAT_ROW_WORDS] = {
-        {1, G1, 17}, {2, G3}, {3, ASPLINE}, {4, NONE}, {5, NONE}, {6, G1},
+        {1, FLAT_G1, 17}, {2, FLAT_G3}, {3, FLAT_ASPLINE}, {4, FLAT_NONE}, {5, FLAT_NONE}, {6, FLAT_G1},
     };
-    set(blocks[0], X, 0.04), set(blocks[0], Y, 0), set(blocks[0], F, 1000);
-    set(blocks[1], X, 0), set(blocks[1], Y, 0.04), set(blocks[1], I, -0.04);
-    set(blocks[2], X, 10), set(blocks[2], Y, 0.04);
-    set(blocks[3], X, 20);
-    set(blocks[4], F, 500);
-    set(blocks[5], X, 0), set(blocks[5], Y, 0);
+    set(blocks[0], FLAT_X, 0.04), set(blocks[0], FLAT_Y, 0), set(blocks[0], FLAT_F, 1000);
+    set(blocks[1], FLAT_X, 0), set(blocks[1], FLAT_Y, 0.04), set(blocks[1], FLAT_I, -0.04);
+    set(blocks[2], FLAT_X, 10), set(blocks[2], FLAT_Y, 0.04);
+    set(blocks[3], FLAT_X, 20);
+    set(blocks[4], FLAT_F, 500);
+    set(blocks[5], FLAT_X, 0), set(blocks[5], FLAT_Y, 0);
 
-    if (refused(flat_start(state, FLAT_STATE_WORDS, bits(0.1), axes, 3)))
+    if (refused(flat_start(state, FLAT_STATE_WORDS, bits(0.1), axes, axis_count)))
         return 1;
     for (int i = 0; i < 6; i++) {
         struct flat_reply reply = flat_push(state, FLAT_STATE_WORDS, store, FLAT_STORE_WORDS, rows,

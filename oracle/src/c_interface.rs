@@ -1,5 +1,5 @@
 //! The unchanged Rust behind the four C functions of docs/INTERFACE.md: what `fuzz` and the hosts link when there
-//! is no archive, and a check that the two readings of document 01 (words.rs and fuzz/src/model.rs) agree.
+//! is no archive, and a check that the two readings of docs/RULES.md (words.rs and fuzz/src/model.rs) agree.
 
 mod errors;
 #[path = "../../docs/src/src/flatten.rs"]

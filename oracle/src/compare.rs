@@ -1,10 +1,10 @@
 //! `compare CALLS WANT GOT`: the answers GOT held against WANT, the oracle's, for the same calls.
 //! It stops at the first that disagrees and shows it; `compare --count CALLS WANT GOT` counts all that do.
 //!
-//! Everything must agree in every bit, except the two plane cells of an arc's marked rows: there document 01 asks
+//! Everything must agree in every bit, except the two plane cells of an arc's marked rows: there rule 6.9 asks
 //! 1e-11 * (1 + centre size + radius), where centre size is the larger of the two centre numbers' sizes and radius
-//! the larger radius. What document 01 excludes is judged from the calls: centre, radii, sweep and step are computed
-//! here. An excluded call that differs as document 01 lets it is counted; should it leave two different states, the
+//! the larger radius. What rule 6.10 leaves out is judged from the calls: centre, radii, sweep and step are computed
+//! here. An excluded call that differs as it may is counted; should it leave two different states, the
 //! rest of its sequence (to the next accepted `start`) is passed over.
 
 mod calls;
@@ -16,8 +16,6 @@ use std::fs::File;
 use std::io::{BufRead, BufReader};
 use words::*;
 
-const I: usize = 15;
-const CR: usize = 18;
 const MOST_ARC_ROWS: u64 = 100_000;
 
 type Lines = std::io::Lines<BufReader<File>>;
@@ -71,9 +69,9 @@ struct Arc {
     v: usize,
     distance: f64,
     rows: u64,
-    /// Document 01: "|sweep|/step within one part in 10^9, or 1e-14/step, of a whole number".
+    /// Sweep over step is about a whole number: rule 6.10.
     near_whole: bool,
-    /// Document 01: "sweep before TURN within 1e-9 of 0 or tau unless start equals end exactly".
+    /// The sweep before TURN is about 0 or tau, and start and end are not the same: rule 6.10.
     near_turn: bool,
 }
 
@@ -91,7 +89,7 @@ fn centre(lent: &Lent, row: &[u64], u: usize, v: usize, ends: [f64; 4]) -> Optio
         return None;
     }
     let away = (cr * cr - half * half).max(0.0).sqrt();
-    let left = (motion_then(lent, row) == 4) == (cr >= 0.0);
+    let left = (motion_then(lent, row) == G3) == (cr >= 0.0);
     let away = if left { away } else { -away };
     Some(((su + eu) / 2.0 - away * dv / chord, (sv + ev) / 2.0 + away * du / chord))
 }
@@ -100,7 +98,7 @@ fn centre(lent: &Lent, row: &[u64], u: usize, v: usize, ends: [f64; 4]) -> Optio
 fn arc(lent: &Lent, row: &[u64]) -> Option<Arc> {
     let motion = motion_then(lent, row);
     let state = lent.state();
-    if !matches!(motion, 3 | 4) {
+    if !matches!(motion, G2 | G3) {
         return None;
     }
     let plane = if row[PLANE] == 0 { state[W_PLANE] } else { row[PLANE] };
@@ -125,14 +123,14 @@ fn arc(lent: &Lent, row: &[u64]) -> Option<Arc> {
     let turn = ((ev - cv).atan2(eu - cu) - (sv - cv).atan2(su - cu)).rem_euclid(TAU);
     let agree = (eu - su).abs() < 1e-9 && (ev - sv).abs() < 1e-9;
     let mut sweep = if turn < 1e-12 && agree { TAU } else { turn };
-    if motion == 3 {
+    if motion == G2 {
         sweep -= TAU;
         if agree && sweep > -1e-12 {
             sweep = -TAU;
         }
     }
     let extra = number(row, TURN).map_or(0.0, |turns| turns.max(0.0).round());
-    sweep += if motion == 3 { -TAU * extra } else { TAU * extra };
+    sweep += if motion == G2 { -TAU * extra } else { TAU * extra };
     let step = 2.0 * (1.0 - f64::from_bits(state[0]) / radius).clamp(-1.0, 1.0).acos();
     let quotient = sweep.abs() / step;
     let wanted = if step > 1e-12 { quotient.ceil() as u64 } else { 1 };
@@ -195,7 +193,7 @@ struct Tally {
 
 enum Verdict {
     Same,
-    /// They differ where document 01 excludes it; true where the states part too.
+    /// They differ where they may; true where the states part too.
     Excluded(bool),
     Different,
 }

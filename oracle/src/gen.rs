@@ -130,7 +130,7 @@ fn sequence(seed: u64, i: u64, kind: &str) -> String {
         "mixed" => gen.mixed(),
         "linear" => gen.linear(),
         "curves" => {
-            let curve = gen.curve(5 + (seed + i) % 3);
+            let curve = gen.curve(ASPLINE + (seed + i) % 3);
             return measured(&gen.out, &curve);
         }
         _ => gen.refusals(),

@@ -1,6 +1,6 @@
 //! Runs the calls of docs/INTERFACE.md's `replay` on the unchanged Rust and writes its answers.
 //!
-//! The module `flatten` is docs/src/src/flatten.rs byte for byte. Document 01's refusals are judged here, from the
+//! The module `flatten` is docs/src/src/flatten.rs byte for byte. The refusals are judged here, from the
 //! words alone, before the Rust is called; 7 from the rows that the Rust gives. The words are the state; the Rust's
 //! `Flattener` only runs beside them and is made again from them after a poke or a refused 7. Every valid state can
 //! be made again exactly (see rust.rs). `oracle --rebuild` makes it again before every call: the answers must agree.

@@ -1,4 +1,4 @@
-//! The unchanged Rust behind words: rows to its rows and back, its warnings as document 01's numbers,
+//! The unchanged Rust behind words: rows to its rows and back, its warnings as the numbers of docs/RULES.md,
 //! and a `Flattener` made again from a saved state.
 
 use crate::flatten::Flattener;
@@ -12,7 +12,7 @@ const CELL_NAMES: [&str; CELLS] = [
     "X", "Y", "Z", "A", "B", "C", "U", "V", "W", "E", "N", "F", "S", "D", "T", "I", "J", "K", "CR", "TURN", "PW", "SD",
     "PL",
 ];
-const MOTION_WORDS: [&str; 32] = [
+const MOTION_WORDS: [&str; LAST_MOTION as usize + 1] = [
     "", "G0", "G1", "G2", "G3", "ASPLINE", "BSPLINE", "CSPLINE", "CIP", "CT", "POLY", "G33", "G34", "G35", "INVCW",
     "INVCCW", "SPARE16", "SPARE17", "SPARE18", "SPARE19", "SPARE20", "SPARE21", "SPARE22", "SPARE23", "SPARE24",
     "SPARE25", "SPARE26", "SPARE27", "SPARE28", "SPARE29", "SPARE30", "SPARE31",
@@ -22,7 +22,7 @@ const PLANE_CELL: &str = "gg06_plane_select";
 const CARRY_CELL: &str = "carry";
 /// A cell of a rebuilt block: the SD that the block had before the rebuild gave it the state's degree.
 const SD_BEFORE: &str = "sd before";
-/// A curve word that no row has: it sets "another word" and leaves document 01's words unwarned.
+/// A curve word that no row has: it sets "another word" and leaves the words of rows unwarned.
 const NO_WORD: &str = "OTHER";
 
 struct Names {
@@ -140,7 +140,7 @@ fn warning_number(body: &str) -> u64 {
         "arc needs ",
         " interpolation is not flattened",
     ];
-    1 + TEXTS.iter().position(|text| body.contains(text)).expect("a warning of document 01") as u64
+    1 + TEXTS.iter().position(|text| body.contains(text)).expect("a warning of section 2") as u64
 }
 
 pub fn fresh(tolerance: u64, axes: &[u64]) -> Flattener {
@@ -159,7 +159,7 @@ fn push_cell(flattener: &mut Flattener, cell: &'static str, text: &str) {
 }
 
 fn set_motion(flattener: &mut Flattener, motion: u64) {
-    let word = if motion >= 8 { NO_WORD } else { MOTION_WORDS[motion as usize] };
+    let word = if motion >= FIRST_OTHER { NO_WORD } else { MOTION_WORDS[motion as usize] };
     push_cell(flattener, names().motion, word);
     flattener.finish(&mut Vec::new());
 }
@@ -176,7 +176,7 @@ fn seed_point(flattener: &mut Flattener, state: &[u64], at: usize) {
 pub fn rebuilt(lent: &Lent) -> Flattener {
     let state = lent.state();
     let mut flattener = fresh(state[0], &state[W_AXES..W_AXES + state[W_COUNT] as usize]);
-    for motion in (8..32).filter(|&m| has(state[W_WARNED], m)) {
+    for motion in (FIRST_OTHER as usize..=LAST_MOTION as usize).filter(|&m| has(state[W_WARNED], m)) {
         push_cell(&mut flattener, names().motion, MOTION_WORDS[motion]);
     }
     push_cell(&mut flattener, names().plane, &format!("G{}", state[W_PLANE]));

@@ -1,15 +1,28 @@
-//! What document 01 adds to the Rust: the saved state and the store as words, the refusals 1 to 6, 8 and 9,
+//! What docs/RULES.md adds to the Rust: the saved state and the store as words, the refusals 1 to 6, 8 and 9,
 //! and what an accepted call leaves in the words. No curve is computed here.
 
-pub const CELLS: usize = 23;
+// ---- The layout: the first numbers are chosen, the rest follow.
+/// X Y Z A B C U V W E.
 pub const AXES: usize = 10;
-pub const LAST_CODE: u64 = 14;
-pub const ROW_WORDS: usize = 6 + CELLS;
-pub const STATE_WORDS: usize = 44;
+/// N F S D T.
+const RIDERS: usize = 5;
 pub const MOST_HELD: usize = 256;
 pub const MOST_DEGREE: u64 = 256;
+/// What `replay` lends at most.
 pub const MOST_ROWS: usize = 16384;
 pub const MOST_LENGTH: usize = 64;
+
+pub const F: usize = AXES + 1;
+/// Codes that an axis list may name.
+pub const LIST_CODES: usize = AXES + RIDERS;
+pub const LAST_CODE: u64 = LIST_CODES as u64 - 1;
+pub const I: usize = LIST_CODES;
+pub const CR: usize = I + 3;
+pub const TURN: usize = CR + 1;
+pub const PW: usize = TURN + 1;
+pub const SD: usize = PW + 1;
+pub const PL: usize = SD + 1;
+pub const CELLS: usize = PL + 1;
 
 pub const LINE: usize = 0;
 pub const MOTION: usize = 1;
@@ -18,19 +31,28 @@ pub const MARK: usize = 3;
 pub const CARRY: usize = 4;
 pub const PRESENT: usize = 5;
 pub const CELL: usize = 6;
-
-pub const TURN: usize = 19;
-pub const SD: usize = 21;
+pub const ROW_WORDS: usize = CELL + CELLS;
 
 pub const W_COUNT: usize = 1;
 pub const W_AXES: usize = 2;
-pub const W_MOTION: usize = 17;
-pub const W_PLANE: usize = 18;
-pub const W_KNOWN: usize = 19;
-pub const W_WARNED: usize = 30;
-pub const W_START: usize = 31;
-pub const W_DEGREE: usize = 42;
-pub const W_HELD: usize = 43;
+pub const W_MOTION: usize = W_AXES + LIST_CODES;
+pub const W_PLANE: usize = W_MOTION + 1;
+pub const W_KNOWN: usize = W_PLANE + 1;
+pub const W_WARNED: usize = W_KNOWN + 1 + AXES;
+pub const W_START: usize = W_WARNED + 1;
+pub const W_DEGREE: usize = W_START + 1 + AXES;
+pub const W_HELD: usize = W_DEGREE + 1;
+pub const STATE_WORDS: usize = W_HELD + 1;
+
+// ---- Motions.
+pub const G1: u64 = 2;
+pub const G2: u64 = 3;
+pub const G3: u64 = 4;
+pub const ASPLINE: u64 = 5;
+pub const BSPLINE: u64 = 6;
+pub const CSPLINE: u64 = 7;
+pub const FIRST_OTHER: u64 = 8;
+pub const LAST_MOTION: u64 = 31;
 
 pub type RowWords = [u64; ROW_WORDS];
 
@@ -73,12 +95,12 @@ pub fn has(mask: u64, k: usize) -> bool {
 }
 
 pub fn is_spline(motion: u64) -> bool {
-    (5..=7).contains(&motion)
+    (ASPLINE..=CSPLINE).contains(&motion)
 }
 
-/// "Geometric axes: the started list less codes 10-14, in its order."
+/// The axes of the started list, in its order: rule 1.13.
 pub fn geometric(state: &[u64]) -> Vec<usize> {
-    let count = state[W_COUNT].min(15) as usize;
+    let count = state[W_COUNT].min(LIST_CODES as u64) as usize;
     state[W_AXES..W_AXES + count].iter().map(|&c| c as usize).filter(|&c| c < AXES).collect()
 }
 
@@ -105,7 +127,7 @@ fn tolerance_ok(bits: u64) -> bool {
 
 fn axes_ok(axes: &[u64]) -> bool {
     let fresh = |i: usize| !axes[..i].contains(&axes[i]);
-    axes.len() <= 15 && (0..axes.len()).all(|i| axes[i] <= LAST_CODE && fresh(i))
+    axes.len() <= LIST_CODES && (0..axes.len()).all(|i| axes[i] <= LAST_CODE && fresh(i))
 }
 
 pub fn within(bits: u64) -> bool {
@@ -116,7 +138,7 @@ pub fn within(bits: u64) -> bool {
 pub fn row_check(row: &[u64]) -> u64 {
     let shape = row.len() == ROW_WORDS
         && row[LINE] <= u32::MAX as u64
-        && row[MOTION] <= 31
+        && row[MOTION] <= LAST_MOTION
         && matches!(row[PLANE], 0 | 17..=19)
         && row[MARK] == 0
         && row[PRESENT] < 1 << CELLS;
@@ -140,9 +162,9 @@ fn point_ok(state: &[u64], at: usize) -> bool {
 pub fn state_ok(state: &[u64]) -> bool {
     state.len() == STATE_WORDS
         && tolerance_ok(state[0])
-        && state[W_COUNT] <= 15
+        && state[W_COUNT] <= LIST_CODES as u64
         && axes_ok(&state[W_AXES..W_AXES + state[W_COUNT] as usize])
-        && (1..=31).contains(&state[W_MOTION])
+        && (1..=LAST_MOTION).contains(&state[W_MOTION])
         && (17..=19).contains(&state[W_PLANE])
         && point_ok(state, W_KNOWN)
         && point_ok(state, W_START)
@@ -151,7 +173,7 @@ pub fn state_ok(state: &[u64]) -> bool {
         && (state[W_HELD] == 0 || is_spline(state[W_MOTION]))
 }
 
-/// "State fields (9), 8, held rows (9)", or 0.
+/// 9 for the state, 8, 9 for the held rows, or 0: rule 2.19.
 pub fn saved_check(lent: &Lent) -> u64 {
     if !state_ok(lent.state()) {
         return 9;
@@ -221,14 +243,14 @@ pub fn seed_check(lent: &Lent, axis: u64, bits: u64) -> u64 {
     }
 }
 
-/// "Fresh state: linear, plane 17, no position known."
+/// A fresh state: rule 3.1.
 pub fn started(lent: &mut Lent, tolerance: u64, axes: &[u64]) {
     let state = &mut lent.state[..STATE_WORDS];
     state.fill(0);
     state[0] = tolerance;
     state[W_COUNT] = axes.len() as u64;
     state[W_AXES..W_AXES + axes.len()].copy_from_slice(axes);
-    state[W_MOTION] = 2;
+    state[W_MOTION] = G1;
     state[W_PLANE] = 17;
     state[W_DEGREE] = 3;
 }
@@ -244,7 +266,7 @@ fn place(state: &mut [u64], k: usize, bits: u64) {
     state[W_KNOWN + 1 + k] = bits;
 }
 
-/// "Emission forgets the curve start, keeps the degree."
+/// The curve start and the blocks are forgotten, the degree stays: rule 3.16.
 pub fn emitted(lent: &mut Lent) {
     lent.state[W_START..=W_START + AXES].fill(0);
     lent.state[W_HELD] = 0;
@@ -256,7 +278,7 @@ pub fn closed(lent: &mut Lent) {
     }
 }
 
-/// A row as it is stored or goes out unchanged: "An absent cell's number .. is written as zero."
+/// A row as it is stored or goes out unchanged: an absent cell is zero, rule 1.7.
 pub fn plain(row: &[u64]) -> RowWords {
     let mut out = [0; ROW_WORDS];
     out.copy_from_slice(row);
@@ -277,7 +299,7 @@ pub fn pushed(lent: &mut Lent, row: &[u64]) {
     if is_spline(lent.state[W_MOTION]) {
         buffered(lent, row);
     }
-    if row[MOTION] >= 8 {
+    if row[MOTION] >= FIRST_OTHER {
         lent.state[W_WARNED] |= 1 << row[MOTION];
     }
     for k in geometric(lent.state()) {

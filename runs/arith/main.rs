@@ -1,4 +1,4 @@
-//! The proved arithmetic beside Rust's std: `compare POINTS` holds each function to document 01's bounds,
+//! The proved arithmetic beside Rust's std: `compare POINTS` holds each function to the bounds of rule 6.8,
 //! `time` prints ns a call of both.
 use std::hint::black_box;
 use std::time::Instant;
@@ -19,11 +19,11 @@ extern "C" {
 }
 
 const TAU: f64 = std::f64::consts::TAU;
-/// Document 01: "sine and cosine (up to 6,300 radians) and arc tangent within 1e-15 of the oracle".
+/// Sine, cosine and arc tangent: rule 6.8.
 const TRIG_BOUND: f64 = 1e-15;
-/// "arc cosine within one part in 10^13".
+/// The arc cosine, in parts of itself: rule 6.8.
 const ACOS_BOUND: f64 = 1e-13;
-/// "up to 6,300 radians".
+/// Angles up to this size: rule 6.8.
 const ANGLE_MOST: f64 = 6300.0;
 /// Each count is held below these: see crates/whole/specs/Whole.antt.
 const COUNT_MOST: f64 = 9007199254740992.0;

@@ -1,10 +1,10 @@
 #!/usr/bin/env python3
-"""The row text of document 01, written a second time, and the cases that a flatcsv is held against.
+"""The row text of docs/RULES.md, section 7, written a second time, and the cases that a flatcsv is held against.
 
 usage: tests/text/model.py ORACLE < in > out 2> err      what flatcsv must answer
        tests/text/model.py ORACLE --make                 write NAME.in, NAME.out and NAME.err of every case
 
-The text is read and written here, from document 01 alone. What a block is flattened to is asked of ORACLE, a
+The text is read and written here, from the rules alone. What a block is flattened to is asked of ORACLE, a
 program that answers calls as the program `replay` does.
 """
 import os
@@ -15,7 +15,10 @@ from fractions import Fraction
 
 HEADER = b"line_no,gg01_motion,gg06_plane_select,X,Y,Z,I,J,K,CR,TURN,PW,SD,F"
 HEADER_OUT = HEADER + b",flattened"
-CODES = [0, 1, 2, 15, 16, 17, 18, 19, 20, 21, 11]
+# The cells of a row, each at its code, and those that row text has a column for.
+CELLS = "X Y Z A B C U V W E N F S D T I J K CR TURN PW SD PL".split()
+COLUMNS = HEADER.decode().split(",")[3:]
+CODES = [CELLS.index(name) for name in COLUMNS]
 WORDS = [b"", b"G0", b"G1", b"G2", b"G3", b"ASPLINE", b"BSPLINE", b"CSPLINE", b"CIP", b"CT", b"POLY", b"G33", b"G34",
          b"G35", b"INVCW", b"INVCCW"]
 PLANES = {b"": 0, b"G17": 17, b"G18": 18, b"G19": 19}
@@ -85,7 +88,7 @@ def answered(text):
         if words[0] == "row":
             presence = int(words[6], 16)
             numbers = iter(struct.unpack(">d", bytes.fromhex(w))[0] for w in words[7:])
-            cells = {k: next(numbers) for k in range(23) if presence >> k & 1}
+            cells = {k: next(numbers) for k in range(len(CELLS)) if presence >> k & 1}
             rows.append((int(words[1]), int(words[2]), int(words[3]), int(words[4]), cells))
         elif words[0] == "warn":
             warning = int(words[1])
@@ -142,8 +145,7 @@ def flatcsv(oracle, data):
 
 # ---- the cases
 def line(n, motion="", plane="", **cells):
-    names = ["X", "Y", "Z", "I", "J", "K", "CR", "TURN", "PW", "SD", "F"]
-    return ",".join([str(n), motion, plane] + [str(cells.get(k, "")) for k in names]).encode()
+    return ",".join([str(n), motion, plane] + [str(cells.get(k, "")) for k in COLUMNS]).encode()
 
 
 def program(*lines):

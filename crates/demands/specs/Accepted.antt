@@ -8,12 +8,15 @@ use mathlib.Core.Option.{none}
 use lib.ListN.{length, getD}
 use lib.Dec.{leb, ltb, eqb}
 use borrow.Author.Tests.{eqb-true, eqb-false, ne-eqb, leb-true, leb-false, ltb-true}
-use Rattle.rows.specs.Codes.{axisCodes, rowWords, wKnown, wStart, stateWords, mostHeld, mostDegree, isSpline}
-use Rattle.rows.specs.Row.{all, shapeOk, numbersOk, turnOk, rowCheck}
-use Rattle.rows.specs.Masks.{has-past}
-use Rattle.rows.specs.Truth.{by-bit, cond-t, cond-f, and-left, and-right}
-use Rattle.saved.specs.State.{tolOk, axisCount, axesOk, motionNow, planeNow, degree, pointAtOk, pointOk, pointWord, position, curveStart, heldOk, stateOk, storeOk, savedCheck, held, heldRowOk}
-use Rattle.blocks.specs.Blocks.{kept, motionThen, isFull, pushCheck}
+use Rattle.layout.specs.Layout.{axisCodes, rowWords, wKnown, wStart, stateWords, mostHeld, mostDegree, listCodes, wTolerance}
+use Rattle.motion.specs.Motion.{isSpline, lastMotion}
+use Rattle.floats.specs.Lists.{all}
+use Rattle.row_check.specs.Check.{shapeOk, numbersOk, turnOk, rowCheck}
+use Rattle.row_cells.specs.Masks.{has-past}
+use Rattle.floats.specs.Truth.{by-bit, cond-t, cond-f, and-left, and-right}
+use Rattle.saved_state.specs.State.{tolOk, axisCount, axesOk, motionNow, planeNow, degree, pointAtOk, pointOk, pointWord, position, curveStart}
+use Rattle.saved_state.specs.State.{heldOk, stateOk, storeOk, savedCheck, held, heldRowOk}
+use Rattle.push_check.specs.Blocks.{kept, motionThen, isFull, pushCheck}
 
 -- a chain of tests answers 0 only where every one passes
 passes : (b : Bool) (x y : ℕ) → (y ≡ 0 → ⊥) → cond b x y ≡ 0 → (b ≡ true) × (x ≡ 0)
@@ -50,7 +53,7 @@ conj-at (b ∷ d ∷ bs) (suc i) p = conj-at (d ∷ bs) i (and-right b (conj (d 
 
 abbrev tests : List ℕ → List Bool
 tests st =
-    eqb (length st) stateWords ∷ tolOk (getD st 0 0) ∷ axesOk st ∷ (leb 1 (motionNow st) && leb (motionNow st) 31)
+    eqb (length st) stateWords ∷ tolOk (getD st wTolerance 0) ∷ axesOk st ∷ (leb 1 (motionNow st) && leb (motionNow st) lastMotion)
     ∷ (leb 17 (planeNow st) && leb (planeNow st) 19) ∷ pointOk st wKnown ∷ pointOk st wStart
     ∷ (leb 1 (degree st) && leb (degree st) mostDegree) ∷ heldOk st ∷ []
 
@@ -61,15 +64,16 @@ test st i h = conj-at (tests st) i h
 pub state-words : (st : List ℕ) → stateOk st ≡ true → length st ≡ stateWords
 state-words st h = eqb-true (length st) stateWords (test st 0 h)
 
-pub few-axes : (st : List ℕ) → stateOk st ≡ true → axisCount st ≤ 15
+pub few-axes : (st : List ℕ) → stateOk st ≡ true → axisCount st ≤ listCodes
 unfolding axesOk
-few-axes st h = leb-true (axisCount st) 15 (and-left (leb (axisCount st) 15) _ (test st 2 h))
+few-axes st h = leb-true (axisCount st) listCodes (and-left (leb (axisCount st) listCodes) _ (test st 2 h))
 
 -- no axis is known past the last
 past-point : (st : List ℕ) (w : ℕ) → pointOk st w ≡ true → (k : ℕ) → axisCodes ≤ k → pointWord st w k ≡ none
 unfolding pointOk pointWord
 past-point st w h k l =
-    let small : getD st w 0 < 2 ^ axisCodes = ltb-true (getD st w 0) (2 ^ axisCodes) (and-left (ltb (getD st w 0) (2 ^ axisCodes)) (all axisCodes (pointAtOk st w)) h) in
+    let small : getD st w 0 < 2 ^ axisCodes =
+    ltb-true (getD st w 0) (2 ^ axisCodes) (and-left (ltb (getD st w 0) (2 ^ axisCodes)) (all axisCodes (pointAtOk st w)) h) in
     cond-f _ none (has-past (getD st w 0) axisCodes k small l)
 
 pub past-place : (st : List ℕ) → stateOk st ≡ true → (k : ℕ) → axisCodes ≤ k → position st k ≡ none
@@ -78,7 +82,7 @@ past-place st h = past-point st wKnown (test st 5 h)
 pub past-start : (st : List ℕ) → stateOk st ≡ true → (k : ℕ) → axisCodes ≤ k → curveStart st k ≡ none
 past-start st h = past-point st wStart (test st 6 h)
 
--- "blocks held while motion is no spline" is refused
+-- 2.13: no block is held while the motion is no spline
 pub held-spline : (st : List ℕ) → stateOk st ≡ true → (held st ≡ 0 → ⊥) → isSpline (motionNow st) ≡ true
 unfolding heldOk
 held-spline st h d =
@@ -136,7 +140,10 @@ pushed st store r e =
       saved = saved st store (eqb-true _ 0 a);
       row = fine r (eqb-true _ 0 b);
       space = f;
-      room = λ h. leb-false (min mostHeld (length store / rowWords)) (kept st r) (sym (ap (λ (t : Bool). t && leb (min mostHeld (length store / rowWords)) (kept st r)) h) ∙ f);
+      room =
+          λ h.
+          leb-false (min mostHeld (length store / rowWords)) (kept st r)
+          (sym (ap (λ (t : Bool). t && leb (min mostHeld (length store / rowWords)) (kept st r)) h) ∙ f);
     })
     (λ b. absurd (eqb-false _ 0 b (sym (cond-t _ _ a ∙ cond-f _ _ b) ∙ e))))
     (λ a. absurd (eqb-false _ 0 a (sym (cond-f _ _ a) ∙ e)))

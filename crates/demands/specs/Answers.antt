@@ -1,4 +1,4 @@
--- When a push or a close is done and when it is refused, that the needed count is the rows it writes given room, and that a contract allows one answer. Assumes nothing.
+-- LAWS. When a push or a close is done or refused, the needed count, and that a contract allows one answer. Assumes nothing.
 use Prim.Native.Nat.{ℕ, _/_, _≤_, _<_}
 use mathlib.Core.Path.{_≡_, sym, _∙_, ap}
 use mathlib.Core.List.{List}
@@ -6,19 +6,19 @@ use native.Mathlib.Omega.{arith}
 use lib.ListN.{length}
 use lib.Dec.{leb, eqb}
 use borrow.Author.Tests.{eqb-true, eqb-false, eq-eqb, ne-eqb, leb-true, leb-false, le-leb, lt-leb}
-use Rattle.rows.specs.Truth.{by-bit, cond-t, cond-f}
-use Rattle.replies.specs.declared.Reply.{Reply}
-use Rattle.floats.specs.Lists.{flatten, spliced}
-use Rattle.rows.specs.Codes.{rowWords}
-use Rattle.rows.specs.Row.{all, shapeOk, numbersOk, turnOk, rowCheck}
-use Rattle.saved.specs.State.{stateOk, storeOk, held, heldRowOk, savedCheck}
-use Rattle.replies.specs.Replies.{plain, After, AfterState, StateIs, tooFew, PushIs}
-use Rattle.blocks.specs.Blocks.{isFull, pushCheck}
-use Rattle.flattener.specs.Push.{pushRows, pushDone, pushSpec}
-use Rattle.closes.specs.Close.{untouched, closeRows, closeState, closeSpec}
+use Rattle.floats.specs.Truth.{by-bit, cond-t, cond-f}
+use Rattle.call_reply.specs.declared.Reply.{Reply}
+use Rattle.floats.specs.Lists.{flatten, spliced, all}
+use Rattle.layout.specs.Layout.{rowWords}
+use Rattle.row_check.specs.Check.{shapeOk, numbersOk, turnOk, rowCheck}
+use Rattle.saved_state.specs.State.{stateOk, storeOk, held, heldRowOk, savedCheck}
+use Rattle.call_reply.specs.Replies.{plain, After, AfterState, StateIs, tooFew, PushIs}
+use Rattle.push_check.specs.Blocks.{isFull, pushCheck}
+use Rattle.call_push.specs.Push.{pushRows, pushDone, pushSpec}
+use Rattle.call_close.specs.Close.{untouched, closeRows, closeState, closeSpec}
 use Rattle.demands.specs.Laws.{cond-both}
 
--- ---- "two replies allowed for one input agree"
+-- ---- 8.4: two answers that are allowed for one call are one
 pub one-answer : {p : After} {r r′ : Reply} {s s′ t t′ u u′ : List ℕ} → PushIs p r s t u → PushIs p r′ s′ t′ u′
     → (r ≡ r′) × (s ≡ s′) × (t ≡ t′) × (u ≡ u′)
 one-answer a b = (a .reply ∙ sym (b .reply), a .state ∙ sym (b .state), a .store ∙ sym (b .store), a .rows ∙ sym (b .rows))
@@ -31,7 +31,8 @@ not-seven-saved : (st store : List ℕ) → savedCheck st store ≡ 7 → ⊥
 unfolding savedCheck
 not-seven-saved st store =
     cond-both (λ (n : ℕ). n ≡ 7 → ⊥) (stateOk st)
-    (cond-both (λ (n : ℕ). n ≡ 7 → ⊥) (storeOk st store) (cond-both (λ (n : ℕ). n ≡ 7 → ⊥) (all (held st) (heldRowOk st store)) (λ e. omega arith) (λ e. omega arith)) (λ e. omega arith))
+    (cond-both (λ (n : ℕ). n ≡ 7 → ⊥) (storeOk st store)
+    (cond-both (λ (n : ℕ). n ≡ 7 → ⊥) (all (held st) (heldRowOk st store)) (λ e. omega arith) (λ e. omega arith)) (λ e. omega arith))
     (λ e. omega arith)
 
 not-seven-row : (r : List ℕ) → rowCheck r ≡ 7 → ⊥
@@ -45,7 +46,8 @@ not-seven : (st store r : List ℕ) → pushCheck st store r ≡ 7 → ⊥
 unfolding pushCheck
 not-seven st store r =
     cond-both (λ (n : ℕ). n ≡ 7 → ⊥) (eqb (savedCheck st store) 0)
-    (cond-both (λ (n : ℕ). n ≡ 7 → ⊥) (eqb (rowCheck r) 0) (cond-both (λ (n : ℕ). n ≡ 7 → ⊥) (isFull st store r) (λ e. omega arith) (λ e. omega arith)) (not-seven-row r))
+    (cond-both (λ (n : ℕ). n ≡ 7 → ⊥) (eqb (rowCheck r) 0) (cond-both (λ (n : ℕ). n ≡ 7 → ⊥) (isFull st store r) (λ e. omega arith) (λ e. omega arith))
+    (not-seven-row r))
     (not-seven-saved st store)
 
 -- ---- how a push answers, and then a close: done, too few places, or refused by a check
@@ -110,11 +112,12 @@ module _ (st store r : List ℕ) where
   push-seven rows (few e f) z = (e, ap (λ (a : After). a .reply .count) (push-few rows e f))
   push-seven rows (turned d) z = absurd (not-seven st store r (sym (ap (λ (a : After). a .reply .code) (push-turned rows d)) ∙ z))
 
-  -- "the reply has the needed count"
-  pub push-count : (rows : List ℕ) → pushSpec st store rows r .reply .code ≡ 7 → (pushCheck st store r ≡ 0) × (pushSpec st store rows r .reply .count ≡ length (pushRows st store r))
+  -- 2.11: the reply has the count that the call needs
+  pub push-count : (rows : List ℕ) → pushSpec st store rows r .reply .code ≡ 7
+      → (pushCheck st store r ≡ 0) × (pushSpec st store rows r .reply .count ≡ length (pushRows st store r))
   push-count rows = push-seven rows (outcome _ _ _)
 
-  -- "it is the rows the same call writes given room"
+  -- 8.6: and that is what the same call writes given room
   pub push-needs : (rows : List ℕ) → pushSpec st store rows r .reply .code ≡ 7 → (lent : List ℕ) → pushSpec st store rows r .reply .count ≤ places lent
       → (pushSpec st store lent r .reply .code ≡ 0) × (pushSpec st store lent r .reply .count ≡ pushSpec st store rows r .reply .count)
   unfolding pushDone
@@ -155,7 +158,8 @@ module _ (st store : List ℕ) where
   close-seven rows (few e f) z = (e, ap (λ (a : After). a .reply .count) (close-few rows e f))
   close-seven rows (turned d) z = absurd (not-seven-saved st store (sym (ap (λ (a : After). a .reply .code) (close-turned rows d)) ∙ z))
 
-  pub close-count : (rows : List ℕ) → closeSpec st store rows .reply .code ≡ 7 → (savedCheck st store ≡ 0) × (closeSpec st store rows .reply .count ≡ length (closeRows st store))
+  pub close-count : (rows : List ℕ) → closeSpec st store rows .reply .code ≡ 7
+      → (savedCheck st store ≡ 0) × (closeSpec st store rows .reply .count ≡ length (closeRows st store))
   close-count rows = close-seven rows (outcome _ _ _)
 
   pub close-needs : (rows : List ℕ) → closeSpec st store rows .reply .code ≡ 7 → (lent : List ℕ) → closeSpec st store rows .reply .count ≤ places lent

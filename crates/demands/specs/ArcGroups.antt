@@ -1,25 +1,32 @@
 -- The group of a block of no spline has the shape that demand 3 asks for: a row passed on, or an arc's rows. Assumes nothing.
 use Prim.Native.Nat.{ℕ, _+_, _-_, _<_}
 use mathlib.Core.Path.{_≡_, refl, sym, _∙_, ap, subst}
-use mathlib.Core.Bool.{Bool, true, false, _&&_, false≢true, true≢false}
+use mathlib.Core.Bool.{Bool, true, false, false≢true}
 use mathlib.Core.List.{List}
 use mathlib.Core.Option.{Option, none, some, Option·getD}
 use native.Mathlib.Omega.{arith}
-use lib.Dec.{leb, eqb}
+use lib.Dec.{eqb}
 use borrow.Author.Tests.{eqb-true, eqb-false, eq-eqb, ne-eqb}
 use lib.Ieee.{Float, eq}
 use Rattle.floats.specs.Numbers.{num, bits, ofNat, _⊘_}
 use Rattle.floats.specs.Lists.{upto, member}
-use Rattle.rows.specs.Codes.{axisCodes, gOne, planeU, planeV, Kind, same, linear, clockwise, counter, akima, basis, cubic, other, refused, kindOf, isSpline}
-use Rattle.rows.specs.Row.{cell, lineOf, markOf, madeRow}
-use Rattle.rows.specs.Truth.{by-bit, cond-t, cond-f}
-use Rattle.arcs.specs.Arc.{Answer, passed, silent, Centre, centred, warned, Ends, Arc, wantedOf, countOf, lastCell, midCell, arcRow, arcRows, fromCentre, fromStart, arcAnswer}
-use Rattle.own.specs.Answer.{answerAs}
-use Rattle.demands.specs.Demands.{Bare, Carries}
+use Rattle.layout.specs.Layout.{axisCodes}
+use Rattle.motion.specs.Motion.{gOne, kindOf, splineKind, isSpline}
+use Rattle.motion.specs.declared.Kind.{Kind}
+use Rattle.motion.specs.declared.Kind.the-variants.{Same, Linear, Clockwise, Counter, Akima, Basis, Cubic, Other, Refused}
+use Rattle.row_cells.specs.Codes.{planeU, planeV}
+use Rattle.row_cells.specs.Row.{cell, lineOf, markOf}
+use Rattle.row_put.specs.Made.{madeRow}
+use Rattle.floats.specs.Truth.{by-bit, cond-t, cond-f}
+use Rattle.arc_rows.specs.Arc.{Answer, passed, silent, Centre, centred, warned, Ends, Arc, wantedOf, countOf, lastCell, midCell, arcRow, arcRows, fromCentre}
+use Rattle.arc_rows.specs.Arc.{fromStart, arcAnswer}
+use Rattle.push_rows.specs.Answer.{answerAs}
+use Rattle.demands.specs.Demands.{Formed, Bare, Carries}
 use Rattle.demands.specs.Laws.{none-some, cond-both}
 use Rattle.demands.specs.Accepted.{Fine}
 use Rattle.demands.specs.InRange.{shown-bits}
-use Rattle.demands.specs.Shapes.{Shaped, upto-shaped, made-line, made-mark, made-shows, made-bare, made-carries, out-shaped, programmed, same-number}
+use Rattle.demands.specs.Shapes.{Shaped, upto-shaped, made-line, made-mark, made-formed, made-shows, made-bare, made-carries, out-shaped, programmed}
+use Rattle.demands.specs.Shapes.{same-number}
 
 module _ (gs r : List ℕ) (fine : Fine r) (small : (k : ℕ) → member k gs ≡ true → k < axisCodes) (plane : ℕ) (pos : ℕ → Option ℕ) where
   -- ---- the rows of an arc whose plane axes are listed
@@ -38,7 +45,8 @@ module _ (gs r : List ℕ) (fine : Fine r) (small : (k : ℕ) → member k gs �
     mid-off f k b = cond-f _ _ (not-plane k (planeU plane) onU b) ∙ cond-f _ _ (not-plane k (planeV plane) onV b) ∙ cond-f _ none b
 
     -- the end of a plane axis: the programmed number
-    plane-end : (k v w : ℕ) (x : Float) (start : ℕ) → x ≡ num (Option·getD (cell r k) start) → member k gs ≡ true → cell r k ≡ some v → some (bits x) ≡ some w → eq (num w) (num v) ≡ true
+    plane-end : (k v w : ℕ) (x : Float) (start : ℕ) → x ≡ num (Option·getD (cell r k) start) → member k gs ≡ true → cell r k ≡ some v → some (bits x) ≡ some w
+        → eq (num w) (num v) ≡ true
     plane-end k v w x start ex m pv cw =
         let y : x ≡ num v = ex ∙ ap (λ (o : Option ℕ). num (Option·getD o start)) pv in
         let z : w ≡ bits (num v) = sym (let q : bits x ≡ w = cc in q) ∙ ap bits y in
@@ -73,12 +81,23 @@ module _ (gs r : List ℕ) (fine : Fine r) (small : (k : ℕ) → member k gs �
           (λ a. ap lineOf (row-last i (eqb-true _ _ a)) ∙ made-line gs r _ _ _ _)
           (λ a. ap lineOf (row-mid i (eqb-false _ _ a)) ∙ made-line gs r _ _ _ _)
 
+      row-formed : (i : ℕ) → Formed (row i)
+      row-formed i =
+          by-bit (eqb (i + 1) n)
+          (λ a. subst (λ (l : List ℕ). Formed l) (sym (row-last i (eqb-true _ _ a))) (made-formed gs r _ _ _ _))
+          (λ a. subst (λ (l : List ℕ). Formed l) (sym (row-mid i (eqb-false _ _ a))) (made-formed gs r _ _ _ _))
+
       row-bare : (i : ℕ) → 0 < i → Bare gs (row i)
       row-bare i p =
           let f : eqb (i + 1) 1 ≡ false = ne-eqb (i + 1) 1 (λ q. omega arith) in
           by-bit (eqb (i + 1) n)
-          (λ a. subst (λ (l : List ℕ). Bare gs l) (sym (row-last i (eqb-true _ _ a) ∙ ap (λ (b : Bool). madeRow gs r b gOne false (lastCell gs plane e r)) f)) (made-bare gs r gOne false _ last-off))
-          (λ a. subst (λ (l : List ℕ). Bare gs l) (sym (row-mid i (eqb-false _ _ a) ∙ ap (λ (b : Bool). madeRow gs r b gOne true (midCell gs plane pos r c (ofNat (i + 1) ⊘ ofNat n))) f)) (made-bare gs r gOne true _ (mid-off _)))
+          (λ a.
+          subst (λ (l : List ℕ). Bare gs l) (sym (row-last i (eqb-true _ _ a) ∙ ap (λ (b : Bool). madeRow gs r b gOne false (lastCell gs plane e r)) f))
+          (made-bare gs r gOne false _ last-off))
+          (λ a.
+          subst (λ (l : List ℕ). Bare gs l)
+          (sym (row-mid i (eqb-false _ _ a) ∙ ap (λ (b : Bool). madeRow gs r b gOne true (midCell gs plane pos r c (ofNat (i + 1) ⊘ ofNat n))) f))
+          (made-bare gs r gOne true _ (mid-off _)))
 
       first-carries : Carries gs r (row 0)
       first-carries =
@@ -90,10 +109,11 @@ module _ (gs r : List ℕ) (fine : Fine r) (small : (k : ℕ) → member k gs �
       row-marked i h = ap markOf (row-mid i (λ q. omega arith)) ∙ made-mark gs r _ _ _ _
 
       rows-shaped : {asks : Type 0} → 0 < n → Shaped gs r asks (upto row n)
-      rows-shaped p = upto-shaped row n p (λ i h. row-line i) first-carries (λ i q h. row-bare i q) row-marked
+      rows-shaped p = upto-shaped row n p (λ i h. row-formed i) (λ i h. row-line i) first-carries (λ i q h. row-bare i q) row-marked
           (λ u a k v w h pv cw.
           let z : n - 1 + 1 ≡ n = omega arith in
-          made-shows gs r fine _ gOne false (lastCell gs plane e r) last-off last-ends k v w h pv (ap (λ (l : List ℕ). cell l k) (sym (row-last (n - 1) z)) ∙ cw))
+          made-shows gs r fine _ gOne false (lastCell gs plane e r) last-off last-ends k v w h pv
+          (ap (λ (l : List ℕ). cell l k) (sym (row-last (n - 1) z)) ∙ cw))
 
     some-rows : (wanted : ℕ) → 0 < countOf wanted
     unfolding countOf
@@ -133,44 +153,23 @@ module _ (gs r : List ℕ) (fine : Fine r) (small : (k : ℕ) → member k gs �
         (pass-shaped 0)
         (start-shaped (pos (planeU plane)) (pos (planeV plane)) refl refl)
 
--- no kind of a spline
-abbrev drawn : Kind → Bool
-drawn same = false
-drawn linear = false
-drawn clockwise = false
-drawn counter = false
-drawn akima = true
-drawn basis = true
-drawn cubic = true
-drawn other = false
-drawn refused = false
-
-kind-shaped : (gs r : List ℕ) → Fine r → ((k : ℕ) → member k gs ≡ true → k < axisCodes) → (plane : ℕ) (pos : ℕ → Option ℕ) → ((k : ℕ) → member k gs ≡ false → pos k ≡ none)
-    → (tol : Float) (m : Kind) → drawn m ≡ false → {asks : Type 0} → Shaped gs r asks (answerAs m tol gs plane pos r .rows)
+kind-shaped : (gs r : List ℕ) → Fine r → ((k : ℕ) → member k gs ≡ true → k < axisCodes) → (plane : ℕ) (pos : ℕ → Option ℕ)
+    → ((k : ℕ) → member k gs ≡ false → pos k ≡ none)
+    → (tol : Float) (m : Kind) → splineKind m ≡ false → {asks : Type 0} → Shaped gs r asks (answerAs m tol gs plane pos r .rows)
 unfolding answerAs
-kind-shaped gs r fine small plane pos off tol same f = pass-shaped gs r fine small plane pos 0
-kind-shaped gs r fine small plane pos off tol linear f = pass-shaped gs r fine small plane pos 0
-kind-shaped gs r fine small plane pos off tol clockwise f = arc-answer-shaped gs r fine small plane pos off tol true
-kind-shaped gs r fine small plane pos off tol counter f = arc-answer-shaped gs r fine small plane pos off tol false
-kind-shaped gs r fine small plane pos off tol akima f = absurd (false≢true (sym f))
-kind-shaped gs r fine small plane pos off tol basis f = absurd (false≢true (sym f))
-kind-shaped gs r fine small plane pos off tol cubic f = absurd (false≢true (sym f))
-kind-shaped gs r fine small plane pos off tol other f = pass-shaped gs r fine small plane pos 0
-kind-shaped gs r fine small plane pos off tol refused f = pass-shaped gs r fine small plane pos 0
-
-drawn-spline : (m : ℕ) → isSpline m ≡ false → drawn (kindOf m) ≡ false
-unfolding isSpline kindOf
-drawn-spline m f =
-    by-bit (eqb m 0) (λ a. rw a)
-    (λ a. rw a (by-bit (leb m 2) (λ b. rw b)
-    (λ b. rw b (by-bit (eqb m 3) (λ c. rw c)
-    (λ c. rw c (by-bit (eqb m 4) (λ d. rw d)
-    (λ d. rw d (by-bit (eqb m 5) (λ e. absurd (true≢false (sym (ap (λ (n : ℕ). leb 5 n && leb n 7) (eqb-true m 5 e)) ∙ f)))
-    (λ e. rw e (by-bit (eqb m 6) (λ g. absurd (true≢false (sym (ap (λ (n : ℕ). leb 5 n && leb n 7) (eqb-true m 6 g)) ∙ f)))
-    (λ g. rw g (by-bit (eqb m 7) (λ h. absurd (true≢false (sym (ap (λ (n : ℕ). leb 5 n && leb n 7) (eqb-true m 7 h)) ∙ f)))
-    (λ h. rw h (by-bit (leb m 31) (λ i. rw i) (λ i. rw i)))))))))))))))
+kind-shaped gs r fine small plane pos off tol Same f = pass-shaped gs r fine small plane pos 0
+kind-shaped gs r fine small plane pos off tol Linear f = pass-shaped gs r fine small plane pos 0
+kind-shaped gs r fine small plane pos off tol Clockwise f = arc-answer-shaped gs r fine small plane pos off tol true
+kind-shaped gs r fine small plane pos off tol Counter f = arc-answer-shaped gs r fine small plane pos off tol false
+kind-shaped gs r fine small plane pos off tol Akima f = absurd (false≢true (sym f))
+kind-shaped gs r fine small plane pos off tol Basis f = absurd (false≢true (sym f))
+kind-shaped gs r fine small plane pos off tol Cubic f = absurd (false≢true (sym f))
+kind-shaped gs r fine small plane pos off tol Other f = pass-shaped gs r fine small plane pos 0
+kind-shaped gs r fine small plane pos off tol Refused f = pass-shaped gs r fine small plane pos 0
 
 -- the group of a block of no spline
-pub own-shaped : (gs r : List ℕ) → Fine r → ((k : ℕ) → member k gs ≡ true → k < axisCodes) → (plane : ℕ) (pos : ℕ → Option ℕ) → ((k : ℕ) → member k gs ≡ false → pos k ≡ none)
+pub own-shaped : (gs r : List ℕ) → Fine r → ((k : ℕ) → member k gs ≡ true → k < axisCodes) → (plane : ℕ) (pos : ℕ → Option ℕ)
+    → ((k : ℕ) → member k gs ≡ false → pos k ≡ none)
     → (tol : Float) (m : ℕ) → isSpline m ≡ false → {asks : Type 0} → Shaped gs r asks (answerAs (kindOf m) tol gs plane pos r .rows)
-own-shaped gs r fine small plane pos off tol m f = kind-shaped gs r fine small plane pos off tol (kindOf m) (drawn-spline m f)
+unfolding isSpline
+own-shaped gs r fine small plane pos off tol m f = kind-shaped gs r fine small plane pos off tol (kindOf m) f

@@ -7,19 +7,19 @@ use native.Mathlib.Omega.{arith}
 use lib.ListN.{length}
 use lib.Dec.{leb, eqb}
 use borrow.Author.Tests.{eqb-true}
-use Rattle.rows.specs.Truth.{by-bit}
-use Rattle.replies.specs.declared.Reply.{Reply}
-use Rattle.floats.specs.Lists.{member}
+use Rattle.floats.specs.Truth.{by-bit}
+use Rattle.call_reply.specs.declared.Reply.{Reply}
+use Rattle.floats.specs.Lists.{member, all}
 use Rattle.floats.specs.Fill.{length-upto}
-use Rattle.rows.specs.Codes.{stateWords, lastCode}
-use Rattle.rows.specs.Row.{all, within, shapeOk, numbersOk, turnOk, rowCheck}
-use Rattle.saved.specs.State.{stateOk, storeOk, tolOk, codesOk, geometric, held, heldRowOk, savedCheck}
-use Rattle.replies.specs.Replies.{plain, AfterState, tooFew}
-use Rattle.starts.specs.Start.{freshWord, fresh, startSpec}
-use Rattle.starts.specs.Seed.{seeded, seedSpec}
-use Rattle.blocks.specs.Blocks.{isFull, pushCheck}
-use Rattle.flattener.specs.Push.{pushRows, pushDone, pushSpec}
-use Rattle.closes.specs.Close.{untouched, fits, closeRows, closeState, closeSpec}
+use Rattle.layout.specs.Layout.{stateWords, lastCode}
+use Rattle.row_check.specs.Check.{within, shapeOk, numbersOk, turnOk, rowCheck}
+use Rattle.saved_state.specs.State.{stateOk, storeOk, tolOk, codesOk, geometric, held, heldRowOk, savedCheck}
+use Rattle.call_reply.specs.Replies.{plain, AfterState, tooFew}
+use Rattle.call_start.specs.Start.{freshWord, fresh, startSpec}
+use Rattle.call_start.specs.Seed.{seeded, seedSpec}
+use Rattle.push_check.specs.Blocks.{isFull, pushCheck}
+use Rattle.call_push.specs.Push.{pushRows, pushDone, pushSpec}
+use Rattle.call_close.specs.Close.{untouched, fits, closeRows, closeState, closeSpec}
 use Rattle.demands.specs.Demands.{Turned, Safe, SafeState, Demand1}
 use Rattle.demands.specs.Laws.{cond-both}
 use Rattle.demands.specs.RowLengths.{pushRows-long, closeRows-long}
@@ -41,7 +41,8 @@ saved-nine : (st store : List ℕ) → savedCheck st store ≤ 9
 unfolding savedCheck
 saved-nine st store =
     cond-both (λ (n : ℕ). n ≤ 9) (stateOk st)
-    (cond-both (λ (n : ℕ). n ≤ 9) (storeOk st store) (cond-both (λ (n : ℕ). n ≤ 9) (all (held st) (heldRowOk st store)) (omega arith) (omega arith)) (omega arith))
+    (cond-both (λ (n : ℕ). n ≤ 9) (storeOk st store) (cond-both (λ (n : ℕ). n ≤ 9) (all (held st) (heldRowOk st store)) (omega arith) (omega arith))
+    (omega arith))
     (omega arith)
 
 row-nine : (r : List ℕ) → rowCheck r ≤ 9
@@ -103,7 +104,11 @@ push-done st store rows r e f =
     record {
       turned = done-turned _ refl;
       same = λ d. absurd (d refl);
-      long = (pushState-length st r (p .saved .words) ∙ sym (p .saved .words), pushStore-length st store r p, spliced-rows (pushRows st store r) rows (pushRows-long st store r) f);
+      long = (
+        pushState-length st r (p .saved .words) ∙ sym (p .saved .words),
+        pushStore-length st store r p,
+        spliced-rows (pushRows st store r) rows (pushRows-long st store r) f,
+      );
     }
 
 push-safe : (st store rows r : List ℕ) → Safe (pushSpec st store rows r) st store rows

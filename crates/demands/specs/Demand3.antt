@@ -6,12 +6,14 @@ use mathlib.Core.List.{List, [], _∷_, _++_, map}
 use native.Mathlib.Omega.{arith}
 use lib.ListN.{length}
 use lib.Dec.{eqb}
-use Rattle.rows.specs.Codes.{stateWords, geometricOf}
-use Rattle.rows.specs.Truth.{by-bit}
-use Rattle.saved.specs.State.{tolOk, codesOk}
-use Rattle.starts.specs.Start.{fresh, startSpec}
-use Rattle.closes.specs.Close.{closeSpec}
-use Rattle.demands.specs.Groups.{Event, seed, block, closed, blocksOf, Standing, atFirst, withBlock, withSeed, withClose, Piece, pieceOf, piecesFrom, pieces}
+use Rattle.layout.specs.Layout.{stateWords}
+use Rattle.row_cells.specs.Codes.{geometricOf}
+use Rattle.floats.specs.Truth.{by-bit}
+use Rattle.saved_state.specs.State.{tolOk, codesOk}
+use Rattle.call_start.specs.Start.{fresh, startSpec}
+use Rattle.call_close.specs.Close.{closeSpec}
+use Rattle.demands.specs.Groups.{Event, seed, block, closed, blocksOf, Standing, atFirst, withBlock, withSeed, withClose, Piece, pieceOf, piecesFrom}
+use Rattle.demands.specs.Groups.{pieces}
 use Rattle.demands.specs.Demands.{wrote, Ran, run, Written, Demand3}
 use Rattle.demands.specs.Stands.{Stands, small-axes, fresh-stands}
 use Rattle.demands.specs.Pending.{toCome, come-empty}
@@ -20,7 +22,8 @@ use Rattle.demands.specs.Sound.{sound-run}
 use Rattle.demands.specs.Each.{keeps-first, each-group}
 
 -- an accepted start
-started : (old : List ℕ) (tol : ℕ) (axes : List ℕ) → startSpec old tol axes .reply .code ≡ 0 → (codesOk axes ≡ true) × (startSpec old tol axes .state ≡ fresh tol axes)
+started : (old : List ℕ) (tol : ℕ) (axes : List ℕ) → startSpec old tol axes .reply .code ≡ 0
+    → (codesOk axes ≡ true) × (startSpec old tol axes .state ≡ fresh tol axes)
 unfolding startSpec
 started old tol axes =
     by-bit (eqb (length old) stateWords)
@@ -31,7 +34,7 @@ started old tol axes =
     (λ b. rw (a, b) (λ z. absurd (omega arith))))
     (λ a. rw a (λ z. absurd (omega arith)))
 
--- "one group of rows for each block, in block order"
+-- 8.7: one group for each block, in block order
 in-order : (tol : ℕ) (gs : List ℕ) (s : Standing) (es : List Event) → map (λ (p : Piece). p .block) (piecesFrom tol gs s es) ≡ blocksOf es
 unfolding piecesFrom pieceOf blocksOf
 in-order tol gs s [] = refl
@@ -49,7 +52,9 @@ demand3 old tol axes store cs rows z x e c =
     let ok : (codesOk axes ≡ true) × (startSpec old tol axes .state ≡ fresh tol axes) = started old tol axes z in
     let g : x ≡ run (fresh tol axes) store cs = e ∙ ap (λ (st : List ℕ). run st store cs) (ok .1) in
     let t : Stands tol (geometricOf axes) atFirst (fresh tol axes) store = fresh-stands tol axes (ok .0) store in
-    subst (λ (y : Ran). closeSpec (y .state) (y .store) rows .reply .code ≡ 0 → Written tol axes (y .events) (y .out ++ wrote (closeSpec (y .state) (y .store) rows))) (sym g)
+    subst
+    (λ (y : Ran). closeSpec (y .state) (y .store) rows .reply .code ≡ 0 → Written tol axes (y .events) (y .out ++ wrote (closeSpec (y .state) (y .store) rows)))
+    (sym g)
     (λ d. record {
       groups = run-groups cs rows t d ∙ ap words (at-first tol axes (run (fresh tol axes) store cs .events));
       order = in-order tol (geometricOf axes) atFirst (run (fresh tol axes) store cs .events);

@@ -1,4 +1,4 @@
--- Demands 1 and 3, as statements over the four calls' definitions. Demand1, Demand3 and NoTrace prove them; Answers, Places, ShutOut, StaysGood and Starred say what else follows. Assumes nothing.
+-- DEFINITIONS. Demands 1 and 3, as statements over the definitions of the four calls. Assumes nothing.
 use Prim.Native.Nat.{ℕ, _+_, _-_, _*_, _≤_, _<_}
 use mathlib.Core.Path.{_≡_}
 use mathlib.Core.Bool.{Bool, true, false, cond}
@@ -7,30 +7,31 @@ use mathlib.Core.Option.{none, some}
 use lib.ListN.{length, getD, take}
 use lib.Dec.{eqb}
 use lib.Ieee.{eq}
-use Rattle.replies.specs.declared.Reply.{Reply}
+use Rattle.call_reply.specs.declared.Reply.{Reply}
 use Rattle.floats.specs.Numbers.{num, f1}
 use Rattle.floats.specs.Lists.{member, flatten}
-use Rattle.rows.specs.Codes.{rowWords, lastCode, geometricOf}
-use Rattle.rows.specs.Row.{lineOf, motionOf, planeOf, markOf, carryOf, cell}
-use Rattle.replies.specs.Replies.{After, AfterState}
-use Rattle.starts.specs.Start.{startSpec}
-use Rattle.starts.specs.Seed.{seedSpec}
-use Rattle.splines.specs.Emission.{weightOf}
-use Rattle.flattener.specs.Push.{pushSpec}
-use Rattle.closes.specs.Close.{closeSpec}
+use Rattle.layout.specs.Layout.{rowWords, lastCode}
+use Rattle.row_cells.specs.Codes.{geometricOf}
+use Rattle.row_cells.specs.Row.{lineOf, motionOf, planeOf, markOf, carryOf, cell}
+use Rattle.call_reply.specs.Replies.{After, AfterState}
+use Rattle.call_start.specs.Start.{startSpec}
+use Rattle.call_start.specs.Seed.{seedSpec}
+use Rattle.spline_emission.specs.Emission.{weightOf}
+use Rattle.call_push.specs.Push.{pushSpec}
+use Rattle.call_close.specs.Close.{closeSpec}
 use Rattle.demands.specs.Groups.{Event, seed, block, closed, blocksOf, Piece, pieces, groups}
 use Rattle.demands.specs.Laws.{Every}
 
 -- ---- Demand 1. That no call halts or leaves its memory is what the proof of each exported function, which has no `requires`, says: every
 -- input has an answer, and the slices keep their lengths. Here is what the answers are.
 
--- "It turns down a call with one of ten numbers": the tenth, 10, is `flatcsv`'s own. "Every refusal .. gives warning 0 and no held axes and, 7 apart, has count 0"
+-- 8.2: the number of a refusal is one of 1 to 9 (10 is `flatcsv`'s own), and 2.4: it says nothing else
 pub record Turned (p : Reply) : Type 0 where
   pub ten : p .code ≤ 9
   pub none : (p .code ≡ 0 → ⊥) → (p .warning ≡ 0) × (p .wanted ≡ 0) × (p .held ≡ 0)
   pub count : (p .code ≡ 0 → ⊥) → (p .code ≡ 7 → ⊥) → p .count ≡ 0
 
--- "The state, spline store and row buffer then hold the bytes they held before that call"; and no call changes a length
+-- 8.2, 8.3: a refusal leaves every word, and no call changes a length
 pub record Safe (a : After) (st store rows : List ℕ) : Type 0 where
   pub turned : Turned (a .reply)
   pub same : (a .reply .code ≡ 0 → ⊥) → (a .state ≡ st) × (a .store ≡ store) × (a .rows ≡ rows)
@@ -82,7 +83,7 @@ pub record Ran : Type 0 where
   pub out : List ℕ
   pub events : List Event
 
--- "state and store handed on untouched"
+-- each call gets the state and the store that the one before it left
 unfoldable pub run : List ℕ → List ℕ → List Call → Ran
 run st store [] = record { state = st; store = store; out = []; events = [] }
 run st store (c ∷ cs) =
@@ -90,7 +91,7 @@ run st store (c ∷ cs) =
     let rest = run (a .state) (a .store) cs in
     record { state = rest .state; store = rest .store; out = wrote a ++ rest .out; events = taken a c ++ rest .events }
 
--- "Feed, tool and other carried cells stand on its first row only": a later row has geometric cells alone
+-- 8.8: a later row has geometric cells alone
 pub record Bare (gs row : List ℕ) : Type 0 where
   pub motion : motionOf row ≡ 0
   pub plane : planeOf row ≡ 0
@@ -103,7 +104,7 @@ pub record Carries (gs r row : List ℕ) : Type 0 where
   pub carry : carryOf row ≡ carryOf r
   pub cells : (k : ℕ) → k ≤ lastCode → member k gs ≡ false → cell row k ≡ cell r k
 
--- "each listed axis number that it shows and the block programmed equals the programmed one": so does any of the codes 0 to 14 that a list may hold; "Demand 3 counts -0 as 0"
+-- 8.9: each number that the row shows and the block programs is the programmed one, of all codes that a list may hold; -0 counts as 0
 pub record Shows (r row : List ℕ) : Type 0 where
   pub equal : (k v w : ℕ) → k ≤ lastCode → cell r k ≡ some v → cell row k ≡ some w → eq (num w) (num v) ≡ true
 
@@ -114,22 +115,28 @@ rowAt g j = getD g j []
 abbrev pub lastRow : List (List ℕ) → List ℕ
 lastRow g = rowAt g (length g - 1)
 
--- the group of a block: not empty, "each row with its block's line number", "Only its last row may be unmarked"; "on the last point of a B-spline this needs weight 1"
+-- a row of its full number of words, with a mark of 0 or 1
+pub record Formed (row : List ℕ) : Type 0 where
+  pub wide : length row ≡ rowWords
+  pub mark : markOf row ≤ 1
+
+-- 8.7 to 8.9: the group of a block
 pub record Group (gs : List ℕ) (p : Piece) : Type 0 where
   pub filled : 0 < length (p .rows)
+  pub formed : (j : ℕ) → j < length (p .rows) → Formed (rowAt (p .rows) j)
   pub lines : (j : ℕ) → j < length (p .rows) → lineOf (rowAt (p .rows) j) ≡ lineOf (p .block)
   pub carries : Carries gs (p .block) (rowAt (p .rows) 0)
   pub bare : (j : ℕ) → 0 < j → j < length (p .rows) → Bare gs (rowAt (p .rows) j)
   pub marked : (j : ℕ) → j + 1 < length (p .rows) → markOf (rowAt (p .rows) j) ≡ 1
   pub ends : markOf (lastRow (p .rows)) ≡ 0 → (p .last ≡ true → eq (weightOf (p .block)) f1 ≡ true) → Shows (p .block) (lastRow (p .rows))
 
--- "The output is one group of rows for each block, in block order: no group missing, empty, split or repeated"
+-- 8.7: what was written is one group for each block, in block order, and each is as it should be
 pub record Written (tol : ℕ) (axes : List ℕ) (es : List Event) (out : List ℕ) : Type 0 where
   pub groups : out ≡ flatten (flatten (groups (pieces tol axes es)))
   pub order : map (λ (p : Piece). p .block) (pieces tol axes es) ≡ blocksOf es
   pub each : Every (Group (geometricOf axes)) (pieces tol axes es)
 
--- "Take any accepted blocks and seeds from a fresh start, state and store handed on untouched, then an accepted close": the calls cs may hold refused ones, and closes
+-- 8.7: after an accepted start any calls, refused ones and closes among them, and then an accepted close
 abbrev pub Demand3 : Type 0
 Demand3 =
     (old : List ℕ) (tol : ℕ) (axes store : List ℕ) (cs : List Call) (rows : List ℕ)
@@ -139,7 +146,7 @@ Demand3 =
     → closeSpec (x .state) (x .store) rows .reply .code ≡ 0
     → Written tol axes (x .events) (x .out ++ wrote (closeSpec (x .state) (x .store) rows))
 
--- "Refused calls in between change none of it": the calls of cs that are accepted, each where it stands in cs
+-- 8.10: the calls of cs that are accepted, each where it stands in cs
 unfoldable pub acceptedOf : List ℕ → List ℕ → List Call → List Call
 acceptedOf st store [] = []
 acceptedOf st store (c ∷ cs) =

@@ -12,13 +12,18 @@ use lib.Ieee.{Float, eq, lt}
 use Rattle.floats.specs.Numbers.{num, f1, 1e-4}
 use Rattle.floats.specs.Lists.{keep, member, anyOf, opt}
 use Rattle.floats.specs.Fill.{at-upto}
-use Rattle.rows.specs.Codes.{axisCodes, cPW, mostHeld, isSpline}
-use Rattle.rows.specs.Row.{has, cell, number, presentOf, hasPoint, outRow, within}
-use Rattle.rows.specs.Truth.{by-bit, and-left, cond-t, cond-f}
-use Rattle.rows.specs.RowLaws.{out-line, out-plane, out-carry, out-cell, out-point, out-check, check-cell-within, shape-present}
-use Rattle.splines.specs.Emission.{Spline, splineGroups, heldGroup, runsOf, weightOf}
+use Rattle.layout.specs.Layout.{axisCodes, cPW, mostHeld}
+use Rattle.motion.specs.Motion.{isSpline, isBasis}
+use Rattle.row_cells.specs.Bits.{has}
+use Rattle.row_cells.specs.Row.{cell, number, presentOf, hasPoint, outRow}
+use Rattle.row_check.specs.Check.{within}
+use Rattle.floats.specs.Truth.{by-bit, and-left, cond-t, cond-f}
+use Rattle.row_cells.specs.RowLaws.{out-line, out-plane, out-carry, out-cell, out-point}
+use Rattle.row_check.specs.CheckLaws.{out-check, check-cell-within, shape-present}
+use Rattle.spline_emission.specs.Emission.{Spline, splineGroups, heldGroup, runsOf, weightOf}
 use Rattle.demands.specs.Laws.{some-same, none-some, cond-both, Every, nil, more, every-append}
-use Rattle.demands.specs.Groups.{Event, block, Standing, atFirst, movedByBlock, movedBySeed, motionWith, goesOn, withBlock, withSeed, withClose, together, splineWith, Piece, pieceOf, piecesFrom}
+use Rattle.demands.specs.Groups.{Event, block, Standing, atFirst, movedByBlock, movedBySeed, motionWith, goesOn, withBlock, withSeed, withClose}
+use Rattle.demands.specs.Groups.{together, splineWith, Piece, pieceOf, piecesFrom}
 use Rattle.demands.specs.Demands.{Group}
 use Rattle.demands.specs.Accepted.{Fine, fine, fine-check}
 use Rattle.demands.specs.Stands.{map-append}
@@ -84,23 +89,42 @@ unfolding keep anyOf
 no-points gs [] nil e = refl
 no-points gs (r ∷ rs) (more f fs) e = by-point (hasPoint gs r) refl (no-points gs rs fs)
   where
-    by-point : (b : Bool) → hasPoint gs r ≡ b → (length (keep (hasPoint gs) (map outRow rs)) ≡ 0 → anyOf (hasPoint gs) rs ≡ false) → (hasPoint gs r || anyOf (hasPoint gs) rs) ≡ false
+    by-point : (b : Bool) → hasPoint gs r ≡ b → (length (keep (hasPoint gs) (map outRow rs)) ≡ 0 → anyOf (hasPoint gs) rs ≡ false)
+        → (hasPoint gs r || anyOf (hasPoint gs) rs) ≡ false
     by-point true y rest =
-        let z : suc (length (keep (hasPoint gs) (map outRow rs))) ≡ 0 = sym (ap length (cond-t (outRow r ∷ keep (hasPoint gs) (map outRow rs)) (keep (hasPoint gs) (map outRow rs)) (out-point gs r (shape-present r (f .shape)) ∙ y))) ∙ e in
+        let z : suc (length (keep (hasPoint gs) (map outRow rs))) ≡ 0 =
+        sym
+        (ap length
+        (cond-t (outRow r ∷ keep (hasPoint gs) (map outRow rs)) (keep (hasPoint gs) (map outRow rs)) (out-point gs r (shape-present r (f .shape)) ∙ y)))
+        ∙ e in
         absurd (omega arith)
     by-point false y rest =
         ap (λ (b : Bool). b || anyOf (hasPoint gs) rs) y
-        ∙ rest (sym (ap length (cond-f (outRow r ∷ keep (hasPoint gs) (map outRow rs)) (keep (hasPoint gs) (map outRow rs)) (out-point gs r (shape-present r (f .shape)) ∙ y))) ∙ e)
+        ∙ rest
+        (sym
+        (ap length
+        (cond-f (outRow r ∷ keep (hasPoint gs) (map outRow rs)) (keep (hasPoint gs) (map outRow rs)) (out-point gs r (shape-present r (f .shape)) ∙ y)))
+        ∙ e)
 
 -- ---- one piece
 module _ (tol : ℕ) (gs : List ℕ) (small : (k : ℕ) → member k gs ≡ true → k < axisCodes) where
   shaped-group : (p : Piece) → Shaped gs (p .block) (p .last ≡ true → eq (weightOf (p .block)) f1 ≡ true) (p .rows) → Group gs p
-  shaped-group p h = record { filled = h .filled; lines = h .lines; carries = h .carries; bare = h .bare; marked = h .marked; ends = λ u a. record { equal = h .ends u a } }
+  shaped-group p h =
+      record {
+        filled = h .filled;
+        formed = h .formed;
+        lines = h .lines;
+        carries = h .carries;
+        bare = h .bare;
+        marked = h .marked;
+        ends = λ u a. record { equal = h .ends u a };
+      }
 
   -- the shape of the row that came, by that of the row that the store holds
   came-shaped : (r : List ℕ) {asks : Type 0} {g : List (List ℕ)} → Shaped gs (outRow r) asks g → Shaped gs r asks g
   came-shaped r h = record {
     filled = h .filled;
+    formed = h .formed;
     lines = λ j l. h .lines j l ∙ out-line r;
     carries = record {
       plane = h .carries .plane ∙ out-plane r;
@@ -115,7 +139,8 @@ module _ (tol : ℕ) (gs : List ℕ) (small : (k : ℕ) → member k gs ≡ true
   module _ (s : Standing) (r : List ℕ) (es : List Event) (q : Keeps gs s) (f : Fine r) where
     own-group : isSpline (withBlock gs s r .motion) ≡ false → Group gs (pieceOf tol gs s r es)
     unfolding pieceOf
-    own-group n = shaped-group _ (subst (Shaped gs r _) (sym (cond-f _ _ n)) (own-shaped gs r f small _ (s .place) (q .off) (num tol) (withBlock gs s r .motion) n))
+    own-group n =
+        shaped-group _ (subst (Shaped gs r _) (sym (cond-f _ _ n)) (own-shaped gs r f small _ (s .place) (q .off) (num tol) (withBlock gs s r .motion) n))
 
     -- a block of a spline, with the blocks of it that come after
     module _ (y : isSpline (withBlock gs s r .motion) ≡ true) (rest : Every Fine (together (withBlock gs s r .motion) es))
@@ -144,7 +169,7 @@ module _ (tol : ℕ) (gs : List ℕ) (small : (k : ℕ) → member k gs ≡ true
       unfolding whole splineWith now later
       all-fine = outs-fine (now .curve ++ later) (every-append (keeps-block gs small s r f q .curve) rest)
 
-      few-blocks : length (whole .blocks) ≤ 256
+      few-blocks : length (whole .blocks) ≤ mostHeld
       unfolding whole splineWith now later
       few-blocks = omega (arith, length-map (now .curve ++ later) outRow, length-append (now .curve) later)
 
@@ -155,12 +180,12 @@ module _ (tol : ℕ) (gs : List ℕ) (small : (k : ℕ) → member k gs ≡ true
           (omega (arith, ap length blocks-are, length-append (map outRow (goesOn s r)) (outRow r ∷ map outRow later), length-map (goesOn s r) outRow))
           ∙ ap (heldGroup whole (runsOf whole)) (sym (length-map (goesOn s r) outRow))
 
-      -- "on the last point of a B-spline this needs weight 1"
-      asked : pieceOf tol gs s r es .last ≡ (eqb (now .motion) 6 && (hasPoint gs r && not (anyOf (hasPoint gs) later)))
+      -- 8.9: on the last point of a B-spline this asks for weight 1
+      asked : pieceOf tol gs s r es .last ≡ (isBasis (now .motion) && (hasPoint gs r && not (anyOf (hasPoint gs) later)))
       unfolding pieceOf now later
       asked = refl
 
-      weight : eqb (whole .motion) 6 ≡ true → hasPoint gs (outRow r) ≡ true → length (keep (hasPoint gs) (map outRow later)) ≡ 0
+      weight : isBasis (whole .motion) ≡ true → hasPoint gs (outRow r) ≡ true → length (keep (hasPoint gs) (map outRow later)) ≡ 0
           → (pieceOf tol gs s r es .last ≡ true → eq (weightOf r) f1 ≡ true) → eq (weightOf (outRow r)) f1 ≡ true
       unfolding whole splineWith now later
       weight b h z a =
@@ -173,7 +198,9 @@ module _ (tol : ℕ) (gs : List ℕ) (small : (k : ℕ) → member k gs ≡ true
       spline-group =
           shaped-group _
           (subst (Shaped gs r _) (sym (cond-t _ _ y ∙ group-is))
-          (came-shaped r (held-shaped whole (map outRow (goesOn s r)) (outRow r) (map outRow later) blocks-are all-fine (keeps-block gs small s r f q .start) small few-blocks weight)))
+          (came-shaped r
+          (held-shaped whole (map outRow (goesOn s r)) (outRow r) (map outRow later) blocks-are all-fine (keeps-block gs small s r f q .start) small few-blocks
+          weight)))
 
   -- every piece
   pub each-group : {s : Standing} {es : List Event} → Keeps gs s → Sound gs s es → Every (Group gs) (piecesFrom tol gs s es)

@@ -7,12 +7,15 @@ use lib.ListN.{length, getD}
 use lib.Dec.{eqb}
 use Rattle.floats.specs.Numbers.{num}
 use Rattle.floats.specs.Lists.{member, anyOf}
-use Rattle.rows.specs.Codes.{gOne, cSD, isSpline, kindOf, geometricOf}
-use Rattle.rows.specs.Row.{cell, number, motionOf, planeOf, presentOf, has, hasPoint, outRow}
-use Rattle.splines.specs.Emission.{Spline, splineGroups}
-use Rattle.blocks.specs.Blocks.{orNow}
-use Rattle.own.specs.Answer.{answerAs}
-use Rattle.pushed.specs.Pushed.{degreeWith}
+use Rattle.layout.specs.Layout.{cSD}
+use Rattle.motion.specs.Motion.{gOne, isSpline, isBasis, kindOf}
+use Rattle.row_cells.specs.Codes.{planeXY, geometricOf}
+use Rattle.row_cells.specs.Row.{cell, number, motionOf, planeOf, presentOf, hasPoint, outRow}
+use Rattle.row_cells.specs.Bits.{has}
+use Rattle.spline_emission.specs.Emission.{Spline, splineGroups}
+use Rattle.push_check.specs.Blocks.{orNow}
+use Rattle.push_rows.specs.Answer.{answerAs}
+use Rattle.push_state.specs.Pushed.{degreeWith}
 
 -- what a host gives after a start: seeds, blocks, and closes on the way
 pub data Event : Type 0 where
@@ -34,18 +37,18 @@ pub record Standing : Type 0 where
   pub curve : List (List ℕ)
   pub start : ℕ → Option ℕ
 
--- "Fresh state: linear, plane 17, no position known"
+-- 3.1: as a fresh state stands
 unfoldable pub atFirst : Standing
-atFirst = record { place = λ (k : ℕ). none; motion = gOne; plane = 17; curve = []; start = λ (k : ℕ). none }
+atFirst = record { place = λ (k : ℕ). none; motion = gOne; plane = planeXY; curve = []; start = λ (k : ℕ). none }
 
--- "In every motion positions take the geometric cells present"; a seed of a listed axis too
+-- 3.13: positions take the geometric cells present; 2.21: and a seed of a geometric axis
 unfoldable pub movedByBlock : List ℕ → (ℕ → Option ℕ) → List ℕ → ℕ → Option ℕ
 movedByBlock gs pos r k = cond (member k gs && has (presentOf r) k) (cell r k) (pos k)
 
 unfoldable pub movedBySeed : List ℕ → (ℕ → Option ℕ) → ℕ → ℕ → ℕ → Option ℕ
 movedBySeed gs pos c x k = cond (member k gs && eqb c k) (some x) (pos k)
 
--- "A motion cell sets the motion"
+-- 3.2: the motion in force
 unfoldable pub motionWith : Standing → List ℕ → ℕ
 motionWith s r = orNow (motionOf r) (s .motion)
 
@@ -53,7 +56,7 @@ motionWith s r = orNow (motionOf r) (s .motion)
 unfoldable pub goesOn : Standing → List ℕ → List (List ℕ)
 goesOn s r = cond (eqb (motionWith s r) (s .motion)) (s .curve) []
 
--- "The first held block saves the positions as curve start"
+-- 3.11: the first held block saves the positions as the curve start
 unfoldable pub withBlock : List ℕ → Standing → List ℕ → Standing
 withBlock gs s r =
     record {
@@ -67,7 +70,7 @@ withBlock gs s r =
 unfoldable pub withSeed : List ℕ → Standing → ℕ → ℕ → Standing
 withSeed gs s c x = record { place = movedBySeed gs (s .place) c x; motion = s .motion; plane = s .plane; curve = s .curve; start = s .start }
 
--- "Emission forgets the curve start"
+-- 3.15: a close ends the open spline; its start is not read again
 unfoldable pub withClose : Standing → Standing
 withClose s = record { place = s .place; motion = s .motion; plane = s .plane; curve = []; start = s .start }
 
@@ -78,7 +81,7 @@ together m (seed c x ∷ es) = together m es
 together m (block r ∷ es) = let more = r ∷ together m es in cond (eqb (motionOf r) 0 || eqb (motionOf r) m) more []
 together m (closed ∷ es) = []
 
--- "sets the degree to 3. SD sets the degree": the degree that the spline's last SD sets
+-- 3.11, 3.12: 3, or the degree that the spline's last SD sets
 unfoldable pub degreeFrom : ℕ → List (List ℕ) → ℕ
 degreeFrom d [] = d
 degreeFrom d (r ∷ rs) = degreeFrom (degreeWith d (number r cSD)) rs
@@ -88,7 +91,7 @@ unfoldable pub splineWith : ℕ → List ℕ → Standing → List (List ℕ) �
 splineWith tol gs s rs =
     record { motion = s .motion; power = degreeFrom 3 rs; tol = num tol; axes = gs; start = s .start; blocks = map outRow rs }
 
--- a block, the motion in force, whether it is "the last point of a B-spline", and its group of rows
+-- a block, the motion in force, whether it is a B-spline's last point (8.9), and its group of rows
 pub record Piece : Type 0 where
   pub block : List ℕ
   pub motion : ℕ
@@ -105,7 +108,7 @@ pieceOf tol gs s r es =
     record {
       block = r;
       motion = now .motion;
-      last = eqb (now .motion) 6 && (hasPoint gs r && not (anyOf (hasPoint gs) more));
+      last = isBasis (now .motion) && (hasPoint gs r && not (anyOf (hasPoint gs) more));
       rows = cond (isSpline (now .motion)) curve own;
     }
 

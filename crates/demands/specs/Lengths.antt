@@ -11,13 +11,15 @@ use borrow.Author.Tests.{leb-true}
 use Rattle.floats.specs.Lists.{upto, flatten, member, spliced}
 use Rattle.floats.specs.Fill.{length-upto}
 use Rattle.floats.specs.Splice.{length-spliced}
-use Rattle.rows.specs.Codes.{axisCodes, cSD, rowWords, wMotion, wPlane, wKnown, wWarned, wStart, wDegree, wHeld, stateWords, mostHeld, isSpline}
-use Rattle.rows.specs.Row.{has, motionOf, presentOf, number, outRow}
-use Rattle.rows.specs.Truth.{by-bit}
-use Rattle.saved.specs.State.{held, degree, position, geometric, withBit, placed}
-use Rattle.blocks.specs.Blocks.{emits, kept, motionThen, planeThen, news}
-use Rattle.pushed.specs.Pushed.{forgotten, opened, degreeWith, buffered, trackTo, pushState, pushStore}
-use Rattle.closes.specs.Close.{fits}
+use Rattle.layout.specs.Layout.{axisCodes, cSD, rowWords, wMotion, wPlane, wKnown, wWarned, wStart, wDegree, wHeld, stateWords, mostHeld}
+use Rattle.motion.specs.Motion.{isSpline}
+use Rattle.row_cells.specs.Bits.{has, withBit}
+use Rattle.row_cells.specs.Row.{motionOf, presentOf, number, outRow}
+use Rattle.floats.specs.Truth.{by-bit}
+use Rattle.saved_state.specs.State.{held, degree, position, geometric, placed}
+use Rattle.push_check.specs.Blocks.{emits, kept, motionThen, planeThen, news}
+use Rattle.push_state.specs.Pushed.{forgotten, opened, degreeWith, buffered, trackTo, pushState, pushStore}
+use Rattle.call_close.specs.Close.{fits}
 use Rattle.demands.specs.Laws.{cond-both, Every, length-flatten, every-imp}
 use Rattle.demands.specs.RowLengths.{Long, outRow-long}
 use Rattle.demands.specs.Accepted.{Pushed}
@@ -39,14 +41,14 @@ pub forgotten-length : (st : List ℕ) → length st ≡ stateWords → length (
 unfolding forgotten
 forgotten-length st e =
     let z : List ℕ = upto (λ (k : ℕ). 0) (axisCodes + 1) in
-    let n : length z ≡ 11 = length-upto _ _ in
+    let n : length z ≡ (axisCodes + 1) = length-upto _ _ in
     length-set (spliced st wStart z) wHeld 0 ∙ length-spliced st wStart z (omega (arith, e, n)) ∙ e
 
 pub opened-length : (st : List ℕ) → length st ≡ stateWords → length (opened st) ≡ stateWords
 unfolding opened
 opened-length st e =
     let p : List ℕ = upto (λ (k : ℕ). Option·getD (position st k) 0) axisCodes in
-    let n : length p ≡ 10 = length-upto _ _ in
+    let n : length p ≡ axisCodes = length-upto _ _ in
     length-set (spliced st wStart (getD st wKnown 0 ∷ p)) wDegree 3 ∙ length-spliced st wStart (getD st wKnown 0 ∷ p) (omega (arith, e, n)) ∙ e
 
 pub buffered-length : (st r : List ℕ) → length st ≡ stateWords → length (buffered st r) ≡ stateWords
@@ -80,7 +82,8 @@ module _ (st r : List ℕ) (e : length st ≡ stateWords) where
 
   pub worded-length : length (worded st r) ≡ stateWords
   unfolding worded
-  worded-length = length-set (set (emptied st r) wMotion (motionThen st r)) wPlane (planeThen st r) ∙ length-set (emptied st r) wMotion (motionThen st r) ∙ emptied-length
+  worded-length =
+      length-set (set (emptied st r) wMotion (motionThen st r)) wPlane (planeThen st r) ∙ length-set (emptied st r) wMotion (motionThen st r) ∙ emptied-length
 
   pub laid-length : length (laid st r) ≡ stateWords
   unfolding laid
@@ -88,7 +91,9 @@ module _ (st r : List ℕ) (e : length st ≡ stateWords) where
 
   pub told-length : length (told st r) ≡ stateWords
   unfolding told
-  told-length = cond-both (λ (s : List ℕ). length s ≡ stateWords) (news st r) (length-set (laid st r) wWarned (withBit (getD (laid st r) wWarned 0) (motionOf r)) ∙ laid-length) laid-length
+  told-length =
+      cond-both (λ (s : List ℕ). length s ≡ stateWords) (news st r)
+      (length-set (laid st r) wWarned (withBit (getD (laid st r) wWarned 0) (motionOf r)) ∙ laid-length) laid-length
 
   pub pushState-length : length (pushState st r) ≡ stateWords
   pushState-length = ap length (pushState-steps st r) ∙ track-length axisCodes (told st r) r ∙ told-length

@@ -25,3 +25,4 @@ pub mod Each
 pub mod Demand3
 pub mod StaysGood
 pub mod Places
+pub mod Keeps

@@ -11,13 +11,14 @@ use lib.Dec.{eqb}
 use borrow.Author.Tests.{eqb-true, eqb-false, ne-eqb}
 use Rattle.floats.specs.Numbers.{num}
 use Rattle.floats.specs.Fill.{length-upto}
-use Rattle.rows.specs.Codes.{isSpline, kindOf}
-use Rattle.rows.specs.Row.{motionOf, outRow}
-use Rattle.rows.specs.Truth.{by-bit, cond-t, cond-f}
-use Rattle.splines.specs.Emission.{Spline, splineGroups}
-use Rattle.blocks.specs.Blocks.{orNow}
-use Rattle.own.specs.Answer.{answerAs}
-use Rattle.demands.specs.Groups.{Event, seed, block, closed, Standing, motionWith, goesOn, withBlock, withSeed, withClose, together, degreeFrom, splineWith, pieceOf, piecesFrom, groups}
+use Rattle.motion.specs.Motion.{isSpline, kindOf}
+use Rattle.row_cells.specs.Row.{motionOf, outRow}
+use Rattle.floats.specs.Truth.{by-bit, cond-t, cond-f}
+use Rattle.spline_emission.specs.Emission.{Spline, splineGroups}
+use Rattle.push_check.specs.Blocks.{orNow}
+use Rattle.push_rows.specs.Answer.{answerAs}
+use Rattle.demands.specs.Groups.{Event, seed, block, closed, Standing, motionWith, goesOn, withBlock, withSeed, withClose, together, degreeFrom}
+use Rattle.demands.specs.Groups.{splineWith, pieceOf, piecesFrom, groups}
 
 pub spline-length : (sp : Spline) → length (splineGroups sp) ≡ length (sp .blocks)
 unfolding splineGroups
@@ -207,7 +208,8 @@ module _ (tol : ℕ) (gs : List ℕ) where
           ∙ ap (λ (n : ℕ). take n (splineGroups (splineWith tol gs s (s .curve ++ together (s .motion) (block r ∷ es)))) ++ (its ∷ later)) z
           ∙ after-own
 
-      pub come-own-other : eqb (motionWith s r) (s .motion) ≡ false → toCome tol gs s (block r ∷ es) ≡ opened tol gs s ++ (ownRows tol gs s r ∷ toCome tol gs (withBlock gs s r) es)
+      pub come-own-other : eqb (motionWith s r) (s .motion) ≡ false
+          → toCome tol gs s (block r ∷ es) ≡ opened tol gs s ++ (ownRows tol gs s r ∷ toCome tol gs (withBlock gs s r) es)
       come-own-other e =
           come-block
           ∙ ap (λ (l : List (List (List ℕ))). l ++ (its ∷ later)) (pending-ends s (block r ∷ es) (ends-here e))

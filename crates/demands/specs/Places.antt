@@ -1,4 +1,4 @@
--- "Done replies give the rows written; places beyond them stay", "closing again writes nothing", and when a start and a seed are done. Assumes nothing.
+-- LAWS. 2.2: places beyond the rows stay; 3.15: closing again writes nothing; and when a start and a seed are done. Assumes nothing.
 use Prim.Native.Nat.{ℕ, _+_, _*_, _≤_}
 use mathlib.Core.Path.{_≡_, refl, sym, _∙_, ap, subst}
 use mathlib.Core.Bool.{true}
@@ -11,17 +11,17 @@ use lib.Dec.{leb, eqb}
 use borrow.Author.Tests.{eqb-true, eq-eqb}
 use Rattle.floats.specs.Lists.{flatten, spliced}
 use Rattle.floats.specs.Splice.{spliced-none}
-use Rattle.rows.specs.Codes.{rowWords, stateWords, lastCode}
-use Rattle.rows.specs.Row.{within}
-use Rattle.rows.specs.Truth.{by-bit, cond-t}
-use Rattle.saved.specs.State.{tolOk, codesOk, stateOk, held, savedCheck}
-use Rattle.replies.specs.Replies.{After, plain}
-use Rattle.starts.specs.Start.{fresh, startSpec}
-use Rattle.starts.specs.Seed.{seeded, seedSpec}
-use Rattle.blocks.specs.Blocks.{pushCheck}
-use Rattle.flattener.specs.Push.{pushRows, pushDone, pushSpec}
-use Rattle.closes.specs.Close.{closeRows, closeState, closeSpec}
-use Rattle.flattener.specs.Keeps.{close-saved}
+use Rattle.layout.specs.Layout.{rowWords, stateWords, lastCode}
+use Rattle.row_check.specs.Check.{within}
+use Rattle.floats.specs.Truth.{by-bit, cond-t}
+use Rattle.saved_state.specs.State.{tolOk, codesOk, stateOk, held, savedCheck}
+use Rattle.call_reply.specs.Replies.{After, plain}
+use Rattle.call_start.specs.Start.{fresh, startSpec}
+use Rattle.call_start.specs.Seed.{seeded, seedSpec}
+use Rattle.push_check.specs.Blocks.{pushCheck}
+use Rattle.call_push.specs.Push.{pushRows, pushDone, pushSpec}
+use Rattle.call_close.specs.Close.{closeRows, closeState, closeSpec}
+use Rattle.demands.specs.Keeps.{close-saved}
 use Rattle.demands.specs.Laws.{Every, every-imp, length-flatten}
 use Rattle.demands.specs.RowLengths.{Long, pushRows-long, closeRows-long}
 use Rattle.demands.specs.Accepted.{Saved, saved}
@@ -29,7 +29,7 @@ use Rattle.demands.specs.Answers.{places, push-done, push-accepted, clos
 use Rattle.demands.specs.StateWords.{forgotten-held}
 use Rattle.demands.specs.Written.{take-written}
 
--- ---- start and seed: "9 (length only), 1, 2"; "9 (state fields), 2, 3"
+-- ---- 2.17, 2.18: when a start and a seed are done
 pub start-done : (st : List ℕ) (tol : ℕ) (axes : List ℕ) → length st ≡ stateWords → tolOk tol ≡ true → codesOk axes ≡ true
     → startSpec st tol axes ≡ record { reply = plain 0; state = fresh tol axes }
 unfolding startSpec
@@ -41,7 +41,8 @@ unfolding seedSpec
 seed-done st code x s c w = cond-t _ _ s ∙ cond-t _ _ c ∙ cond-t _ _ w
 
 -- ---- the row places: the rows, then what stood there
-drop-written : (rows : List ℕ) (out : List (List ℕ)) → Every Long out → drop (length out * rowWords) (spliced rows 0 (flatten out)) ≡ drop (length out * rowWords) rows
+drop-written : (rows : List ℕ) (out : List (List ℕ)) → Every Long out
+    → drop (length out * rowWords) (spliced rows 0 (flatten out)) ≡ drop (length out * rowWords) rows
 unfolding spliced
 drop-written rows out l =
     let n : length (flatten out) ≡ length out * rowWords = length-flatten rowWords out (every-imp (λ x q. q .words) l) in
@@ -76,7 +77,7 @@ close-places st store rows z =
       beyond = drop-written rows (closeRows st store) (closeRows-long st store);
     })
 
--- ---- "closing again writes nothing"
+-- ---- 3.15: closing again writes nothing
 none-left : (st store : List ℕ) → Saved st store → held (closeState st) ≡ 0
 unfolding closeState
 none-left st store p = by-bit (eqb (held st) 0) (λ b. rw b (eqb-true _ 0 b)) (λ b. rw b (forgotten-held st (p .words)))
@@ -86,7 +87,8 @@ unfolding closeRows
 again-rows st store p = cond-t [] _ (eq-eqb _ 0 (none-left st store p))
 
 pub close-again : (st store rows lent : List ℕ) → closeSpec st store rows .reply .code ≡ 0
-    → (closeSpec (closeState st) store lent .reply .code ≡ 0) × (closeSpec (closeState st) store lent .reply .count ≡ 0) × (closeSpec (closeState st) store lent .rows ≡ lent)
+    → (closeSpec (closeState st) store lent .reply .code ≡ 0) × (closeSpec (closeState st) store lent .reply .count ≡ 0) ×
+    (closeSpec (closeState st) store lent .rows ≡ lent)
 unfolding closeDone flatten
 close-again st store rows lent z =
     let ok : (savedCheck st store ≡ 0) × (length (closeRows st store) ≤ places rows) = close-accepted st store rows z in

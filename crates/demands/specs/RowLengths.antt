@@ -1,7 +1,7 @@
 -- Every row that a call writes has a row's words, whatever motion it comes from. Assumes nothing.
 use Prim.Native.Nat.{ℕ, _+_}
-use mathlib.Core.Path.{_≡_, _∙_}
-use mathlib.Core.Bool.{Bool, true, false, cond}
+use mathlib.Core.Path.{_≡_, refl, _∙_}
+use mathlib.Core.Bool.{Bool, true, false, cond, false≢true}
 use mathlib.Core.List.{List, [], map}
 use mathlib.Core.Option.{Option, none, some, Option·getD}
 use native.Mathlib.Omega.{arith}
@@ -10,16 +10,20 @@ use lib.Dec.{eqb}
 use lib.Ieee.{Float}
 use Rattle.floats.specs.Lists.{upto, flatten}
 use Rattle.floats.specs.Fill.{length-upto}
-use Rattle.rows.specs.Codes.{rowWords, cells, Kind, same, linear, clockwise, counter, akima, basis, cubic, other, refused}
-use Rattle.rows.specs.Row.{rowOf, outRow, madeRow, cell, withRiders, lineOf, motionOf, planeOf, carryOf, hasPoint}
-use Rattle.arcs.specs.Arc.{Answer, silent, passed, arcAnswer, fromStart, fromCentre, arcRows, arcRow, Centre, centred, warned, Ends, Arc}
-use Rattle.splines.specs.Emission.{Spline, splineGroups, heldGroup, pointGroup}
-use Rattle.saved.specs.State.{held}
-use Rattle.own.specs.Answer.{answerAs, ownAnswer}
-use Rattle.blocks.specs.Blocks.{emits}
-use Rattle.closes.specs.Held.{emission}
-use Rattle.flattener.specs.Push.{pushRows}
-use Rattle.closes.specs.Close.{closeRows}
+use Rattle.layout.specs.Layout.{rowWords, cells}
+use Rattle.motion.specs.Motion.{splineKind}
+use Rattle.motion.specs.declared.Kind.{Kind}
+use Rattle.motion.specs.declared.Kind.the-variants.{Same, Linear, Clockwise, Counter, Akima, Basis, Cubic, Other, Refused}
+use Rattle.row_cells.specs.Row.{rowOf, outRow, cell, lineOf, motionOf, planeOf, carryOf, hasPoint}
+use Rattle.row_put.specs.Made.{madeRow, withRiders}
+use Rattle.arc_rows.specs.Arc.{Answer, silent, passed, arcAnswer, fromStart, fromCentre, arcRows, arcRow, Centre, centred, warned, Ends, Arc}
+use Rattle.spline_emission.specs.Emission.{Spline, splineGroups, heldGroup, pointGroup}
+use Rattle.saved_state.specs.State.{held}
+use Rattle.push_rows.specs.Answer.{answerAs, ownAnswer}
+use Rattle.push_check.specs.Blocks.{emits}
+use Rattle.call_close.specs.Held.{emission}
+use Rattle.call_push.specs.Push.{pushRows}
+use Rattle.call_close.specs.Close.{closeRows}
 use Rattle.demands.specs.Laws.{cond-both, Every, nil, more, every-append, every-upto, every-flatten}
 
 pub record Long (row : List ℕ) : Type 0 where
@@ -27,7 +31,9 @@ pub record Long (row : List ℕ) : Type 0 where
 
 rowOf-long : (line motion plane mark carry : ℕ) (f : ℕ → Option ℕ) → Long (rowOf line motion plane mark carry (upto f cells))
 unfolding rowOf
-rowOf-long line motion plane mark carry f = let e : length (map (λ (c : Option ℕ). Option·getD c 0) (upto f cells)) ≡ cells = length-map (upto f cells) _ ∙ length-upto f cells in record { words = omega arith }
+rowOf-long line motion plane mark carry f =
+    let e : length (map (λ (c : Option ℕ). Option·getD c 0) (upto f cells)) ≡ cells = length-map (upto f cells) _
+    ∙ length-upto f cells in record { words = omega arith }
 
 pub outRow-long : (r : List ℕ) → Long (outRow r)
 unfolding outRow
@@ -65,20 +71,21 @@ module _ (tol : Float) (gs : List ℕ) (plane : ℕ) (cw : Bool) (pos : ℕ → 
 
 own-long : (m : Kind) (tol : Float) (gs : List ℕ) (plane : ℕ) (pos : ℕ → Option ℕ) (r : List ℕ) → Every Long (answerAs m tol gs plane pos r .rows)
 unfolding answerAs
-own-long same tol gs plane pos r = passed-long 0 r
-own-long linear tol gs plane pos r = passed-long 0 r
-own-long clockwise tol gs plane pos r = arc-long tol gs plane true pos r
-own-long counter tol gs plane pos r = arc-long tol gs plane false pos r
-own-long akima tol gs plane pos r = nil
-own-long basis tol gs plane pos r = nil
-own-long cubic tol gs plane pos r = nil
-own-long other tol gs plane pos r = passed-long 0 r
-own-long refused tol gs plane pos r = passed-long 0 r
+own-long Same tol gs plane pos r = passed-long 0 r
+own-long Linear tol gs plane pos r = passed-long 0 r
+own-long Clockwise tol gs plane pos r = arc-long tol gs plane true pos r
+own-long Counter tol gs plane pos r = arc-long tol gs plane false pos r
+own-long Akima tol gs plane pos r = nil
+own-long Basis tol gs plane pos r = nil
+own-long Cubic tol gs plane pos r = nil
+own-long Other tol gs plane pos r = passed-long 0 r
+own-long Refused tol gs plane pos r = passed-long 0 r
 
 -- ---- the rows of a spline
 point-long : (s : Spline) (cs : List ℕ) (n j : ℕ) (run : List (List Float)) (r : List ℕ) → Every Long (pointGroup s cs n j run r)
 unfolding pointGroup
-point-long s cs n j run r = cond-both (Every Long) (eqb (length run) 0) (more (madeRow-long (s .axes) r _ _ _ _) nil) (every-upto _ _ (λ i l. madeRow-long (s .axes) r _ _ _ _))
+point-long s cs n j run r =
+    cond-both (Every Long) (eqb (length run) 0) (more (madeRow-long (s .axes) r _ _ _ _) nil) (every-upto _ _ (λ i l. madeRow-long (s .axes) r _ _ _ _))
 
 held-long : (s : Spline) (runs : List (List (List Float))) (i : ℕ) → Every Long (heldGroup s runs i)
 unfolding heldGroup
@@ -101,3 +108,17 @@ pushRows-long st store r =
 pub closeRows-long : (st store : List ℕ) → Every Long (closeRows st store)
 unfolding closeRows
 closeRows-long st store = cond-both (Every Long) (eqb (held st) 0) nil (emission-long st store)
+
+-- ---- a block of a spline has no row of its own
+pub spline-as : (k : Kind) → splineKind k ≡ true → (tol : Float) (gs : List ℕ) (plane : ℕ) (pos : ℕ → Option ℕ) (r : List ℕ)
+    → answerAs k tol gs plane pos r .rows ≡ []
+unfolding answerAs
+spline-as Same y tol gs plane pos r = absurd (false≢true y)
+spline-as Linear y tol gs plane pos r = absurd (false≢true y)
+spline-as Clockwise y tol gs plane pos r = absurd (false≢true y)
+spline-as Counter y tol gs plane pos r = absurd (false≢true y)
+spline-as Akima y tol gs plane pos r = refl
+spline-as Basis y tol gs plane pos r = refl
+spline-as Cubic y tol gs plane pos r = refl
+spline-as Other y tol gs plane pos r = absurd (false≢true y)
+spline-as Refused y tol gs plane pos r = absurd (false≢true y)

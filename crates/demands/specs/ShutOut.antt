@@ -1,23 +1,31 @@
--- Wrong programs that document 01 names, each shut out by what a push has to answer: refusing always, writing nothing, one fixed row for every block, only the first block's rows, an invented needed count. Assumes nothing.
-use Prim.Native.Nat.{ℕ}
+-- LAWS. 8.12: five wrong programs, each shut out by what a push has to answer. Assumes nothing.
+use Prim.Native.Nat.{ℕ, _*_, _≤_, _<_}
 use mathlib.Core.Path.{_≡_, refl, sym, _∙_, ap}
 use mathlib.Core.List.{List, [], _∷_}
 use native.Mathlib.Omega.{arith}
-use lib.ListN.{length, getD, replicate}
+use lib.ListN.{length, getD, replicate, set, length-append, length-map}
+use Rattle.row_cells.specs.Codes.{geometricOf}
+use Rattle.demands.specs.Demands.{Group, rowAt, Written}
+use Rattle.demands.specs.Groups.{Event, Piece, pieces, groups, blocksOf}
+use Rattle.demands.specs.Laws.{Every, nil, more, flatten-append}
+use Rattle.layout.specs.Layout.{rowWords, rLine}
 use Rattle.floats.specs.Lists as Lists
-use Rattle.floats.specs.Lists.{spliced}
-use Rattle.rows.specs.Codes as Codes
-use Rattle.rows.specs.Row as Row
-use Rattle.arcs.specs.Arc.{passed}
-use Rattle.saved.specs.State as State
-use Rattle.starts.specs.Start as Start
-use Rattle.replies.specs.Replies.{After}
-use Rattle.starts.specs.Start.{fresh}
-use Rattle.flattener.specs.Push as Push
-use Rattle.blocks.specs.Blocks as Blocks
-use Rattle.pushed.specs.Pushed as Pushed
-use Rattle.own.specs.Answer as Own
-use Rattle.flattener.specs.Push.{pushRows, pushSpec}
+use Rattle.floats.specs.Lists.{spliced, flatten}
+use Rattle.motion.specs.Motion as Motion
+use Rattle.row_cells.specs.Codes as Codes
+use Rattle.row_cells.specs.Row as Row
+use Rattle.row_cells.specs.Bits as Bits
+use Rattle.row_check.specs.Check as Check
+use Rattle.arc_rows.specs.Arc.{passed}
+use Rattle.saved_state.specs.State as State
+use Rattle.call_start.specs.Start as Start
+use Rattle.call_reply.specs.Replies.{After}
+use Rattle.call_start.specs.Start.{fresh}
+use Rattle.call_push.specs.Push as Push
+use Rattle.push_check.specs.Blocks as Blocks
+use Rattle.push_state.specs.Pushed as Pushed
+use Rattle.push_rows.specs.Answer as Own
+use Rattle.call_push.specs.Push.{pushRows, pushSpec}
 use Rattle.demands.specs.Answers.{push-count}
 
 -- a program's push
@@ -32,10 +40,10 @@ abbrev begun : List ℕ
 begun = fresh 0x3fb999999999999a (0 ∷ 1 ∷ 2 ∷ [])
 
 abbrev room : List ℕ
-room = replicate 29 7
+room = replicate rowWords 7
 
 abbrev line : ℕ → List ℕ
-line n = n ∷ replicate 28 0
+line n = set (replicate rowWords 0) rLine n
 
 abbrev pushedLine : ℕ → After
 pushedLine n = pushSpec begun [] room (line n)
@@ -46,11 +54,18 @@ pushedNext = pushSpec (pushedLine 1 .state) (pushedLine 1 .store) room (line 2)
 -- each of them is accepted, and writes itself
 computed : (pushedLine 1 .reply .code ∷ []) ∷ pushedLine 1 .rows ∷ pushedLine 2 .rows ∷ pushedNext .rows ∷ (pushedLine 2 .reply .code ∷ []) ∷ []
     ≡ (0 ∷ []) ∷ line 1 ∷ line 2 ∷ line 2 ∷ (0 ∷ []) ∷ []
-unfolding fresh Start.freshWord Lists.upto Lists.keep Lists.member Lists.flatten Lists.spliced Codes.kindOf Codes.isSpline Codes.planeOk Codes.geometricOf Row.has Row.all Row.cell Row.maskOf Row.rowOf Row.outRow Row.shapeOk Row.within Row.cellOk Row.numbersOk Row.above1000 Row.turnOk Row.rowCheck passed State.geometric State.pointWord State.tolOk State.codeOk State.codesOk State.axesOk State.pointAtOk State.pointOk State.heldOk State.stateOk State.storeOk State.heldRows State.heldRowOk State.savedCheck State.withBit State.placed Blocks.orNow Blocks.emits Blocks.kept Own.answerAs Own.ownAnswer Blocks.news Pushed.trackTo Pushed.pushState Pushed.pushStore Push.pushRows Blocks.isFull Blocks.pushCheck Push.pushDone Push.pushSpec
+unfolding fresh Start.freshWord Lists.upto Lists.keep Lists.member Lists.flatten Lists.spliced Motion.kindOf Motion.isSpline Motion.isOther Motion.isBasis
+    Motion.isCubic Codes.planeOk Codes.geometricOf Bits.has Lists.all Row.cell Row.maskOf Row.rowOf Row.outRow Check.shapeOk Check.within Check.cellOk
+    Check.numbersOk Check.above1000 Check.turnOk Check.rowCheck passed State.geometric State.pointWord State.tolOk State.codeOk State.codesOk State.axesOk
+    State.pointAtOk State.pointOk State.heldOk State.stateOk State.storeOk State.heldRows State.heldRowOk State.savedCheck Bits.withBit State.placed
+    Blocks.orNow Blocks.emits Blocks.kept Own.answerAs Own.ownAnswer Blocks.news Pushed.trackTo Pushed.pushState Pushed.pushStore Push.pushRows
+    Blocks.isFull Blocks.pushCheck Push.pushDone Push.pushSpec
 computed = refl
 
 -- the first word of answer i
-word : (i : ℕ) → getD (getD ((pushedLine 1 .reply .code ∷ []) ∷ pushedLine 1 .rows ∷ pushedLine 2 .rows ∷ pushedNext .rows ∷ (pushedLine 2 .reply .code ∷ []) ∷ []) i []) 0 0
+word : (i : ℕ)
+    → getD (getD ((pushedLine 1 .reply .code ∷ []) ∷ pushedLine 1 .rows ∷ pushedLine 2 .rows ∷ pushedNext .rows ∷ (pushedLine 2 .reply .code ∷ []) ∷ []) i
+    []) 0 0
     ≡ getD (getD ((0 ∷ []) ∷ line 1 ∷ line 2 ∷ line 2 ∷ (0 ∷ []) ∷ []) i []) 0 0
 word i = ap (λ (l : List (List ℕ)). getD (getD l i []) 0 0) computed
 
@@ -68,19 +83,23 @@ module _ (f : Program) (m : Meets f) where
       let e : _≡_ {A = ℕ} 7 1 = ap (λ (l : List ℕ). getD l 0 0) (sym (h begun [] room (line 1)) ∙ rowsOf begun [] room (line 1)) ∙ word 1 in
       omega arith
 
-  -- "one fixed row for every block"
+  -- one fixed row for every block, by any program that meets the contract
   pub one-fixed-row : (row : List ℕ) → ((st store rows r : List ℕ) → f st store rows r .reply .code ≡ 0 → f st store rows r .rows ≡ spliced rows 0 row) → ⊥
   one-fixed-row row h =
       let e : _≡_ {A = ℕ} 1 2 =
       sym (word 1)
-      ∙ ap (λ (l : List ℕ). getD l 0 0) (sym (rowsOf begun [] room (line 1)) ∙ h begun [] room (line 1) (code 1 (word 0)) ∙ sym (h begun [] room (line 2) (code 2 (word 4))) ∙ rowsOf begun [] room (line 2))
+      ∙ ap (λ (l : List ℕ). getD l 0 0)
+      (sym (rowsOf begun [] room (line 1))
+      ∙ h begun [] room (line 1) (code 1 (word 0))
+      ∙ sym (h begun [] room (line 2) (code 2 (word 4)))
+      ∙ rowsOf begun [] room (line 2))
       ∙ word 2 in
       omega arith
     where
       code : (n : ℕ) → pushedLine n .reply .code ≡ 0 → f begun [] room (line n) .reply .code ≡ 0
       code n e = ap (λ (a : After). a .reply .code) (m begun [] room (line n)) ∙ e
 
-  -- "or only the first block's rows": a second push, on what the first left, that writes nothing
+  -- only the first block's rows: a second push, on what the first left, that writes nothing
   pub only-the-first : ((st store rows r r′ : List ℕ) → f (f st store rows r .state) (f st store rows r .store) rows r′ .rows ≡ rows) → ⊥
   only-the-first h =
       let a : After = f begun [] room (line 1) in
@@ -95,3 +114,53 @@ module _ (f : Program) (m : Meets f) where
   no-invented-count st store rows r z =
       ap (λ (a : After). a .reply .count) (m st store rows r)
       ∙ push-count st store r rows (sym (ap (λ (a : After). a .reply .code) (m st store rows r)) ∙ z) .1
+
+-- ---- Demand 3 by itself: whatever program wrote `out` for these events, if it is as the demand says
+each-wide : {gs : List ℕ} (p : Piece) → Group gs p → rowWords ≤ length (flatten (p .rows))
+unfolding flatten
+each-wide p g = first-wide (p .rows) (g .filled) (g .formed 0 (g .filled) .wide)
+  where
+    first-wide : (rows : List (List ℕ)) → 0 < length rows → length (rowAt rows 0) ≡ rowWords → rowWords ≤ length (flatten rows)
+    first-wide [] h e = absurd (omega arith)
+    first-wide (x ∷ xs) h e = omega (arith, e, length-append x (flatten xs))
+
+all-wide : {gs : List ℕ} (ps : List Piece) → Every (Group gs) ps → length ps * rowWords ≤ length (flatten (flatten (groups ps)))
+unfolding flatten
+all-wide [] nil = omega arith
+all-wide (p ∷ ps) (more g gs) =
+    omega (
+      arith,
+      each-wide p g,
+      all-wide ps gs,
+      ap length (flatten-append (p .rows) (flatten (groups ps))),
+      length-append (flatten (p .rows)) (flatten (flatten (groups ps))),
+    )
+
+module _ (tol : ℕ) (axes : List ℕ) (es : List Event) (out : List ℕ) (w : Written tol axes es out) where
+  as-many : length (pieces tol axes es) ≡ length (blocksOf es)
+  as-many = sym (length-map (pieces tol axes es) (λ (p : Piece). p .block)) ∙ ap length (w .order)
+
+  -- each block has a row at least
+  pub a-row-each : length (blocksOf es) * rowWords ≤ length out
+  a-row-each = rw (w .groups, sym as-many) (all-wide (pieces tol axes es) (w .each))
+
+  -- writing nothing
+  pub nothing-written : 0 < length (blocksOf es) → out ≡ [] → ⊥
+  nothing-written h e = omega (arith, a-row-each, ap length e)
+
+  -- writing only the first block's rows
+  pub only-first-written : 1 < length (blocksOf es) → out ≡ flatten (getD (groups (pieces tol axes es)) 0 []) → ⊥
+  unfolding flatten
+  only-first-written h e = first-alone (pieces tol axes es) (w .each) (omega (arith, as-many)) (sym (w .groups) ∙ e)
+    where
+      first-alone : (ps : List Piece) → Every (Group (geometricOf axes)) ps → 1 < length ps
+          → flatten (flatten (groups ps)) ≡ flatten (getD (groups ps) 0 []) → ⊥
+      first-alone [] nil l q = omega arith
+      first-alone (p ∷ ps) (more g gs) l q =
+          omega (
+            arith,
+            all-wide ps gs,
+            ap length q,
+            ap length (flatten-append (p .rows) (flatten (groups ps))),
+            length-append (flatten (p .rows)) (flatten (flatten (groups ps))),
+          )

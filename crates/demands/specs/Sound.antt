@@ -7,9 +7,11 @@ use native.Mathlib.Omega.{arith}
 use lib.ListN.{length, length-append}
 use lib.Dec.{eqb}
 use borrow.Author.Tests.{eqb-true}
-use Rattle.rows.specs.Codes.{isSpline, mostHeld}
-use Rattle.rows.specs.Row.{motionOf, within}
-use Rattle.rows.specs.Truth.{by-bit, cond-t}
+use Rattle.layout.specs.Layout.{mostHeld}
+use Rattle.motion.specs.Motion.{isSpline}
+use Rattle.row_cells.specs.Row.{motionOf}
+use Rattle.row_check.specs.Check.{within}
+use Rattle.floats.specs.Truth.{by-bit, cond-t}
 use Rattle.demands.specs.Laws.{Every, nil, more}
 use Rattle.demands.specs.Groups.{Event, seed, block, closed, Standing, motionWith, goesOn, withBlock, withSeed, withClose, together}
 use Rattle.demands.specs.Demands.{Call, answer, taken, run}
@@ -87,7 +89,8 @@ unfolding run together
 few-run {st = st} {store = store} [] rows t z y = omega (arith, few-open t (saved st store (close-accepted st store rows z .0)))
 few-run {st = st} {store = store} (c ∷ cs) rows t z y =
     let w = step t c in
-    few-step t (run (answer st store c .state) (answer st store c .store) cs .events) (taken (answer st store c) c) (w .next) (w .how) (few-run cs rows (w .stands) z) y
+    few-step t (run (answer st store c .state) (answer st store c .store) cs .events) (taken (answer st store c) c) (w .next) (w .how)
+    (few-run cs rows (w .stands) z) y
 
 -- ---- the accepted events
 sound-step : {gs : List ℕ} {s : Standing} {st store : List ℕ} (es l : List Event) (n : Standing) → How gs s st store l n

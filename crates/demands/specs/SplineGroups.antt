@@ -18,24 +18,30 @@ use Rattle.floats.specs.Numbers.{num, bits, at, f1, ofNat}
 use Rattle.floats.specs.Lists.{upto, keep, member}
 use Rattle.floats.specs.Fill.{at-upto}
 use Rattle.floats.specs.FloatLaws.{one, one-is, tidy, fits-unique}
-use Rattle.rows.specs.Codes.{axisCodes, gOne}
-use Rattle.rows.specs.Row.{cell, hasPoint, markOf, outRow, madeRow, within}
-use Rattle.rows.specs.Truth.{by-bit, and-left, and-right, cond-t, cond-f}
-use Rattle.metric.specs.Metric.{pointOf}
-use Rattle.metric.specs.Ends.{EndsWith, ends-last}
-use Rattle.fit.specs.Fit.{fitRuns}
-use Rattle.basis.specs.Basis.{basisRuns, basisOf, spansOf, evalBasis}
-use Rattle.basis.specs.Joins.{map-append, keep-append, keep-here}
-use Rattle.basis.specs.BasisLaws.{runs-length}
-use Rattle.basis.specs.LastRun.{last-run}
-use Rattle.basis.specs.EndPoint.{end-point}
-use Rattle.curves.specs.Runs.{curveRuns}
-use Rattle.splines.specs.Emission.{Spline, isBasis, pointRows, channels, startPoint, pointsFrom, metricOf, weightOf, runsOf, placeOf, sampleCell, ownCell, isMarked, pointGroup, heldGroup}
+use Rattle.layout.specs.Layout.{axisCodes, mostHeld}
+use Rattle.motion.specs.Motion.{gOne, isCubic}
+use Rattle.row_cells.specs.Row.{cell, hasPoint, markOf, outRow}
+use Rattle.row_put.specs.Made.{madeRow}
+use Rattle.row_check.specs.Check.{within}
+use Rattle.floats.specs.Truth.{by-bit, and-left, and-right, cond-t, cond-f}
+use Rattle.curve_metric.specs.Metric.{pointOf}
+use Rattle.curve_metric.specs.Ends.{EndsWith, ends-last}
+use Rattle.fit_knots.specs.Fit.{fitRuns}
+use Rattle.bspline_tables.specs.Basis.{basisRuns, basisOf, spansOf, evalBasis}
+use Rattle.bspline_tables.specs.Joins.{map-append, keep-append, keep-here}
+use Rattle.bspline_tables.specs.BasisLaws.{runs-length}
+use Rattle.bspline_tables.specs.LastRun.{last-run}
+use Rattle.bspline_tables.specs.EndPoint.{end-point}
+use Rattle.curve_runs.specs.Runs.{curveRuns}
+use Rattle.spline_emission.specs.Emission.{Spline, isBspline, pointRows, channels, startPoint, pointsFrom, metricOf, weightOf, runsOf, placeOf, sampleCell}
+use Rattle.spline_emission.specs.Emission.{ownCell, isMarked, pointGroup, heldGroup}
 use Rattle.demands.specs.Demands.{Bare}
 use Rattle.demands.specs.Laws.{some-same, none-some, Every, every-head, every-tail, every-keep}
 use Rattle.demands.specs.Accepted.{Fine}
 use Rattle.demands.specs.InRange.{in-range, tidy-eq, num-bits, shown-bits}
-use Rattle.demands.specs.Shapes.{Shaped, one-shaped, upto-shaped, made-line, made-mark, made-shows, made-bare, made-carries, out-shaped, programmed, same-number}
+use Rattle.demands.specs.Shapes.{Shaped, one-shaped, upto-shaped, made-line, made-mark, made-formed, made-shows, made-bare, made-carries, out-shaped}
+use Rattle.demands.specs.Shapes.{programmed}
+use Rattle.demands.specs.Shapes.{same-number}
 use Rattle.demands.specs.SplineRuns.{fit-length, fit-ends, points-length, PointOf, point-of, place-of, Placed, point-number}
 use Rattle.demands.specs.SplinePoints.{channels-listed, Word, word-modest, word-fits, Words, start-words, all-words, all-weights}
 
@@ -94,7 +100,10 @@ module _ (sp : Spline) (B : List (List ℕ)) (r : List ℕ) (M : List (List ℕ)
   module _ (y : hasPoint (sp .axes) r ≡ true) where
     point-rows : pointRows sp ≡ X ++ (r ∷ Y)
     unfolding pointRows X Y P
-    point-rows = ap (keep (hasPoint (sp .axes))) is ∙ keep-append (hasPoint (sp .axes)) B (r ∷ M) ∙ ap (λ (l : List (List ℕ)). keep (hasPoint (sp .axes)) B ++ l) (keep-here (hasPoint (sp .axes)) r M y)
+    point-rows =
+        ap (keep (hasPoint (sp .axes))) is
+        ∙ keep-append (hasPoint (sp .axes)) B (r ∷ M)
+        ∙ ap (λ (l : List (List ℕ)). keep (hasPoint (sp .axes)) B ++ l) (keep-here (hasPoint (sp .axes)) r M y)
 
     rows-length : length (pointRows sp) ≡ length X + suc (length Y)
     rows-length = ap length point-rows ∙ length-append X (r ∷ Y)
@@ -110,9 +119,9 @@ module _ (sp : Spline) (B : List (List ℕ)) (r : List ℕ) (M : List (List ℕ)
   bas = basisRuns (sp .power) (metricOf (channels sp)) (sp .tol) pts ws
 
   fit : List (List (List Float))
-  fit = fitRuns (eqb (sp .motion) 7) (metricOf (channels sp)) (sp .tol) pts
+  fit = fitRuns (isCubic (sp .motion)) (metricOf (channels sp)) (sp .tol) pts
 
-  runs-is : runsOf sp ≡ cond (isBasis sp) bas fit
+  runs-is : runsOf sp ≡ cond (isBspline sp) bas fit
   unfolding runsOf curveRuns bas fit pts ws
   runs-is = refl
 
@@ -124,16 +133,24 @@ module _ (sp : Spline) (B : List (List ℕ)) (r : List ℕ) (M : List (List ℕ)
   unfolding bas fit
   runs-size =
       ap length runs-is
-      ∙ by-bit (isBasis sp)
-      (λ b. ap length (cond-t bas fit b) ∙ runs-length (sp .power) (metricOf (channels sp)) (sp .tol) pts ws ∙ ap (λ (n : ℕ). n - 1) pts-length ∙ less-one (length (pointRows sp)))
-      (λ b. ap length (cond-f bas fit b) ∙ fit-length (eqb (sp .motion) 7) (metricOf (channels sp)) (sp .tol) pts ∙ ap (λ (n : ℕ). n - 1) pts-length ∙ less-one (length (pointRows sp)))
+      ∙ by-bit (isBspline sp)
+      (λ b.
+      ap length (cond-t bas fit b)
+      ∙ runs-length (sp .power) (metricOf (channels sp)) (sp .tol) pts ws
+      ∙ ap (λ (n : ℕ). n - 1) pts-length
+      ∙ less-one (length (pointRows sp)))
+      (λ b.
+      ap length (cond-f bas fit b)
+      ∙ fit-length (isCubic (sp .motion)) (metricOf (channels sp)) (sp .tol) pts
+      ∙ ap (λ (n : ℕ). n - 1) pts-length
+      ∙ less-one (length (pointRows sp)))
     where
       less-one : (n : ℕ) → suc n - 1 ≡ n
       less-one n = omega arith
 
   -- ---- the end of its run
   module _ (fs : Every Fine (sp .blocks)) (start : (k x : ℕ) → sp .start k ≡ some x → within x ≡ true)
-      (small : (k : ℕ) → member k (sp .axes) ≡ true → k < axisCodes) (few : length (sp .blocks) ≤ 256) where
+      (small : (k : ℕ) → member k (sp .axes) ≡ true → k < axisCodes) (few : length (sp .blocks) ≤ mostHeld) where
     fine : Fine r
     fine = every-mid B r M (subst (Every Fine) is fs)
 
@@ -160,22 +177,23 @@ module _ (sp : Spline) (B : List (List ℕ)) (r : List ℕ) (M : List (List ℕ)
       own-point k v m e =
           let q : PointOf (channels sp) (startPoint sp (channels sp)) X r Y = point-of (channels sp) (startPoint sp (channels sp)) X r Y in
           ap (λ (i : ℕ). at (pointOf pts i) (placeOf k (channels sp))) (add-one (length X))
-          ∙ ap (λ (l : List (List ℕ)). at (getD (pointsFrom (channels sp) (startPoint sp (channels sp)) l) (length X) []) (placeOf k (channels sp))) (point-rows y)
+          ∙ ap (λ (l : List (List ℕ)). at (getD (pointsFrom (channels sp) (startPoint sp (channels sp)) l) (length X) []) (placeOf k (channels sp)))
+          (point-rows y)
           ∙ ap (λ (p : List Float). at p (placeOf k (channels sp))) (q .is)
           ∙ point-number (channels sp) (q .from) r k v m e
 
       -- a fit's: the programmed point
-      fit-end : isBasis sp ≡ false → (length run ≡ 0 → ⊥) → end ≡ pointOf pts (length X + 1)
+      fit-end : isBspline sp ≡ false → (length run ≡ 0 → ⊥) → end ≡ pointOf pts (length X + 1)
       unfolding end run fit
       fit-end b has =
           let e : run ≡ getD fit (length X) [] = ap (λ (l : List (List (List Float))). getD l (length X) []) (runs-is ∙ cond-f bas fit b) in
           ⊎-elim
           (λ (z : getD fit (length X) [] ≡ []). absurd (has (ap length (e ∙ z))))
           (λ (z : EndsWith (getD fit (length X) []) (pointOf pts (length X + 1))). ap (λ (l : List (List Float)). getD l (length l - 1) []) e ∙ ends-last z [])
-          (fit-ends (eqb (sp .motion) 7) (metricOf (channels sp)) (sp .tol) pts (length X) run-within)
+          (fit-ends (isCubic (sp .motion)) (metricOf (channels sp)) (sp .tol) pts (length X) run-within)
 
       -- a B-spline's last: the curve's end
-      basis-end : isBasis sp ≡ true → length Y ≡ 0 → end ≡ evalBasis (basisOf (sp .power) pts ws) (ofNat (spansOf (basisOf (sp .power) pts ws)))
+      basis-end : isBspline sp ≡ true → length Y ≡ 0 → end ≡ evalBasis (basisOf (sp .power) pts ws) (ofNat (spansOf (basisOf (sp .power) pts ws)))
       unfolding end run bas
       basis-end b z =
           let n : length pts ≡ suc (length X + suc (length Y)) = pts-length ∙ ap suc (rows-length y) in
@@ -194,7 +212,8 @@ module _ (sp : Spline) (B : List (List ℕ)) (r : List ℕ) (M : List (List ℕ)
       point-words : (i : ℕ) → i < length pts → Words (length (channels sp)) (pointOf pts i)
       unfolding pts startPoint
       point-words i h =
-          all-words (channels sp) low (startPoint sp (channels sp)) (pointRows sp) (start-words (channels sp) low (sp .start) start (sp .blocks) fs) row-fine i (subst (λ (n : ℕ). i < n) pts-length h)
+          all-words (channels sp) low (startPoint sp (channels sp)) (pointRows sp) (start-words (channels sp) low (sp .start) start (sp .blocks) fs) row-fine i
+          (subst (λ (n : ℕ). i < n) pts-length h)
 
       weight-words : (i : ℕ) → i < length pts → Word (at ws i)
       unfolding ws
@@ -213,8 +232,8 @@ module _ (sp : Spline) (B : List (List ℕ)) (r : List ℕ) (M : List (List ℕ)
       unfolding pts startPoint
       start-length = length-map (channels sp) _
 
-      -- "on the last point of a B-spline this needs weight 1"
-      basis-number : isBasis sp ≡ true → length Y ≡ 0 → eq (weightOf r) f1 ≡ true → (k v : ℕ) → member k (channels sp) ≡ true → cell r k ≡ some v
+      -- 8.9: on the last point of a B-spline this asks for weight 1
+      basis-number : isBspline sp ≡ true → length Y ≡ 0 → eq (weightOf r) f1 ≡ true → (k v : ℕ) → member k (channels sp) ≡ true → cell r k ≡ some v
           → tidy (at end (placeOf k (channels sp))) ≡ tidy (num v)
       basis-number b z one k v m e =
           let c : ℕ = placeOf k (channels sp) in
@@ -226,26 +245,31 @@ module _ (sp : Spline) (B : List (List ℕ)) (r : List ℕ) (M : List (List ℕ)
           (λ i h. word-modest (point-words i h c (q .low)))
           (λ i h. (word-modest (weight-words i h), word-fits (weight-words i h)))
           (word-fits (point-words (length pts - 1) (omega arith) c (q .low)))
-          (own-weight z ∙ weight-one (weightOf r) (subst (λ (x : Float). T (fits binary64 x)) (own-weight z) (word-fits (weight-words (length pts - 1) (omega arith)))) one)
+          (own-weight z
+          ∙ weight-one (weightOf r) (subst (λ (x : Float). T (fits binary64 x)) (own-weight z) (word-fits (weight-words (length pts - 1) (omega arith)))) one)
           ∙ ap tidy (ap (λ (i : ℕ). at (pointOf pts i) c) last ∙ own-point k v m e)
 
-      basis-fits : isBasis sp ≡ true → length Y ≡ 0 → (k : ℕ) → member k (channels sp) ≡ true → T (fits binary64 (at end (placeOf k (channels sp))))
+      basis-fits : isBspline sp ≡ true → length Y ≡ 0 → (k : ℕ) → member k (channels sp) ≡ true → T (fits binary64 (at end (placeOf k (channels sp))))
       unfolding evalBasis basisOf
       basis-fits b z k m =
           let q : Placed k (channels sp) = place-of k (channels sp) m in
           subst (λ (x : Float). T (fits binary64 x))
-          (sym (ap (λ (p : List Float). at p (placeOf k (channels sp))) (basis-end b z) ∙ at-upto _ (length (pointOf pts 0)) (placeOf k (channels sp)) nan (omega (arith, q .low, start-length))))
+          (sym
+          (ap (λ (p : List Float). at p (placeOf k (channels sp))) (basis-end b z)
+          ∙ at-upto _ (length (pointOf pts 0)) (placeOf k (channels sp)) nan (omega (arith, q .low, start-length))))
           (div-fits binary64 _ _)
 
       -- ---- the group
-      module _ {asks : Type 0} (ask : isBasis sp ≡ true → length Y ≡ 0 → asks → eq (weightOf r) f1 ≡ true) where
-        end-number : (isBasis sp && not (eqb (length X + 1) (length (runsOf sp)))) ≡ false → (length run ≡ 0 → ⊥) → asks → (k v : ℕ)
+      module _ {asks : Type 0} (ask : isBspline sp ≡ true → length Y ≡ 0 → asks → eq (weightOf r) f1 ≡ true) where
+        end-number : (isBspline sp && not (eqb (length X + 1) (length (runsOf sp)))) ≡ false → (length run ≡ 0 → ⊥) → asks → (k v : ℕ)
             → member k (channels sp) ≡ true → member k (sp .axes) ≡ true → cell r k ≡ some v → eq (num (bits (at end (placeOf k (channels sp))))) (num v) ≡ true
         end-number f has a k v m g e =
             let low-code : k < axisCodes = small k g in
             let passes : within v ≡ true = programmed (sp .axes) r fine k v (omega arith) e in
-            by-bit (isBasis sp)
-            (λ b. let t : eqb (length X + 1) (length (runsOf sp)) ≡ true = not-false _ (sym (ap (λ (z : Bool). z && not (eqb (length X + 1) (length (runsOf sp)))) b) ∙ f) in
+            by-bit (isBspline sp)
+            (λ b.
+            let t : eqb (length X + 1) (length (runsOf sp)) ≡ true = not-false _
+            (sym (ap (λ (z : Bool). z && not (eqb (length X + 1) (length (runsOf sp)))) b) ∙ f) in
             let n : length X + 1 ≡ length (runsOf sp) = eqb-true (length X + 1) (length (runsOf sp)) t in
             let z : length Y ≡ 0 = omega (arith, runs-size, rows-length y) in
             ap (λ (x : Float). eq x (num v)) (num-bits (at end (placeOf k (channels sp))) (basis-fits b z k m))
@@ -253,7 +277,7 @@ module _ (sp : Spline) (B : List (List ℕ)) (r : List ℕ) (M : List (List ℕ)
             (λ b. ap (λ (x : Float). eq (num (bits x)) (num v)) (ap (λ (p : List Float). at p (placeOf k (channels sp))) (fit-end b has) ∙ own-point k v m e)
             ∙ shown-bits v passes)
 
-        end-shows : (isBasis sp && not (eqb (length X + 1) (length (runsOf sp)))) ≡ false → (length run ≡ 0 → ⊥) → asks → (k v w : ℕ)
+        end-shows : (isBspline sp && not (eqb (length X + 1) (length (runsOf sp)))) ≡ false → (length run ≡ 0 → ⊥) → asks → (k v w : ℕ)
             → member k (sp .axes) ≡ true → cell r k ≡ some v → sampleCell (channels sp) end k ≡ some w → eq (num w) (num v) ≡ true
         unfolding sampleCell
         end-shows f has a k v w g e c =
@@ -276,36 +300,46 @@ module _ (sp : Spline) (B : List (List ℕ)) (r : List ℕ) (M : List (List ℕ)
         row-bare : (i : ℕ) → 0 < i → Bare (sp .axes) (row i)
         unfolding row
         row-bare i p =
-            subst (λ (b : Bool). Bare (sp .axes) (madeRow (sp .axes) r b word0 (isMarked sp (length (runsOf sp)) (length X) (length run) i) (sampleCell (channels sp) (getD run i []))))
+            subst
+            (λ (b : Bool).
+            Bare (sp .axes)
+            (madeRow (sp .axes) r b word0 (isMarked sp (length (runsOf sp)) (length X) (length run) i) (sampleCell (channels sp) (getD run i []))))
             (sym (ne-eqb i 0 (λ z. omega arith))) (made-bare (sp .axes) r word0 _ _ (off (getD run i [])))
 
         row-marked : (i : ℕ) → i + 1 < length run → markOf (row i) ≡ 1
         unfolding row isMarked
         row-marked i h =
             made-mark (sp .axes) r _ _ _ _
-            ∙ ap (λ (b : Bool). cond (not b || (isBasis sp && not (eqb (length X + 1) (length (runsOf sp))))) 1 0) (ne-eqb (i + 1) (length run) (λ z. omega arith))
+            ∙ ap (λ (b : Bool). cond (not b || (isBspline sp && not (eqb (length X + 1) (length (runsOf sp))))) 1 0)
+            (ne-eqb (i + 1) (length run) (λ z. omega arith))
 
-        row-end : 0 < length run → markOf (row (length run - 1)) ≡ 0 → (isBasis sp && not (eqb (length X + 1) (length (runsOf sp)))) ≡ false
+        row-end : 0 < length run → markOf (row (length run - 1)) ≡ 0 → (isBspline sp && not (eqb (length X + 1) (length (runsOf sp)))) ≡ false
         unfolding row isMarked
         row-end p u =
             let i : length run - 1 + 1 ≡ length run = omega arith in
-            unmarked _ (sym (made-mark (sp .axes) r _ _ _ _ ∙ ap (λ (b : Bool). cond (not b || (isBasis sp && not (eqb (length X + 1) (length (runsOf sp))))) 1 0) (eq-eqb (length run - 1 + 1) (length run) i)) ∙ u)
+            unmarked _
+            (sym
+            (made-mark (sp .axes) r _ _ _ _
+            ∙ ap (λ (b : Bool). cond (not b || (isBspline sp && not (eqb (length X + 1) (length (runsOf sp))))) 1 0)
+            (eq-eqb (length run - 1 + 1) (length run) i))
+            ∙ u)
 
         made-shaped : (length run ≡ 0 → ⊥) → Shaped (sp .axes) r asks (upto row (length run))
         unfolding row end
         made-shaped has =
             let p : 0 < length run = omega (arith, has) in
-            upto-shaped row (length run) p (λ i h. made-line (sp .axes) r _ _ _ _) (made-carries (sp .axes) r word0 _ _) (λ i q h. row-bare i q) row-marked
+            upto-shaped row (length run) p (λ i h. made-formed (sp .axes) r _ _ _ _) (λ i h. made-line (sp .axes) r _ _ _ _)
+            (made-carries (sp .axes) r word0 _ _) (λ i q h. row-bare i q) row-marked
             (λ u a. made-shows (sp .axes) r fine _ word0 _ _ (off end) (end-shows (row-end p u) has a))
 
         bare-shaped : Shaped (sp .axes) r asks (madeRow (sp .axes) r true word0 false (ownCell sp r) ∷ [])
         unfolding ownCell
         bare-shaped =
-            one-shaped _ (made-line (sp .axes) r _ _ _ _) (made-carries (sp .axes) r word0 false (ownCell sp r))
+            one-shaped _ (made-formed (sp .axes) r _ _ _ _) (made-line (sp .axes) r _ _ _ _) (made-carries (sp .axes) r word0 false (ownCell sp r))
             (λ a. made-shows (sp .axes) r fine true word0 false (ownCell sp r)
-            (λ k m. cond-f (cell r k) none (ap (λ (b : Bool). b && not (isBasis sp)) m))
+            (λ k m. cond-f (cell r k) none (ap (λ (b : Bool). b && not (isBspline sp)) m))
             (λ k v w g e c. let h : k < axisCodes = small k g in
-            by-bit (member k (sp .axes) && not (isBasis sp))
+            by-bit (member k (sp .axes) && not (isBspline sp))
             (λ b. same-number (sp .axes) r fine k v w (omega arith) e (sym (cond-t (cell r k) none b) ∙ c))
             (λ b. absurd (none-some (sym (cond-f (cell r k) none b) ∙ c)))))
 
@@ -317,7 +351,8 @@ module _ (sp : Spline) (B : List (List ℕ)) (r : List ℕ) (M : List (List ℕ)
             (λ b. subst (Shaped (sp .axes) r asks) (sym (cond-f _ _ b)) (made-shaped (eqb-false _ 0 b)))
 
     -- a held block of a spline
-    pub held-shaped : {asks : Type 0} → (isBasis sp ≡ true → hasPoint (sp .axes) r ≡ true → length (keep (hasPoint (sp .axes)) M) ≡ 0 → asks → eq (weightOf r) f1 ≡ true)
+    pub held-shaped : {asks : Type 0}
+        → (isBspline sp ≡ true → hasPoint (sp .axes) r ≡ true → length (keep (hasPoint (sp .axes)) M) ≡ 0 → asks → eq (weightOf r) f1 ≡ true)
         → Shaped (sp .axes) r asks (heldGroup sp (runsOf sp) (length B))
     unfolding run Y P
     held-shaped {asks} ask =

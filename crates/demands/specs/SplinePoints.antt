@@ -14,13 +14,15 @@ use Rattle.floats.specs.Numbers.{num, at, f1, 1e-4}
 use Rattle.floats.specs.Lists.{keep, member, opt}
 use Rattle.floats.specs.Fill.{at-upto}
 use Rattle.floats.specs.FloatLaws.{modest}
-use Rattle.rows.specs.Codes.{axisCodes, cells, cPW}
-use Rattle.rows.specs.Row.{has, cell, number, presentOf, within}
-use Rattle.rows.specs.Truth.{by-bit, and-right, or-f, cond-t, cond-f}
-use Rattle.rows.specs.Masks.{member-append, member-keep}
-use Rattle.rows.specs.RowLaws.{check-cell-within}
-use Rattle.metric.specs.Metric.{pointOf}
-use Rattle.splines.specs.Emission.{channelsFrom, firstCell, nextPoint, pointsFrom, weightOf}
+use Rattle.layout.specs.Layout.{axisCodes, cells, cPW}
+use Rattle.row_cells.specs.Bits.{has}
+use Rattle.row_cells.specs.Row.{cell, number, presentOf}
+use Rattle.row_check.specs.Check.{within}
+use Rattle.floats.specs.Truth.{by-bit, and-right, or-f, cond-t, cond-f}
+use Rattle.row_cells.specs.Masks.{member-append, member-keep}
+use Rattle.row_check.specs.CheckLaws.{check-cell-within}
+use Rattle.curve_metric.specs.Metric.{pointOf}
+use Rattle.spline_emission.specs.Emission.{channelsFrom, firstCell, nextPoint, pointsFrom, weightOf}
 use Rattle.demands.specs.Laws.{Every, every-head, every-tail}
 use Rattle.demands.specs.Accepted.{Fine, fine-check}
 use Rattle.demands.specs.InRange.{in-range}
@@ -35,9 +37,11 @@ channel-listed gs cs (r ∷ rs) sub k m = channel-listed gs (cs ++ keep (new cs 
     new : List ℕ → List ℕ → ℕ → Bool
     new cs r k = has (presentOf r) k && not (member k cs)
 
-    wider : (cs : List ℕ) (r : List ℕ) → ((k : ℕ) → member k cs ≡ true → member k gs ≡ true) → (k : ℕ) → member k (cs ++ keep (new cs r) gs) ≡ true → member k gs ≡ true
+    wider : (cs : List ℕ) (r : List ℕ) → ((k : ℕ) → member k cs ≡ true → member k gs ≡ true) → (k : ℕ) → member k (cs ++ keep (new cs r) gs) ≡ true
+        → member k gs ≡ true
     wider cs r sub k m =
-        let e : (member k cs || (new cs r k && member k gs)) ≡ true = ap (λ (b : Bool). member k cs || b) (sym (member-keep (new cs r) k gs)) ∙ sym (member-append k cs (keep (new cs r) gs)) ∙ m in
+        let e : (member k cs || (new cs r k && member k gs)) ≡ true =
+        ap (λ (b : Bool). member k cs || b) (sym (member-keep (new cs r) k gs)) ∙ sym (member-append k cs (keep (new cs r) gs)) ∙ m in
         by-bit (member k cs)
         (λ a. sub k a)
         (λ a. and-right (new cs r k) (member k gs) (sym (or-f (new cs r k && member k gs) a) ∙ e))
@@ -118,14 +122,16 @@ module _ (cs : List ℕ) (low : (k : ℕ) → member k cs ≡ true → k < axisC
   next-words p r f w c h =
       subst Word (sym (at-upto _ (length cs) c nan h)) (cell-word r f (getD cs c 0) (channel-low c h) (at p c) (w c h))
 
-  points-words : (p : List Float) (rs : List (List ℕ)) → Words (length cs) p → Every Fine rs → (i : ℕ) → i < length rs → Words (length cs) (getD (pointsFrom cs p rs) i [])
+  points-words : (p : List Float) (rs : List (List ℕ)) → Words (length cs) p → Every Fine rs → (i : ℕ) → i < length rs
+      → Words (length cs) (getD (pointsFrom cs p rs) i [])
   unfolding pointsFrom
   points-words p [] w fs i h = absurd (omega arith)
   points-words p (r ∷ rs) w fs zero h = next-words p r (every-head fs) w
   points-words p (r ∷ rs) w fs (suc i) h = points-words (nextPoint cs p r) rs (next-words p r (every-head fs) w) (every-tail fs) i (omega arith)
 
   -- every point of a spline, its start among them
-  pub all-words : (p : List Float) (rs : List (List ℕ)) → Words (length cs) p → Every Fine rs → (i : ℕ) → i < suc (length rs) → Words (length cs) (pointOf (p ∷ pointsFrom cs p rs) i)
+  pub all-words : (p : List Float) (rs : List (List ℕ)) → Words (length cs) p → Every Fine rs → (i : ℕ) → i < suc (length rs)
+      → Words (length cs) (pointOf (p ∷ pointsFrom cs p rs) i)
   all-words p rs w fs zero h = w
   all-words p rs w fs (suc i) h = points-words p rs w fs i (omega arith)
 

@@ -14,17 +14,18 @@ use lib.Ieee.{Float, nan, le}
 use Rattle.floats.specs.Numbers.{_⊖_, 1e-12, num, at}
 use Rattle.floats.specs.Lists.{member, opt}
 use Rattle.floats.specs.Fill.{length-upto, at-upto}
-use Rattle.rows.specs.Row.{cell, number}
-use Rattle.rows.specs.Truth.{by-bit, cond-t, cond-f}
-use Rattle.metric.specs.Metric.{pointOf, chords}
-use Rattle.metric.specs.Walk.{Sample}
-use Rattle.metric.specs.Ends.{EndsWith, ends-one, ends-map}
-use Rattle.metric.specs.WalkLaws.{samples-end}
-use Rattle.fit.specs.Fit.{Fit, keptTo, evalFit, fitRun, fitRuns}
-use Rattle.splines.specs.Emission.{placeOf, nextPoint, pointsFrom}
+use Rattle.row_cells.specs.Row.{cell, number}
+use Rattle.floats.specs.Truth.{by-bit, cond-t, cond-f}
+use Rattle.curve_metric.specs.Metric.{pointOf, chords}
+use Rattle.curve_metric.specs.Walk.{Sample}
+use Rattle.curve_metric.specs.Ends.{EndsWith, ends-one, ends-map}
+use Rattle.curve_metric.specs.WalkLaws.{samples-end}
+use Rattle.fit_knots.specs.Fit.{Fit, keptTo, evalFit, fitRun, fitRuns}
+use Rattle.spline_emission.specs.Emission.{placeOf, nextPoint, pointsFrom}
 
 -- ---- a fit
-run-ends : (fit : Fit) (ms : List ℕ) (tol : Float) (pts : List (List Float)) (ts : List Float) (i : ℕ) → EndsWith (fitRun fit ms tol pts ts i) (pointOf pts (i + 1))
+run-ends : (fit : Fit) (ms : List ℕ) (tol : Float) (pts : List (List Float)) (ts : List Float) (i : ℕ)
+    → EndsWith (fitRun fit ms tol pts ts i) (pointOf pts (i + 1))
 unfolding fitRun
 run-ends fit ms tol pts ts i =
     by-bit (le (at ts (i + 1) ⊖ at ts i) 1e-12)
@@ -38,14 +39,17 @@ fit-length cubic ms tol pts =
     (λ b. rw b (length-upto _ _))
     (λ b. rw b (length-upto _ _))
 
--- "A group's last row is the programmed point": each run is empty or ends on its point
+-- 5.15: each run is empty or ends on its point
 pub fit-ends : (cubic : Bool) (ms : List ℕ) (tol : Float) (pts : List (List Float)) (j : ℕ) → j < length pts - 1
     → (getD (fitRuns cubic ms tol pts) j [] ≡ []) ⊎ EndsWith (getD (fitRuns cubic ms tol pts) j []) (pointOf pts (j + 1))
 unfolding fitRuns
 fit-ends cubic ms tol pts j h =
     by-bit (ltb (length (keptTo (chords pts ms) (length pts - 1))) 2)
     (λ b. rw b (inl (at-upto _ (length pts - 1) j [] h)))
-    (λ b. rw b (inr (subst (λ (l : List (List Float)). EndsWith l (pointOf pts (j + 1))) (sym (at-upto _ (length pts - 1) j [] h)) (run-ends _ ms tol pts (chords pts ms) j))))
+    (λ b.
+    rw b
+    (inr
+    (subst (λ (l : List (List Float)). EndsWith l (pointOf pts (j + 1))) (sym (at-upto _ (length pts - 1) j [] h)) (run-ends _ ms tol pts (chords pts ms) j))))
 
 -- ---- the points
 pub points-length : (cs : List ℕ) (p : List Float) (rs : List (List ℕ)) → length (pointsFrom cs p rs) ≡ length rs

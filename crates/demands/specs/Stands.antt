@@ -8,29 +8,35 @@ use native.Mathlib.Omega.{arith}
 use native.Mathlib.Numerals.{add-one}
 use lib.ListN.{length, getD, take, drop, length-append, length-drop}
 use lib.Seq.{length-take-le, getD-take, getD-drop, ext-getD}
-use lib.Dec.{leb, eqb}
-use borrow.Author.Tests.{eqb-true, eqb-false, eq-eqb, ne-eqb, leb-true, lt-ltb}
-use Rattle.floats.specs.Lists.{upto, member, spliced}
+use lib.Dec.{leb, eqb, ltb}
+use borrow.Author.Tests.{eqb-true, eqb-false, eq-eqb, ne-eqb, leb-true, lt-ltb, ltb-true}
+use Rattle.floats.specs.Lists.{upto, member, spliced, all}
 use Rattle.floats.specs.Fill.{length-upto, at-upto}
-use Rattle.rows.specs.Codes.{axisCodes, cSD, rowWords, wAxes, wKnown, wStart, wMotion, wPlane, wDegree, wHeld, stateWords, mostHeld, isSpline, geometricOf}
-use Rattle.rows.specs.Row.{all, has, cell, number, motionOf, planeOf, presentOf, outRow}
-use Rattle.rows.specs.Truth.{by-bit, cond-t, cond-f, and-left}
-use Rattle.rows.specs.Masks.{has-none, member-keep}
-use Rattle.saved.specs.State.{tolerance, axisCount, geometric, codeOk, codesOk, placed, motionNow, planeNow, held, degree, pointWord, position, curveStart, heldRow, heldRows}
-use Rattle.starts.specs.Start.{freshWord, fresh}
-use Rattle.starts.specs.Seed.{seeded}
-use Rattle.blocks.specs.Blocks.{orNow, motionThen, planeThen, emits, kept}
-use Rattle.pushed.specs.Pushed.{degreeWith, forgotten, buffered, pushState, pushStore}
-use Rattle.closes.specs.Close.{closeState}
+use Rattle.layout.specs.Layout.{axisCodes, cSD, rowWords, wAxes, wKnown, wStart, wMotion, wPlane, wDegree, wHeld, stateWords, mostHeld, listCodes, wTolerance}
+use Rattle.motion.specs.Motion.{isSpline}
+use Rattle.row_cells.specs.Codes.{geometricOf}
+use Rattle.row_cells.specs.Bits.{has}
+use Rattle.row_cells.specs.Row.{cell, number, motionOf, planeOf, presentOf, outRow}
+use Rattle.floats.specs.Truth.{by-bit, cond-t, cond-f, and-left}
+use Rattle.row_cells.specs.Masks.{has-none, member-keep}
+use Rattle.saved_state.specs.State.{tolerance, axisCount, geometric, codeOk, codesOk, placed, motionNow, planeNow, held, degree, pointWord, position}
+use Rattle.saved_state.specs.State.{curveStart, heldRow, heldRows}
+use Rattle.call_start.specs.Start.{freshWord, fresh}
+use Rattle.call_start.specs.Seed.{seeded}
+use Rattle.push_check.specs.Blocks.{orNow, motionThen, planeThen, emits, kept}
+use Rattle.push_state.specs.Pushed.{degreeWith, forgotten, buffered, pushState, pushStore}
+use Rattle.call_close.specs.Close.{closeState}
 use Rattle.demands.specs.Groups.{Standing, atFirst, movedByBlock, movedBySeed, motionWith, goesOn, withBlock, withSeed, withClose, degreeFrom}
 use Rattle.demands.specs.Laws.{cond-both}
 use Rattle.demands.specs.Accepted.{Pushed, few-axes, held-spline}
 use Rattle.demands.specs.Lengths.{emptied, worded, laid, worded-length, placed-length, forgotten-length, pushState-length}
-use Rattle.demands.specs.StateWords.{same-axes, placed-else, placed-here, placed-there, forgotten-low, forgotten-held, push-low, push-motion, push-plane, push-place, push-else, worded-else, emptied-low, buffered-held, first-degree, first-start, later-degree, later-start}
+use Rattle.demands.specs.StateWords.{same-axes, placed-else, placed-here, placed-there, forgotten-low, forgotten-held, push-low, push-motion, push-plane}
+use Rattle.demands.specs.StateWords.{push-place, push-else, worded-else, emptied-low, buffered-held, first-degree, first-start, later-degree}
+use Rattle.demands.specs.StateWords.{later-start}
 use Rattle.demands.specs.StoreRows.{held-after}
 
 pub record Stands (tol : ℕ) (gs : List ℕ) (s : Standing) (st store : List ℕ) : Type 0 where
-  pub tolerance : getD st 0 0 ≡ tol
+  pub tolerance : getD st wTolerance 0 ≡ tol
   pub axes : geometric st ≡ gs
   pub motion : motionNow st ≡ s .motion
   pub plane : planeNow st ≡ s .plane
@@ -45,8 +51,8 @@ pub record Stands (tol : ℕ) (gs : List ℕ) (s : Standing) (st store : List �
 pub small-axes : (axes : List ℕ) (k : ℕ) → member k (geometricOf axes) ≡ true → k < axisCodes
 unfolding geometricOf
 small-axes axes k h =
-    let e : (leb k 9 && member k axes) ≡ true = sym (member-keep (λ (j : ℕ). leb j 9) k axes) ∙ h in
-    let g : k ≤ 9 = leb-true k 9 (and-left (leb k 9) (member k axes) e) in
+    let e : (ltb k axisCodes && member k axes) ≡ true = sym (member-keep (λ (j : ℕ). ltb j axisCodes) k axes) ∙ h in
+    let g : k < axisCodes = ltb-true k axisCodes (and-left (ltb k axisCodes) (member k axes) e) in
     omega arith
 
 no-axis : {tol : ℕ} {gs : List ℕ} {s : Standing} {st store : List ℕ} → Stands tol gs s st store → (k : ℕ) → axisCodes ≤ k → member k gs ≡ false
@@ -302,13 +308,14 @@ module _ {tol : ℕ} {gs : List ℕ} {s : Standing} {st store : List ℕ} (r : L
       })
 
 -- ---- a seed
-module _ {tol : ℕ} {gs : List ℕ} {s : Standing} {st store : List ℕ} (c x : ℕ) (t : Stands tol gs s st store) (n : length st ≡ stateWords) (few : axisCount st ≤ 15) where
+module _ {tol : ℕ} {gs : List ℕ} {s : Standing} {st store : List ℕ} (c x : ℕ) (t : Stands tol gs s st store) (n : length st ≡ stateWords)
+    (few : axisCount st ≤ listCodes) where
   module _ (on : member c gs ≡ true) where
     low-code : c < axisCodes
     unfolding geometric
     low-code = small-axes (take (axisCount st) (drop wAxes st)) c (ap (member c) (t .axes) ∙ on)
 
-    else-word : (j : ℕ) → (wKnown ≤ j → j < wKnown + 11 → ⊥) → getD (placed st c x) j 0 ≡ getD st j 0
+    else-word : (j : ℕ) → (wKnown ≤ j → j < wKnown + (axisCodes + 1) → ⊥) → getD (placed st c x) j 0 ≡ getD st j 0
     else-word j out = let h : c < axisCodes = low-code in placed-else st n c x h j (λ e. out (omega arith) (omega arith)) (λ e. out (omega arith) (omega arith))
 
     seed-place : (k : ℕ) → k < axisCodes → position (placed st c x) k ≡ movedBySeed gs (s .place) c x k
@@ -351,7 +358,7 @@ module _ {tol : ℕ} {gs : List ℕ} {s : Standing} {st store : List ℕ} (c x :
       past = λ k l. (seed-past k l, t .past k l .1);
     }
 
-  -- "Seeding codes 10-14 or an axis not listed .. changes nothing"
+  -- 2.21: a seed of a code that is no geometric axis changes nothing
   unlisted : member c gs ≡ false → (k : ℕ) → movedBySeed gs (s .place) c x k ≡ s .place k
   unfolding movedBySeed
   unlisted f k =
@@ -382,10 +389,12 @@ module _ {tol : ℕ} {gs : List ℕ} {s : Standing} {st store : List ℕ} (c x :
       (λ b. rw b (kept-stands (ap (member c) (sym (t .axes)) ∙ b)))
 
 -- ---- a close
-module _ {tol : ℕ} {gs : List ℕ} {s : Standing} {st store : List ℕ} (t : Stands tol gs s st store) (n : length st ≡ stateWords) (few : axisCount st ≤ 15) where
+module _ {tol : ℕ} {gs : List ℕ} {s : Standing} {st store : List ℕ} (t : Stands tol gs s st store) (n : length st ≡ stateWords)
+    (few : axisCount st ≤ listCodes) where
   forgotten-place : (k : ℕ) → k < axisCodes → position (forgotten st) k ≡ position st k
   unfolding pointWord
-  forgotten-place k h = ap₂ (λ (a b : ℕ). cond (has a k) (some b) none) (forgotten-low st n wKnown (omega arith)) (forgotten-low st n (wKnown + 1 + k) (omega arith))
+  forgotten-place k h =
+      ap₂ (λ (a b : ℕ). cond (has a k) (some b) none) (forgotten-low st n wKnown (omega arith)) (forgotten-low st n (wKnown + 1 + k) (omega arith))
 
   emptied-stands : Stands tol gs (withClose s) (forgotten st) store
   unfolding withClose
@@ -423,9 +432,9 @@ module _ {tol : ℕ} {gs : List ℕ} {s : Standing} {st store : List ℕ} (t : S
 
 -- ---- a start
 module _ (tol : ℕ) (axes : List ℕ) (ok : codesOk axes ≡ true) where
-  pub few-codes : length axes ≤ 15
+  pub few-codes : length axes ≤ listCodes
   unfolding codesOk
-  few-codes = leb-true (length axes) 15 (and-left (leb (length axes) 15) (all (length axes) (codeOk axes)) ok)
+  few-codes = leb-true (length axes) listCodes (and-left (leb (length axes) listCodes) (all (length axes) (codeOk axes)) ok)
 
   pub fresh-at : (i : ℕ) → i < stateWords → getD (fresh tol axes) i 0 ≡ freshWord tol axes i
   unfolding fresh
@@ -434,7 +443,7 @@ module _ (tol : ℕ) (axes : List ℕ) (ok : codesOk axes ≡ true) where
   fresh-code : (i : ℕ) → i < length axes → getD (fresh tol axes) (wAxes + i) 0 ≡ getD axes i 0
   unfolding freshWord
   fresh-code i h =
-      let few : length axes ≤ 15 = few-codes in
+      let few : length axes ≤ listCodes = few-codes in
       let e : wAxes + i - wAxes ≡ i = omega arith in
       fresh-at (wAxes + i) (omega arith)
       ∙ cond-f _ _ (ne-eqb (wAxes + i) 0 (λ z. omega arith))
@@ -445,10 +454,11 @@ module _ (tol : ℕ) (axes : List ℕ) (ok : codesOk axes ≡ true) where
   pub fresh-list : take (length axes) (drop wAxes (fresh tol axes)) ≡ axes
   unfolding fresh
   fresh-list =
-      let few : length axes ≤ 15 = few-codes in
+      let few : length axes ≤ listCodes = few-codes in
       let n : length (fresh tol axes) ≡ stateWords = length-upto (freshWord tol axes) stateWords in
       let d : length (drop wAxes (fresh tol axes)) ≡ length (fresh tol axes) - 2 = length-drop wAxes (fresh tol axes) in
-      let m : length (take (length axes) (drop wAxes (fresh tol axes))) ≡ length axes = length-take-le (length axes) (drop wAxes (fresh tol axes)) (omega arith) in
+      let m : length (take (length axes) (drop wAxes (fresh tol axes))) ≡ length axes =
+      length-take-le (length axes) (drop wAxes (fresh tol axes)) (omega arith) in
       ext-getD 0 (take (length axes) (drop wAxes (fresh tol axes))) axes m (λ i h.
       let g : i < length axes = subst (λ (k : ℕ). i < k) m h in
       getD-take (length axes) (drop wAxes (fresh tol axes)) i 0 g ∙ getD-drop wAxes (fresh tol axes) i 0 ∙ fresh-code i g)

@@ -1,30 +1,35 @@
--- Document 01, "Rows to check by hand": the starred rows, through the four calls, as one theorem over the list. Assumes nothing.
-use Prim.Native.Nat.{ℕ, _+_, _^_}
+-- LAWS. 8.13: rows worked out by hand, through the four calls, as one theorem over the list. Assumes nothing.
+use Prim.Native.Nat.{ℕ, _+_, _^_, _*_}
 use mathlib.Core.Path.{_≡_, refl}
 use mathlib.Core.List.{List, [], _∷_, _++_, map}
 use lib.ListN.{getD, set, replicate}
 use lib.Ieee as Ieee
+use Rattle.layout.specs.Layout.{rowWords, rLine, rMotion, rPresent, rCells, cCR, cOffset, cTURN, stateWords}
 use Rattle.floats.specs.Lists as Lists
 use Rattle.root.specs.Root as Root
 use Rattle.whole.specs.Whole as Whole
 use Rattle.trig.specs.Trig as Trig
-use Rattle.rows.specs.Codes as Codes
-use Rattle.rows.specs.Row as Row
-use Rattle.arcs.specs.Arc as Arc
-use Rattle.metric.specs.Metric as Metric
-use Rattle.metric.specs.Walk as Walk
-use Rattle.basis.specs.Basis as Basis
-use Rattle.curves.specs.Runs as Runs
-use Rattle.splines.specs.Emission as Emission
-use Rattle.saved.specs.State as State
-use Rattle.starts.specs.Start as Start
-use Rattle.closes.specs.Held as Held
-use Rattle.replies.specs.Replies as Replies
-use Rattle.flattener.specs.Push as Push
-use Rattle.blocks.specs.Blocks as Blocks
-use Rattle.pushed.specs.Pushed as Pushed
-use Rattle.own.specs.Answer as Own
-use Rattle.closes.specs.Close as Close
+use Rattle.motion.specs.Motion as Motion
+use Rattle.row_cells.specs.Codes as Codes
+use Rattle.row_cells.specs.Row as Row
+use Rattle.row_cells.specs.Bits as Bits
+use Rattle.row_put.specs.Made as Made
+use Rattle.row_check.specs.Check as Check
+use Rattle.arc_rows.specs.Arc as Arc
+use Rattle.curve_metric.specs.Metric as Metric
+use Rattle.curve_metric.specs.Walk as Walk
+use Rattle.bspline_tables.specs.Basis as Basis
+use Rattle.curve_runs.specs.Runs as Runs
+use Rattle.spline_emission.specs.Emission as Emission
+use Rattle.saved_state.specs.State as State
+use Rattle.call_start.specs.Start as Start
+use Rattle.call_close.specs.Held as Held
+use Rattle.call_reply.specs.Replies as Replies
+use Rattle.call_push.specs.Push as Push
+use Rattle.push_check.specs.Blocks as Blocks
+use Rattle.push_state.specs.Pushed as Pushed
+use Rattle.push_rows.specs.Answer as Own
+use Rattle.call_close.specs.Close as Close
 use Rattle.demands.specs.Demands as Demands
 use Rattle.demands.specs.Demands.{Call, pushing, closing}
 
@@ -48,11 +53,11 @@ w100 = 0x4059000000000000
 unfoldable pub celled : List ℕ → List ℕ → List ℕ
 celled r [] = r
 celled r (k ∷ []) = r
-celled r (k ∷ w ∷ cs) = celled (set (set r 5 (getD r 5 0 + 2 ^ k)) (6 + k) w) cs
+celled r (k ∷ w ∷ cs) = celled (set (set r rPresent (getD r rPresent 0 + 2 ^ k)) (rCells + k) w) cs
 
 unfoldable pub row : ℕ → ℕ → List ℕ → List ℕ
 unfolding celled
-row line motion cs = celled (line ∷ motion ∷ replicate 27 0) cs
+row line motion cs = celled (set (set (replicate rowWords 0) rLine line) rMotion motion) cs
 
 -- the code, count and warning of the last of some calls, and all that it wrote
 unfoldable pub lastOf : List ℕ → List ℕ → List Call → List ℕ
@@ -67,49 +72,66 @@ xyz = 0 ∷ 1 ∷ 2 ∷ []
 
 -- from a start with X Y Z and tolerance t, four store blocks lent; it computes
 unfoldable pub asked : ℕ → List Call → List ℕ
-unfolding Lists.upto Lists.keep Lists.member Lists.anyOf Lists.flatten Lists.rowsOf Lists.spliced Lists.Agrees Root.floorRoot Root.rootUnits Root.sqrt Whole.ceilCount Whole.halfUpCount Whole.truncCount Trig.sinSteps Trig.cosSteps Trig.atanFrom Trig.atanRight Trig.atanLeft Trig.atanUp Trig.atan2Steps Trig.acosSteps Codes.kindOf Codes.isSpline Codes.planeU Codes.planeV Codes.planeOk Codes.geometricOf Row.has Row.all Row.cell Row.number Row.shown Row.axesOf Row.maskOf Row.rowOf Row.outRow Row.hasPoint Row.rides Row.withRiders Row.madeRow Row.shapeOk Row.within Row.cellOk Row.numbersOk Row.above1000 Row.turnOk Row.rowCheck Arc.passed Arc.silent Arc.sideOf Arc.crCentre Arc.centreOf Arc.radius Arc.wideCentre Arc.agree Arc.sweepLeft Arc.sweepOf Arc.turned Arc.arcOf Arc.stepOf Arc.wantedOf Arc.countOf Arc.ramp Arc.lastCell Arc.midCell Arc.arcRow Arc.heldAxes Arc.arcRows Arc.fromCentre Arc.fromStart Arc.arcAnswer Metric.dotTo Metric.lenTo Metric.along Metric.distTo Metric.deviationOf Metric.chordTo Metric.chords Walk.near Walk.flat Walk.samples Basis.degreeOf Basis.knots Basis.share Basis.raisedAt Basis.levels Basis.basisOf Basis.spanOf Basis.topOf Basis.evalBasis Basis.basisSamples Basis.knotSum Basis.greville Basis.ownerFrom Basis.owned Basis.runOf Basis.basisRuns Runs.curveRuns Emission.pointRows Emission.channelsFrom Emission.channels Emission.firstCell Emission.startPoint Emission.nextPoint Emission.pointsFrom Emission.metricOf Emission.weightOf Emission.runsOf Emission.placeOf Emission.sampleCell Emission.ownCell Emission.isMarked Emission.pointGroup Emission.heldGroup Emission.splineGroups State.geometric State.pointWord State.tolOk State.codeOk State.codesOk State.axesOk State.pointAtOk State.pointOk State.heldOk State.stateOk State.storeOk State.heldRows State.heldRowOk State.savedCheck State.withBit State.placed Start.freshWord Start.fresh Start.startSpec Held.heldSpline Blocks.orNow Blocks.emits Blocks.kept Held.emission Own.answerAs Own.ownAnswer Blocks.news Pushed.trackTo Pushed.forgotten Pushed.opened Pushed.degreeWith Pushed.buffered Pushed.pushState Pushed.pushStore Push.pushRows Blocks.isFull Blocks.pushCheck Close.untouched Replies.tooFew Push.pushDone Push.pushSpec Close.closeRows Close.closeState Close.closeSpec Demands.answer Demands.wrote Ieee.add Ieee.sub Ieee.mul Ieee.div Ieee.rem Ieee.neg Ieee.lt Ieee.le Ieee.eq Ieee.ofBits Ieee.toBits Ieee.ofInt lastOf
-asked t cs = lastOf (Start.startSpec (replicate 44 7) t xyz .state) (replicate 116 0) cs
+unfolding Lists.upto Lists.keep Lists.member Lists.anyOf Lists.flatten Lists.rowsOf Lists.spliced Lists.Agrees Root.floorRoot Root.rootUnits Root.sqrt
+    Whole.ceilCount Whole.halfUpCount Whole.truncCount Trig.sinSteps Trig.cosSteps Trig.atanFrom Trig.atanRight Trig.atanLeft Trig.atanUp Trig.atan2Steps
+    Trig.acosSteps Motion.kindOf Motion.isSpline Motion.isOther Motion.isBasis Motion.isCubic Codes.planeU Codes.planeV Codes.planeOk Codes.geometricOf
+    Bits.has Lists.all Row.cell Row.number Row.shown Row.axesOf Row.maskOf Row.rowOf Row.outRow Row.hasPoint Made.rides Made.withRiders Made.madeRow
+    Check.shapeOk Check.within Check.cellOk Check.numbersOk Check.above1000 Check.turnOk Check.rowCheck Arc.passed Arc.silent Arc.sideOf Arc.crCentre
+    Arc.centreOf
+    Arc.radius Arc.wideCentre Arc.agree Arc.sweepLeft Arc.sweepOf Arc.turned Arc.arcOf Arc.stepOf Arc.wantedOf Arc.countOf Arc.ramp Arc.lastCell
+    Arc.midCell Arc.arcRow Arc.heldAxes Arc.arcRows Arc.fromCentre Arc.fromStart Arc.arcAnswer Metric.dotTo Metric.lenTo Metric.along Metric.distTo
+    Metric.deviationOf Metric.chordTo Metric.chords Walk.near Walk.flat Walk.samples Basis.degreeOf Basis.knots Basis.share Basis.raisedAt Basis.levels
+    Basis.basisOf Basis.spanOf Basis.topOf Basis.evalBasis Basis.basisSamples Basis.knotSum Basis.greville Basis.ownerFrom Basis.owned Basis.runOf
+    Basis.basisRuns Runs.curveRuns Emission.pointRows Emission.channelsFrom Emission.channels Emission.firstCell Emission.startPoint Emission.nextPoint
+    Emission.pointsFrom Emission.metricOf Emission.weightOf Emission.runsOf Emission.placeOf Emission.sampleCell Emission.ownCell Emission.isMarked
+    Emission.pointGroup Emission.heldGroup Emission.splineGroups State.geometric State.pointWord State.tolOk State.codeOk State.codesOk State.axesOk
+    State.pointAtOk State.pointOk State.heldOk State.stateOk State.storeOk State.heldRows State.heldRowOk State.savedCheck Bits.withBit State.placed
+    Start.freshWord Start.fresh Start.startSpec Held.heldSpline Blocks.orNow Blocks.emits Blocks.kept Held.emission Own.answerAs Own.ownAnswer Blocks.news
+    Pushed.trackTo Pushed.forgotten Pushed.opened Pushed.degreeWith Pushed.buffered Pushed.pushState Pushed.pushStore Push.pushRows Blocks.isFull
+    Blocks.pushCheck Close.untouched Replies.tooFew Push.pushDone Push.pushSpec Close.closeRows Close.closeState Close.closeSpec Demands.answer
+    Demands.wrote Ieee.add Ieee.sub Ieee.mul Ieee.div Ieee.rem Ieee.neg Ieee.lt Ieee.le Ieee.eq Ieee.ofBits Ieee.toBits Ieee.ofInt lastOf
+asked t cs = lastOf (Start.startSpec (replicate stateWords 7) t xyz .state) (replicate (4 * rowWords) 0) cs
 
 -- X and Y programmed on a line, with room for one row
 unfoldable pub from : ℕ → ℕ → Call
-from x y = pushing (replicate 29 7) (row 1 2 (0 ∷ x ∷ 1 ∷ y ∷ []))
+from x y = pushing (replicate rowWords 7) (row 1 2 (0 ∷ x ∷ 1 ∷ y ∷ []))
 
--- "Tolerance 0, -1, NaN, infinity"
+-- a start with this tolerance: its reply
 unfoldable pub started : ℕ → ℕ
-started t = Start.startSpec (replicate 44 7) t xyz .reply .code
+started t = Start.startSpec (replicate stateWords 7) t xyz .reply .code
 
--- "TURN"
+-- a block with this TURN: its reply
 unfoldable pub turning : ℕ → ℕ
-turning t = getD (asked w0·1 (pushing (replicate 29 7) (row 1 2 (19 ∷ t ∷ [])) ∷ [])) 0 9
+turning t = getD (asked w0·1 (pushing (replicate rowWords 7) (row 1 2 (cTURN ∷ t ∷ [])) ∷ [])) 0 9
 
--- "(0,0) to (10,0): CR", by G2 and G3: the warning
+-- from (0,0) to (10,0) with this CR, by G2 and G3: the warning
 unfoldable pub chord : ℕ → ℕ → ℕ
-chord motion cr = getD (asked w0·1 (from 0 0 ∷ pushing (replicate 261 7) (row 2 motion (0 ∷ w10 ∷ 1 ∷ 0 ∷ 18 ∷ cr ∷ [])) ∷ [])) 2 9
+chord motion cr = getD (asked w0·1 (from 0 0 ∷ pushing (replicate (9 * rowWords) 7) (row 2 motion (0 ∷ w10 ∷ 1 ∷ 0 ∷ cCR ∷ cr ∷ [])) ∷ [])) 2 9
 
--- "Same full circle": the count
+-- the full circle of radius 10 at this tolerance: the count
 unfoldable pub circle : ℕ → ℕ
-circle t = getD (asked t (from w10 0 ∷ pushing (replicate 87 7) (row 2 4 (0 ∷ w10 ∷ 1 ∷ 0 ∷ 15 ∷ -w10 ∷ [])) ∷ [])) 1 9
+circle t = getD (asked t (from w10 0 ∷ pushing (replicate (3 * rowWords) 7) (row 2 4 (0 ∷ w10 ∷ 1 ∷ 0 ∷ cOffset ∷ -w10 ∷ [])) ∷ [])) 1 9
 
--- "BSPLINE from (0,0) by (10,0) to (10,10), tolerance 100"
+-- a B-spline from (0,0) by (10,0) to (10,10), at tolerance 100
 unfoldable pub bent : List ℕ
 bent =
     asked w100
     (from 0 0
     ∷ pushing [] (row 2 6 (0 ∷ w10 ∷ 1 ∷ 0 ∷ []))
     ∷ pushing [] (row 3 0 (0 ∷ w10 ∷ 1 ∷ w10 ∷ []))
-    ∷ closing (replicate 87 7) ∷ [])
+    ∷ closing (replicate (3 * rowWords) 7) ∷ [])
 
--- "*Tolerance 0, -1, NaN, infinity: 1"
+-- 0, -1, NaN and infinity are refused by 1
 tolerances : map started (0 ∷ 0xbff0000000000000 ∷ 0x7ff8000000000000 ∷ 0x7ff0000000000000 ∷ []) ≡ 1 ∷ 1 ∷ 1 ∷ 1 ∷ []
 unfolding started Start.startSpec State.tolOk
 tolerances = refl
 
--- "*TURN 1,000 passes rule 5; *1,000.4 doesn't"
+-- 1,000 turns pass, 1,000.4 do not
 turns : map turning (0x408f400000000000 ∷ 0x408f433333333333 ∷ []) ≡ 0 ∷ 5 ∷ []
 unfolding asked turning row
 turns = refl
 
--- "*CR 4.999 warns 3; *CR 4.9999999995 doesn't"
+-- CR 4.999 warns 3, CR 4.9999999995 does not
 chords-2 : map (chord 3) (0x4013fef9db22d0e5 ∷ 0x4013fffffff768fa ∷ []) ≡ 3 ∷ 0 ∷ []
 unfolding asked chord from row
 chords-2 = refl
@@ -118,12 +140,12 @@ chords-3 : map (chord 4) (0x4013fef9db22d0e5 ∷ 0x4013fffffff768fa ∷ []) ≡ 
 unfolding asked chord from row
 chords-3 = refl
 
--- "*Same full circle, tolerance 10: 2; *30: 1"
+-- 2 rows at tolerance 10, 1 at 30
 circles : map circle (w10 ∷ w30 ∷ []) ≡ 2 ∷ 1 ∷ []
 unfolding asked circle from row
 circles = refl
 
--- "*BSPLINE ..: a row with no axes, then (10,10) unmarked"
+-- a row with no axes, then (10,10), unmarked
 bspline : bent ≡ 0 ∷ 2 ∷ 0 ∷ row 2 2 [] ++ row 3 0 (0 ∷ w10 ∷ 1 ∷ w10 ∷ [])
 unfolding asked bent from row
 bspline = refl

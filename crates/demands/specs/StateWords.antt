@@ -14,13 +14,16 @@ use borrow.Author.Tests.{eq-eqb, ne-eqb}
 use Rattle.floats.specs.Lists.{upto, member, spliced}
 use Rattle.floats.specs.Fill.{length-upto, at-upto}
 use Rattle.floats.specs.Splice.{length-spliced}
-use Rattle.rows.specs.Codes.{axisCodes, cSD, wCells, wAxes, wMotion, wPlane, wKnown, wWarned, wStart, wDegree, wHeld, stateWords, isSpline, geometricOf}
-use Rattle.rows.specs.Row.{has, presentOf, motionOf, number}
-use Rattle.rows.specs.Truth.{by-bit, cond-t, cond-f}
-use Rattle.rows.specs.Masks.{add-same, add-other}
-use Rattle.saved.specs.State.{axisCount, geometric, motionNow, planeNow, held, degree, pointWord, position, curveStart, withBit, placed}
-use Rattle.blocks.specs.Blocks.{emits, motionThen, planeThen, news}
-use Rattle.pushed.specs.Pushed.{forgotten, opened, degreeWith, buffered, trackTo, pushState}
+use Rattle.layout.specs.Layout.{axisCodes, cSD, rCells, wAxes, wMotion, wPlane, wKnown, wWarned, wStart, wDegree, wHeld, stateWords, listCodes}
+use Rattle.motion.specs.Motion.{isSpline}
+use Rattle.row_cells.specs.Codes.{geometricOf}
+use Rattle.row_cells.specs.Bits.{has, withBit}
+use Rattle.row_cells.specs.Row.{presentOf, motionOf, number}
+use Rattle.floats.specs.Truth.{by-bit, cond-t, cond-f}
+use Rattle.row_cells.specs.Masks.{add-same, add-other}
+use Rattle.saved_state.specs.State.{axisCount, geometric, motionNow, planeNow, held, degree, pointWord, position, curveStart, placed}
+use Rattle.push_check.specs.Blocks.{emits, motionThen, planeThen, news}
+use Rattle.push_state.specs.Pushed.{forgotten, opened, degreeWith, buffered, trackTo, pushState}
 use Rattle.demands.specs.Laws.{cond-both}
 use Rattle.demands.specs.Lengths.{emptied, worded, laid, told, emptied-length, worded-length, told-length, pushState-steps, track-length, opened-length}
 
@@ -62,14 +65,20 @@ unfolding withBit
 with-other p k j d = by-bit (has p k) (λ b. rw b) (λ b. rw b (add-other p k j b d))
 
 -- ---- the axes stand below the motion
-pub same-axes : (st st′ : List ℕ) → length st ≡ stateWords → length st′ ≡ stateWords → axisCount st ≤ 15 → ((j : ℕ) → j < wMotion → getD st′ j 0 ≡ getD st j 0) → geometric st′ ≡ geometric st
+pub same-axes : (st st′ : List ℕ) → length st ≡ stateWords → length st′ ≡ stateWords → axisCount st ≤ listCodes →
+    ((j : ℕ) → j < wMotion → getD st′ j 0 ≡ getD st j 0)
+    → geometric st′ ≡ geometric st
 unfolding geometric
 same-axes st st′ n n′ few low =
     let c : axisCount st′ ≡ axisCount st = low 1 (omega arith) in
     let e : take (axisCount st) (drop wAxes st′) ≡ take (axisCount st) (drop wAxes st) =
     ext-getD 0 _ _ (sized st′ n′ ∙ sym (sized st n)) (λ i h.
     let g : i < axisCount st = subst (λ (m : ℕ). i < m) (sized st′ n′) h in
-    getD-take (axisCount st) (drop wAxes st′) i 0 g ∙ getD-drop wAxes st′ i 0 ∙ low (wAxes + i) (omega arith) ∙ sym (getD-drop wAxes st i 0) ∙ sym (getD-take (axisCount st) (drop wAxes st) i 0 g)) in
+    getD-take (axisCount st) (drop wAxes st′) i 0 g
+    ∙ getD-drop wAxes st′ i 0
+    ∙ low (wAxes + i) (omega arith)
+    ∙ sym (getD-drop wAxes st i 0)
+    ∙ sym (getD-take (axisCount st) (drop wAxes st) i 0 g)) in
     ap (λ (m : ℕ). geometricOf (take m (drop wAxes st′))) c ∙ ap geometricOf e
   where
     sized : (l : List ℕ) → length l ≡ stateWords → length (take (axisCount st) (drop wAxes l)) ≡ axisCount st
@@ -80,7 +89,7 @@ module _ (st : List ℕ) (n : length st ≡ stateWords) where
   zeros : List ℕ
   zeros = upto (λ (k : ℕ). 0) (axisCodes + 1)
 
-  zeros-length : length zeros ≡ 11
+  zeros-length : length zeros ≡ (axisCodes + 1)
   unfolding zeros
   zeros-length = length-upto _ _
 
@@ -93,16 +102,17 @@ module _ (st : List ℕ) (n : length st ≡ stateWords) where
   pub forgotten-held : held (forgotten st) ≡ 0
   unfolding forgotten zeros
   forgotten-held =
-      let m : length zeros ≡ 11 = zeros-length in
-      getD-set-same (spliced st wStart zeros) wHeld 0 0 (subst (λ (k : ℕ). wHeld < k) (sym (length-spliced st wStart zeros (omega (arith, n, m)) ∙ n)) (omega arith))
+      let m : length zeros ≡ (axisCodes + 1) = zeros-length in
+      getD-set-same (spliced st wStart zeros) wHeld 0 0
+      (subst (λ (k : ℕ). wHeld < k) (sym (length-spliced st wStart zeros (omega (arith, n, m)) ∙ n)) (omega arith))
 
   -- ---- a spline opened: the positions are its start
   known : List ℕ
   known = getD st wKnown 0 ∷ upto (λ (k : ℕ). Option·getD (position st k) 0) axisCodes
 
-  known-length : length known ≡ 11
+  known-length : length known ≡ (axisCodes + 1)
   unfolding known
-  known-length = let e : length (upto (λ (k : ℕ). Option·getD (position st k) 0) axisCodes) ≡ 10 = length-upto _ _ in omega arith
+  known-length = let e : length (upto (λ (k : ℕ). Option·getD (position st k) 0) axisCodes) ≡ axisCodes = length-upto _ _ in omega arith
 
   pub opened-low : (j : ℕ) → j < wStart → getD (opened st) j 0 ≡ getD st j 0
   unfolding opened known
@@ -113,9 +123,10 @@ module _ (st : List ℕ) (n : length st ≡ stateWords) where
   pub opened-degree : degree (opened st) ≡ 3
   unfolding opened known
   opened-degree =
-      getD-set-same (spliced st wStart known) wDegree 3 0 (subst (λ (k : ℕ). wDegree < k) (sym (length-spliced st wStart known (omega (arith, n, known-length)) ∙ n)) (omega arith))
+      getD-set-same (spliced st wStart known) wDegree 3 0
+      (subst (λ (k : ℕ). wDegree < k) (sym (length-spliced st wStart known (omega (arith, n, known-length)) ∙ n)) (omega arith))
 
-  opened-in : (m : ℕ) → m < 11 → getD (opened st) (wStart + m) 0 ≡ getD known m 0
+  opened-in : (m : ℕ) → m < (axisCodes + 1) → getD (opened st) (wStart + m) 0 ≡ getD known m 0
   unfolding opened known
   opened-in m h =
       getD-set-other (spliced st wStart known) wDegree (wStart + m) 3 0 (λ e. omega arith)
@@ -226,7 +237,7 @@ module _ (st r : List ℕ) (n : length st ≡ stateWords) where
   takes k = has (presentOf r) k && member k (geometric st)
 
   cellWord : ℕ → ℕ
-  cellWord k = getD r (wCells + k) 0
+  cellWord k = getD r (rCells + k) 0
 
   track-step : (m : ℕ) → trackTo (suc m) st r ≡ cond (takes m) (placed (trackTo m st r) m (cellWord m)) (trackTo m st r)
   unfolding trackTo takes cellWord
@@ -242,7 +253,8 @@ module _ (st r : List ℕ) (n : length st ≡ stateWords) where
   track-else (suc m) h j out =
       ap (λ (s : List ℕ). getD s j 0) (track-step m)
       ∙ cond-both (λ (s : List ℕ). getD s j 0 ≡ getD st j 0) (takes m)
-      (placed-else (trackTo m st r) (long m) m (cellWord m) (omega arith) j (λ e. out (omega arith) (omega arith)) (λ e. out (omega arith) (omega arith)) ∙ track-else m (omega arith) j out)
+      (placed-else (trackTo m st r) (long m) m (cellWord m) (omega arith) j (λ e. out (omega arith) (omega arith)) (λ e. out (omega arith) (omega arith))
+      ∙ track-else m (omega arith) j out)
       (track-else m (omega arith) j out)
 
   track-past : (m : ℕ) → m ≤ axisCodes → (k : ℕ) → m ≤ k → position (trackTo m st r) k ≡ position st k
@@ -279,9 +291,9 @@ module _ (st r : List ℕ) (n : length st ≡ stateWords) where
       (λ (g : k < m). track-there k m (omega arith) g (track-in m (omega arith) k g))
       (eq-or-lt-of-le (le-of-suc-le-suc l))
 
-  -- "positions take the geometric cells present"
+  -- 3.13: positions take the geometric cells present
   pub track-takes : (k : ℕ) → k < axisCodes
-      → position (trackTo axisCodes st r) k ≡ cond (has (presentOf r) k && member k (geometric st)) (some (getD r (wCells + k) 0)) (position st k)
+      → position (trackTo axisCodes st r) k ≡ cond (has (presentOf r) k && member k (geometric st)) (some (getD r (rCells + k) 0)) (position st k)
   unfolding tracked takes cellWord
   track-takes k h = track-in axisCodes (omega arith) k h
 
@@ -319,7 +331,9 @@ module _ (st r : List ℕ) (n : length st ≡ stateWords) where
   -- words below the curve start are those of the state with its words set
   pub laid-low : (j : ℕ) → j < wStart → getD (laid st r) j 0 ≡ getD (worded st r) j 0
   unfolding laid
-  laid-low j h = cond-both (λ (s : List ℕ). getD s j 0 ≡ getD (worded st r) j 0) (isSpline (motionThen st r)) (buffered-low (worded st r) r (worded-length st r n) j h) refl
+  laid-low j h =
+      cond-both (λ (s : List ℕ). getD s j 0 ≡ getD (worded st r) j 0) (isSpline (motionThen st r)) (buffered-low (worded st r) r (worded-length st r n) j h)
+      refl
 
   -- every word of a push but the positions
   pub push-else : (j : ℕ) → (wKnown ≤ j → j < wWarned → ⊥) → (j ≡ wWarned → ⊥) → getD (pushState st r) j 0 ≡ getD (laid st r) j 0
@@ -351,13 +365,14 @@ module _ (st r : List ℕ) (n : length st ≡ stateWords) where
 
   told-position : (k : ℕ) → k < axisCodes → position (told st r) k ≡ position st k
   unfolding pointWord
-  told-position k h = ap₂ (λ (a b : ℕ). cond (has a k) (some b) none) (told-known wKnown (omega arith) (omega arith)) (told-known (wKnown + 1 + k) (omega arith) (omega arith))
+  told-position k h =
+      ap₂ (λ (a b : ℕ). cond (has a k) (some b) none) (told-known wKnown (omega arith) (omega arith)) (told-known (wKnown + 1 + k) (omega arith) (omega arith))
 
   told-low : (j : ℕ) → j < wMotion → getD (told st r) j 0 ≡ getD st j 0
   told-low j h = told-else j (λ e. omega arith) ∙ laid-low j (omega arith) ∙ worded-else j (λ e. omega arith) (λ e. omega arith) ∙ emptied-low j (omega arith)
 
-  pub push-place : axisCount st ≤ 15 → (k : ℕ) → k < axisCodes
-      → position (pushState st r) k ≡ cond (has (presentOf r) k && member k (geometric st)) (some (getD r (wCells + k) 0)) (position st k)
+  pub push-place : axisCount st ≤ listCodes → (k : ℕ) → k < axisCodes
+      → position (pushState st r) k ≡ cond (has (presentOf r) k && member k (geometric st)) (some (getD r (rCells + k) 0)) (position st k)
   push-place few k h =
       ap (λ (s : List ℕ). position s k) (pushState-steps st r)
       ∙ track-takes (told st r) r (told-length st r n) k h

@@ -7,20 +7,23 @@ use native.Mathlib.Omega.{arith}
 use lib.ListN.{length, getD, take, drop}
 use lib.Dec.{leb, eqb}
 use borrow.Author.Tests.{eqb-true, le-leb}
-use Rattle.floats.specs.Lists.{member}
+use Rattle.motion.specs.Motion.{lastMotion}
+use Rattle.floats.specs.Lists.{member, all}
 use Rattle.floats.specs.Fill.{length-upto}
-use Rattle.rows.specs.Codes.{rowWords, wAxes, wMotion, wPlane, wKnown, wStart, wDegree, wHeld, stateWords}
-use Rattle.rows.specs.Row.{all, within, rowCheck, motionOf}
-use Rattle.rows.specs.Truth.{by-bit, cond-t, cond-f, and-i, all-ext}
-use Rattle.saved.specs.State.{tolOk, codesOk, axesOk, axisCount, motionNow, held, geometric, heldRow, heldRowOk, stateOk, storeOk, savedCheck, placed}
-use Rattle.saved.specs.StateLaws.{Good, good-ok, geometric-small}
-use Rattle.flattener.specs.Keeps.{no-point, none-held, seeded-ok, close-saved, push-saved}
-use Rattle.replies.specs.Replies.{After, AfterState, plain}
-use Rattle.starts.specs.Start.{fresh, freshWord}
-use Rattle.starts.specs.Seed.{seeded, seedSpec}
-use Rattle.blocks.specs.Blocks.{pushCheck}
-use Rattle.flattener.specs.Push.{pushRows, pushDone}
-use Rattle.closes.specs.Close.{closeRows, closeSpec}
+use Rattle.layout.specs.Layout.{rowWords, wAxes, wMotion, wPlane, wKnown, wStart, wDegree, wHeld, stateWords, mostDegree, axisCodes, listCodes}
+use Rattle.row_check.specs.Check.{within, rowCheck}
+use Rattle.row_cells.specs.Row.{motionOf}
+use Rattle.floats.specs.Truth.{by-bit, cond-t, cond-f, and-i, all-ext}
+use Rattle.saved_state.specs.State.{tolOk, codesOk, axesOk, axisCount, motionNow, held, geometric, heldRow, heldRowOk, stateOk, storeOk, savedCheck}
+use Rattle.saved_state.specs.State.{placed}
+use Rattle.saved_state.specs.StateLaws.{Good, good-ok, geometric-small}
+use Rattle.demands.specs.Keeps.{no-point, none-held, seeded-ok, close-saved, push-saved}
+use Rattle.call_reply.specs.Replies.{After, AfterState, plain}
+use Rattle.call_start.specs.Start.{fresh, freshWord}
+use Rattle.call_start.specs.Seed.{seeded, seedSpec}
+use Rattle.push_check.specs.Blocks.{pushCheck}
+use Rattle.call_push.specs.Push.{pushRows, pushDone}
+use Rattle.call_close.specs.Close.{closeRows, closeSpec}
 use Rattle.demands.specs.Accepted.{Saved, saved, Pushed, pushed, fine-check}
 use Rattle.demands.specs.Answers.{places, push-done, push-accepted, closeDone, close-done, close-accepted}
 use Rattle.demands.specs.Demands.{Call, pushing, seeding, closing, answer, accepts, run}
@@ -35,7 +38,7 @@ module _ (tol : ℕ) (axes : List ℕ) (t : tolOk tol ≡ true) (ok : codesOk ax
   unfolding axesOk freshWord
   fresh-codes =
       let n : axisCount (fresh tol axes) ≡ length axes = fresh-at tol axes ok 1 (omega arith) in
-      and-i (ap (λ (k : ℕ). leb k 15) n ∙ le-leb (length axes) 15 (few-codes tol axes ok))
+      and-i (ap (λ (k : ℕ). leb k listCodes) n ∙ le-leb (length axes) listCodes (few-codes tol axes ok))
       (ap (λ (k : ℕ). codesOk (take k (drop wAxes (fresh tol axes)))) n ∙ ap codesOk (fresh-list tol axes ok) ∙ ok)
 
   fresh-good : Good (fresh tol axes)
@@ -46,11 +49,11 @@ module _ (tol : ℕ) (axes : List ℕ) (t : tolOk tol ≡ true) (ok : codesOk ax
         long = length-upto (freshWord tol axes) stateWords;
         tolerance = ap tolOk (w 0 (omega arith)) ∙ t;
         axes = fresh-codes;
-        motion = ap (λ (m : ℕ). leb 1 m && leb m 31) (w wMotion (omega arith));
+        motion = ap (λ (m : ℕ). leb 1 m && leb m lastMotion) (w wMotion (omega arith));
         plane = ap (λ (m : ℕ). leb 17 m && leb m 19) (w wPlane (omega arith));
         known = no-point (fresh tol axes) wKnown (w wKnown (omega arith));
         start = no-point (fresh tol axes) wStart (w wStart (omega arith));
-        power = ap (λ (m : ℕ). leb 1 m && leb m 256) (w wDegree (omega arith));
+        power = ap (λ (m : ℕ). leb 1 m && leb m mostDegree) (w wDegree (omega arith));
         count = none-held (fresh tol axes) (w wHeld (omega arith));
       }
 
@@ -62,11 +65,11 @@ module _ (tol : ℕ) (axes : List ℕ) (t : tolOk tol ≡ true) (ok : codesOk ax
 
 -- ---- a seed
 module _ (st store : List ℕ) (c x : ℕ) (s : savedCheck st store ≡ 0) (w : within x ≡ true) where
-  else-word : (j : ℕ) → (wKnown ≤ j → j < wKnown + 11 → ⊥) → getD (seeded st c x) j 0 ≡ getD st j 0
+  else-word : (j : ℕ) → (wKnown ≤ j → j < wKnown + (axisCodes + 1) → ⊥) → getD (seeded st c x) j 0 ≡ getD st j 0
   unfolding seeded
   else-word j out =
       by-bit (member c (geometric st))
-      (λ b. let h : c < 10 = geometric-small st c b in
+      (λ b. let h : c < axisCodes = geometric-small st c b in
       ap (λ (l : List ℕ). getD l j 0) (cond-t (placed st c x) st b)
       ∙ placed-else st (saved st store s .words) c x h j (λ e. out (omega arith) (omega arith)) (λ e. out (omega arith) (omega arith)))
       (λ b. ap (λ (l : List ℕ). getD l j 0) (cond-f (placed st c x) st b))
@@ -97,7 +100,8 @@ answer-saved st store c s =
     accepted (pushing rows r) y = unfold answer pushDone in
         let ok : (pushCheck st store r ≡ 0) × (length (pushRows st store r) ≤ places rows) = push-accepted st store r rows (eqb-true _ 0 y) in
         let p : Pushed st store r = pushed st store r (ok .0) in
-        ap (λ (a : After). savedCheck (a .state) (a .store)) (push-done st store r rows (ok .0) (ok .1)) ∙ push-saved st store r s (fine-check r (p .row)) (p .space)
+        ap (λ (a : After). savedCheck (a .state) (a .store)) (push-done st store r rows (ok .0) (ok .1))
+        ∙ push-saved st store r s (fine-check r (p .row)) (p .space)
     accepted (seeding c x) y = unfold answer in
         let l : (stateOk st ≡ true) × (seedSpec st c x ≡ record { reply = plain 0; state = seeded st c x }) × (within x ≡ true) = seed-left st c x y in
         ap (λ (a : AfterState). savedCheck (a .state) store) (l .1) ∙ seeded-saved st store c x s (l .2)
@@ -117,4 +121,5 @@ pub close-goes : (tol : ℕ) (axes store : List ℕ) (cs : List Call) (rows : Li
 unfolding closeDone
 close-goes tol axes store cs rows t ok h =
     ap (λ (a : After). a .reply .code)
-    (close-done (run (fresh tol axes) store cs .state) (run (fresh tol axes) store cs .store) rows (run-saved (fresh tol axes) store cs (fresh-saved tol axes t ok store)) h)
+    (close-done (run (fresh tol axes) store cs .state) (run (fresh tol axes) store cs .store) rows
+    (run-saved (fresh tol axes) store cs (fresh-saved tol axes t ok store)) h)

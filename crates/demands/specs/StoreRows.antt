@@ -8,9 +8,9 @@ use lib.ListN.{length, take, drop, length-drop}
 use lib.Seq.{take-at, drop-at, take-take, length-take-le, drop-append-le, take-append-le}
 use Rattle.floats.specs.Lists.{upto, spliced}
 use Rattle.floats.specs.Fill.{upto-below}
-use Rattle.rows.specs.Codes.{rowWords}
-use Rattle.rows.specs.Row.{outRow}
-use Rattle.saved.specs.State.{heldRow}
+use Rattle.layout.specs.Layout.{rowWords}
+use Rattle.row_cells.specs.Row.{outRow}
+use Rattle.saved_state.specs.State.{heldRow}
 use Rattle.demands.specs.RowLengths.{outRow-long}
 
 -- a run that ends within the first n elements is the same run of the whole list

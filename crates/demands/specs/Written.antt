@@ -10,31 +10,34 @@ use lib.ListN.{length, take}
 use lib.Seq.{take-at}
 use lib.Dec.{leb, eqb}
 use lib.Ieee.{Float}
-use borrow.Author.Tests.{eqb-true, eqb-false, leb-true}
+use borrow.Author.Tests.{eqb-true, eqb-false}
 use Rattle.floats.specs.Numbers.{num}
 use Rattle.floats.specs.Lists.{flatten, spliced}
 use Rattle.floats.specs.Fill.{lt-or-le}
-use Rattle.rows.specs.Codes.{axisCodes, lastCode, rowWords, isSpline, kindOf}
-use Rattle.rows.specs.Row.{planeOf, within, outRow}
-use Rattle.rows.specs.Truth.{by-bit, cond-t, cond-f, and-left, and-right}
-use Rattle.splines.specs.Emission.{Spline, splineGroups}
-use Rattle.saved.specs.State.{stateOk, held, position, curveStart, tolerance, motionNow, degree, savedCheck}
-use Rattle.closes.specs.Held.{heldSpline, emission}
-use Rattle.replies.specs.Replies.{After, AfterState, plain}
-use Rattle.starts.specs.Seed.{seeded, seedSpec}
-use Rattle.blocks.specs.Blocks.{orNow, motionThen, emits, pushCheck}
-use Rattle.own.specs.Answer.{answerAs, ownAnswer}
-use Rattle.flattener.specs.Push.{pushRows, pushDone, pushSpec}
-use Rattle.closes.specs.Close.{closeRows, closeState, closeSpec}
+use Rattle.layout.specs.Layout.{axisCodes, lastCode, rowWords}
+use Rattle.motion.specs.Motion.{isSpline, kindOf}
+use Rattle.row_cells.specs.Row.{planeOf, outRow}
+use Rattle.row_check.specs.Check.{within}
+use Rattle.floats.specs.Truth.{by-bit, cond-t, cond-f}
+use Rattle.spline_emission.specs.Emission.{Spline, splineGroups}
+use Rattle.saved_state.specs.State.{stateOk, held, position, curveStart, tolerance, motionNow, degree, savedCheck}
+use Rattle.call_close.specs.Held.{heldSpline, emission}
+use Rattle.call_reply.specs.Replies.{After, AfterState, plain}
+use Rattle.call_start.specs.Seed.{seeded, seedSpec}
+use Rattle.push_check.specs.Blocks.{orNow, motionThen, emits, pushCheck}
+use Rattle.push_rows.specs.Answer.{answerAs, ownAnswer}
+use Rattle.call_push.specs.Push.{pushRows, pushDone, pushSpec}
+use Rattle.call_close.specs.Close.{closeRows, closeState, closeSpec}
 use Rattle.demands.specs.Laws.{Every, every-imp, flatten-append, length-flatten}
 use Rattle.demands.specs.Groups.{Event, seed, block, closed, Standing, motionWith, withBlock, withSeed, withClose, splineWith}
 use Rattle.demands.specs.Demands.{Call, pushing, seeding, closing, answer, accepts, wrote, eventOf, taken, Ran, run}
 use Rattle.demands.specs.Demand1.{demand1}
-use Rattle.demands.specs.RowLengths.{Long, pushRows-long, closeRows-long}
+use Rattle.demands.specs.RowLengths.{Long, spline-as, pushRows-long, closeRows-long}
 use Rattle.demands.specs.Accepted.{Saved, saved, Pushed, pushed, few-axes, past-place, past-start, state-words}
 use Rattle.demands.specs.Answers.{places, push-done, push-accepted, closeDone, close-done, close-accepted}
 use Rattle.demands.specs.Stands.{Stands, some-length, Same, Changed, same, changed, motion-is, none-kept, push-stands, seed-stands, close-stands}
-use Rattle.demands.specs.Pending.{toCome, opened, ownRows, spline-length, come-none, come-seed, come-closed, come-on, come-other, come-own, come-own-other}
+use Rattle.demands.specs.Pending.{toCome, opened, ownRows, spline-length, come-none, come-seed, come-closed, come-on, come-other, come-own}
+use Rattle.demands.specs.Pending.{come-own-other}
 
 -- the words of some groups
 abbrev pub words : List (List (List ℕ)) → List ℕ
@@ -94,22 +97,18 @@ module _ {tol : ℕ} {gs : List ℕ} {s : Standing} {st store : List ℕ} (t : S
       len (x ∷ xs) e = absurd (omega arith)
 
 -- ---- a block of a spline has no row of its own
-spline-rows : (m : ℕ) → isSpline m ≡ true → (tol : Float) (gs : List ℕ) (plane : ℕ) (pos : ℕ → Option ℕ) (r : List ℕ) → answerAs (kindOf m) tol gs plane pos r .rows ≡ []
-unfolding isSpline kindOf answerAs
-spline-rows m y tol gs plane pos r =
-    let a : 5 ≤ m = leb-true 5 m (and-left (leb 5 m) (leb m 7) y) in
-    let b : m ≤ 7 = leb-true m 7 (and-right (leb 5 m) (leb m 7) y) in
-    by-bit (eqb m 5)
-    (λ e. rw (eqb-true m 5 e))
-    (λ e. by-bit (eqb m 6)
-    (λ f. rw (eqb-true m 6 f))
-    (λ f. let z : m ≡ 7 = omega (arith, eqb-false m 5 e, eqb-false m 6 f) in rw z))
+spline-rows : (m : ℕ) → isSpline m ≡ true → (tol : Float) (gs : List ℕ) (plane : ℕ) (pos : ℕ → Option ℕ) (r : List ℕ)
+    → answerAs (kindOf m) tol gs plane pos r .rows ≡ []
+unfolding isSpline
+spline-rows m y tol gs plane pos r = spline-as (kindOf m) y tol gs plane pos r
 
 -- ---- the rows of a push
 module _ {tol : ℕ} {gs : List ℕ} {s : Standing} {st store : List ℕ} (r : List ℕ) (t : Stands tol gs s st store) (p : Pushed st store r) where
   own-is : ownAnswer st r .rows ≡ ownRows tol gs s r
   unfolding ownAnswer ownRows withBlock
-  own-is = λ i. answerAs (kindOf (motion-is r t p i)) (num (t .tolerance i)) (t .axes i) (ap (orNow (planeOf r)) (t .plane) i) (all-places t (p .saved .state) i) r .rows
+  own-is =
+      λ i.
+      answerAs (kindOf (motion-is r t p i)) (num (t .tolerance i)) (t .axes i) (ap (orNow (planeOf r)) (t .plane) i) (all-places t (p .saved .state) i) r .rows
 
   own-none : isSpline (motionWith s r) ≡ true → ownRows tol gs s r ≡ []
   unfolding ownRows
@@ -177,11 +176,14 @@ refused-step {tol} {gs} {s} {st} {store} a c t f e g = record {
   next = s;
   how = subst (λ (l : List Event). How gs s st store l s) (sym (cond-f _ [] f)) stays;
   stands = subst (λ (l : List ℕ). Stands tol gs s l (a .store)) (sym e) (subst (λ (l : List ℕ). Stands tol gs s st l) (sym g) t);
-  adds = λ es. ap (λ (l : List Event). words (toCome tol gs s (l ++ es))) (cond-f _ [] f) ∙ ap (λ (l : List ℕ). l ++ words (toCome tol gs s es)) (sym (cond-f _ [] f));
+  adds =
+      λ es. ap (λ (l : List Event). words (toCome tol gs s (l ++ es))) (cond-f _ [] f)
+      ∙ ap (λ (l : List ℕ). l ++ words (toCome tol gs s es)) (sym (cond-f _ [] f));
 }
 
 -- what an accepted seed leaves
-pub seed-left : (st : List ℕ) (c x : ℕ) → eqb (seedSpec st c x .reply .code) 0 ≡ true → (stateOk st ≡ true) × (seedSpec st c x ≡ record { reply = plain 0; state = seeded st c x }) × (within x ≡ true)
+pub seed-left : (st : List ℕ) (c x : ℕ) → eqb (seedSpec st c x .reply .code) 0 ≡ true
+    → (stateOk st ≡ true) × (seedSpec st c x ≡ record { reply = plain 0; state = seeded st c x }) × (within x ≡ true)
 unfolding seedSpec
 seed-left st c x =
     by-bit (stateOk st)
@@ -259,7 +261,9 @@ module _ {tol : ℕ} {gs : List ℕ} {s : Standing} {st store : List ℕ} (t : S
   step (pushing rows r) =
       by-bit (accepts (pushSpec st store rows r))
       (push-step rows r)
-      (λ f. let k : (pushSpec st store rows r .state ≡ st) × (pushSpec st store rows r .store ≡ store) × (pushSpec st store rows r .rows ≡ rows) = demand1 .push st store rows r .same (eqb-false _ 0 f) in
+      (λ f.
+      let k : (pushSpec st store rows r .state ≡ st) × (pushSpec st store rows r .store ≡ store) × (pushSpec st store rows r .rows ≡ rows) = demand1 .push st
+      store rows r .same (eqb-false _ 0 f) in
       refused-step (pushSpec st store rows r) (pushing rows r) t f (k .0) (k .1))
   step (seeding c x) =
       by-bit (accepts (answer st store (seeding c x)))
@@ -268,7 +272,9 @@ module _ {tol : ℕ} {gs : List ℕ} {s : Standing} {st store : List ℕ} (t : S
   step (closing rows) =
       by-bit (accepts (closeSpec st store rows))
       (close-step rows)
-      (λ f. let k : (closeSpec st store rows .state ≡ st) × (closeSpec st store rows .store ≡ store) × (closeSpec st store rows .rows ≡ rows) = demand1 .close st store rows .same (eqb-false _ 0 f) in
+      (λ f.
+      let k : (closeSpec st store rows .state ≡ st) × (closeSpec st store rows .store ≡ store) × (closeSpec st store rows .rows ≡ rows) = demand1 .close st
+      store rows .same (eqb-false _ 0 f) in
       refused-step (closeSpec st store rows) (closing rows) t f (k .0) (k .1))
 
 -- ---- any calls, and then an accepted close

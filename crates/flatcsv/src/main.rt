@@ -1,314 +1,258 @@
 // Flattens the row text of standard input: axes X Y Z, tolerance 0.1, no seed, a full spline store, room for 256 rows.
-// Input and output go by large pieces, in memory of a fixed size.
-use csvout::BAD_TEXT;
-use csvout::Run;
-use csvout::answered;
-use csvout::emptied;
-use csvout::flush;
-use csvout::headed;
-use csvout::next_line;
-use csvout::refuse;
-use csvout::stopped;
-use lines::line_end;
-use lines::read_more;
-use lines::to_front;
-use replies::Reply;
-use rowlines::End;
+// Memory is of a fixed size: text_lines reads, csv_step does a line, csv_io writes what waits, and the loop is here.
+use csv_io::ENDED;
+use csv_io::ERR_ROOM;
+use csv_io::GOES_ON;
+use csv_io::NO_INPUT;
+use csv_io::OUT_ROOM;
+use csv_io::emptied;
+use csv_io::flush;
+use csv_io::report;
+use csv_io::tell;
+use csv_out::LENT_ROWS;
+use csv_out::Run;
+use csv_step::csv_end;
+use csv_step::csv_line;
+use layout::MOST_HELD;
+use layout::ROW_WORDS;
+use layout::STATE_WORDS;
+use text_lines::Found;
+use text_lines::Turn;
+use text_lines::next_turn;
+ghost use mathlib.Core.Logic.{_⊎_};
 ghost use mathlib.Core.Path.{_≡_};
-ghost use Prim.Native.Nat.{ℕ, _+_, _-_, _<_, _≤_};
+ghost use Prim.Native.Nat.{_<_, _≤_};
 ghost use lib.ListN.{length};
-ghost use Rattle.csvout.specs.Bounds.{Waits, Roomy};
+ghost use Rattle.call_start.specs.Start.{startSpec};
+ghost use Rattle.csv_io.specs.Status.{goesOn};
+ghost use Rattle.csv_step.specs.Csv.{tolerance, axes, begun};
+ghost use Rattle.csv_step.specs.Steps.{Room, slices};
+ghost use Rattle.flatcsv.specs.Reading.{goingOf, behind, firstReading};
+ghost use Rattle.flatcsv.specs.Turns.{FoundIn, Within, LineDone, EndDone, Done, TurnIs, Finished};
 
 // 0.1
 const TOLERANCE: u64 = 0x3fb9_9999_9999_999a;
 
-// What a turn found: a line, the end of the input, nothing yet, or that there is no going on.
-enum Found {
-    Header,
-    Row,
-    Bad,
-    End,
-    Nothing,
-    Failed,
-}
+const STORE: usize = MOST_HELD as usize * ROW_WORDS;
 
-// The unread bytes of the input buffer are from `at` up to `end`.
-struct Window {
+const ROWS: usize = LENT_ROWS * ROW_WORDS;
+
+const INPUT: usize = 65536;
+
+// Where the reading stands: the unread bytes of the input buffer are from `at` up to `end`.
+struct Reading {
     at: usize,
     end: usize,
-    found: Found,
+    run: Run,
+    over: u64,
 }
 
-// The text of a line: the first header, or a row.
-fn line_text(text: &[u8], is_first: bool, row: &mut [u64]) -> Found
-    requires { ⌜ length (now row) ≡ 29 ⌝ }
+// A refusal ends the run.
+fn going(run: Run) -> u64
+    ensures { λ r. ⌜ r ≡ goingOf (run .refused) ⌝ }
 {
-    if is_first {
-        if rowlines::is_header(text) {
-            return Found::Header;
-        }
-        return Found::Bad;
-    }
-    if rowread::read_row(text, row) {
-        return Found::Row;
-    }
-    Found::Bad
+    if run.refused { ENDED } else { GOES_ON }
 }
 
-// A whole line, with its LF.
-fn one_line(line: &[u8], is_first: bool, row: &mut [u64]) -> Found
-    requires { ⌜ length (now row) ≡ 29 ⌝ }
+// The reading behind a turn.
+fn behind(t: Turn, run: Run, over: u64) -> Reading
+    ensures { λ r. ⌜ r ≡ behind t run over ⌝ }
 {
-    let End::Upto(n) = rowlines::text_end(line) else {
-        return Found::Bad;
-    };
-    line_text(&line[..n], is_first, row)
+    Reading {
+        at: t.at,
+        end: t.end,
+        run,
+        over,
+    }
 }
 
-// The line that ends before place e.
-fn take_line(w: Window, e: usize, is_first: bool, buf: &[u8], row: &mut [u64]) -> Window
-    requires { ⌜ (w .at < e) × ((e ≤ w .end) × (w .end ≤ length (now buf))) ⌝ }
-    requires { ⌜ length (now row) ≡ 29 ⌝ }
-    ensures { λ r. ⌜ (r .at ≤ r .end) × (r .end ≤ length (now (buf .entry))) ⌝ }
+// The line that a turn found is done.
+fn take_line(
+    t: Turn,
+    run: Run,
+    buf: &[u8],
+    state: &mut [u64],
+    store: &mut [u64],
+    rows: &mut [u64],
+    out: &mut [u8],
+    err: &mut [u8],
+) -> Reading
+    requires { ⌜ FoundIn t (length (now buf)) × Room run (length (now rows)) (length (now out)) (length (now err)) ⌝ }
+    ensures { λ r.
+        let was = slices (now (state .entry)) (now (store .entry)) (now (rows .entry)) (now (out .entry)) (now (err .entry)) in
+        let is = slices (now (state .exit)) (now (store .exit)) (now (rows .exit)) (now (out .exit)) (now (err .exit)) in
+        ⌜ LineDone t run (now (buf .entry)) was r is ⌝ }
 {
-    let at = w.at;
-    let found = one_line(&buf[at..e], is_first, row);
-    Window {
-        at: e,
-        end: w.end,
-        found,
-    }
+    let from = t.from;
+    let at = t.at;
+    let then = csv_line(run, &buf[from..at], state, store, rows, out, err);
+    behind(t, then, going(then))
 }
 
-// Nothing came: the input could not be read, or has ended, where no line may stand without an end.
-fn ended(left: usize, ok: bool, is_first: bool) -> Found {
-    if !ok {
-        return Found::Failed;
-    }
-    if left > 0 {
-        return Found::Bad;
-    }
-    if is_first { Found::Bad } else { Found::End }
-}
-
-// The unread bytes are at the front.
-fn at_front(end: usize, found: Found) -> Window
-    ensures { λ r. ⌜ (r .at ≤ r .end) × (r .end ≡ end) ⌝ }
+// The end of the input. A line that fills the buffer is refused as one without its end is.
+fn finish(
+    t: Turn,
+    run: Run,
+    state: &mut [u64],
+    store: &[u64],
+    rows: &mut [u64],
+    out: &mut [u8],
+    err: &mut [u8],
+) -> Reading
+    requires { ⌜ (t .at ≤ t .end) × Room run (length (now rows)) (length (now out)) (length (now err)) ⌝ }
+    ensures { λ r.
+        let was = slices (now (state .entry)) (now (store .entry)) (now (rows .entry)) (now (out .entry)) (now (err .entry)) in
+        let is = slices (now (state .exit)) (now (store .entry)) (now (rows .exit)) (now (out .exit)) (now (err .exit)) in
+        ⌜ EndDone t run was r is ⌝ }
 {
-    Window { at: 0, end, found }
+    let left = t.end - t.at;
+    let then = csv_end(run, left, state, store, rows, out, err);
+    behind(t, then, ENDED)
 }
 
-// The unread bytes go to the front, and more are read behind them; a line that fills the buffer is too long.
-fn read_on(w: Window, is_first: bool, buf: &mut [u8]) -> Window
-    requires { ⌜ (w .at ≤ w .end) × (w .end ≤ length (now buf)) ⌝ }
-    ensures { λ r. ⌜ (r .at ≤ r .end) × (r .end ≤ length (now (buf .exit))) ⌝ }
+// What a turn found is done.
+fn done(
+    t: Turn,
+    run: Run,
+    buf: &[u8],
+    state: &mut [u64],
+    store: &mut [u64],
+    rows: &mut [u64],
+    out: &mut [u8],
+    err: &mut [u8],
+) -> Reading
+    requires { ⌜ FoundIn t (length (now buf)) × Room run (length (now rows)) (length (now out)) (length (now err)) ⌝ }
+    ensures { λ r.
+        let was = slices (now (state .entry)) (now (store .entry)) (now (rows .entry)) (now (out .entry)) (now (err .entry)) in
+        let is = slices (now (state .exit)) (now (store .exit)) (now (rows .exit)) (now (out .exit)) (now (err .exit)) in
+        ⌜ Done (t .found) t run (now (buf .entry)) was r is ⌝ }
 {
-    let n = to_front(buf, w.at, w.end);
-    if n == buf.len() {
-        return at_front(0, Found::Bad);
+    let found = t.found;
+    match found {
+        Found::Line => take_line(t, run, buf, state, store, rows, out, err),
+        Found::More => behind(t, run, GOES_ON),
+        Found::Ended => finish(t, run, state, store, rows, out, err),
+        Found::Full => finish(t, run, state, store, rows, out, err),
+        Found::Failed => behind(t, run, NO_INPUT),
     }
-    let came = read_more(buf, n);
-    if came.n > n {
-        return at_front(came.n, Found::Nothing);
-    }
-    at_front(0, ended(n, came.ok, is_first))
 }
 
-// A line that stands whole in the buffer, or a reading, where the run goes on.
-fn turn(w: Window, run: Run, buf: &mut [u8], row: &mut [u64]) -> Window
-    requires { ⌜ (w .at ≤ w .end) × ((w .end ≤ length (now buf)) × (length (now row) ≡ 29)) ⌝ }
-    ensures { λ r. ⌜ (r .at ≤ r .end) × (r .end ≤ length (now (buf .exit))) ⌝ }
+// One turn: room is made, and then a line is done or more is read.
+fn step(
+    s: Reading,
+    buf: &mut [u8; INPUT],
+    state: &mut [u64; STATE_WORDS],
+    store: &mut [u64; STORE],
+    rows: &mut [u64; ROWS],
+    out: &mut [u8; OUT_ROOM],
+    err: &mut [u8; ERR_ROOM],
+) -> Reading
+    requires { ⌜ Within s × (s .over ≡ goesOn) ⌝ }
+    ensures { λ r.
+        let was = slices (now (state .entry)) (now (store .entry)) (now (rows .entry)) (now (out .entry)) (now (err .entry)) in
+        let is = slices (now (state .exit)) (now (store .exit)) (now (rows .exit)) (now (out .exit)) (now (err .exit)) in
+        ⌜ TurnIs s (now (buf .entry)) was r (now (buf .exit)) is ⌝ }
 {
-    if !run.go {
-        return Window {
-            at: w.at,
-            end: w.end,
-            found: Found::Failed,
+    let room = emptied(s.run, out, err);
+    let run = room.run;
+    if room.over != GOES_ON {
+        return Reading {
+            at: s.at,
+            end: s.end,
+            run,
+            over: room.over,
         };
     }
-    let is_first = run.physical == 1;
-    let e = line_end(buf, w.at, w.end);
-    if e <= w.end {
-        return take_line(w, e, is_first, buf, row);
-    }
-    read_on(w, is_first, buf)
+    let t = next_turn(buf, s.at, s.end);
+    done(t, run, buf, state, store, rows, out, err)
 }
 
-// The calls without what they promise, which the program does not need: proofs about their callers stay small.
-fn push(
-    state: &mut [u64; 44],
-    store: &mut [u64; 7424],
-    rows: &mut [u64; 7424],
-    row: &[u64; 29],
-) -> Reply {
-    flattener::call::flat_push(state, store, rows, row)
-}
-
-fn close(state: &mut [u64; 44], store: &[u64; 7424], rows: &mut [u64; 7424]) -> Reply {
-    flattener::call::flat_close(state, store, rows)
-}
-
-// A row, pushed.
-fn pushed(
-    run: Run,
-    row: &[u64; 29],
-    state: &mut [u64; 44],
-    store: &mut [u64; 7424],
-    rows: &mut [u64; 7424],
-    out: &mut [u8; 131072],
-    err: &mut [u8; 4096],
-) -> Run
-    requires { ⌜ Roomy run ⌝ }
-    ensures { λ r. ⌜ Waits r ⌝ }
+// The turns that are left: none once the run is over.
+fn turns_left(turns: u64, over: u64) -> u64
+    requires { ⌜ 0 < turns ⌝ }
+    ensures { λ r. ⌜ (r < turns) × ((over ≡ goesOn) ⊎ (r ≡ 0)) ⌝ }
 {
-    let reply = push(state, store, rows, row);
-    let read = Run {
-        out: run.out,
-        err: run.err,
-        physical: run.physical,
-        source: row[0],
-        go: run.go,
-    };
-    next_line(answered(read, reply.code, reply.count, reply.warning, rows, out, err))
-}
-
-// The end of the input.
-fn closed(
-    run: Run,
-    state: &mut [u64; 44],
-    store: &[u64; 7424],
-    rows: &mut [u64; 7424],
-    out: &mut [u8; 131072],
-    err: &mut [u8; 4096],
-) -> Run
-    requires { ⌜ Roomy run ⌝ }
-    ensures { λ r. ⌜ Waits r ⌝ }
-{
-    let reply = close(state, store, rows);
-    stopped(answered(run, reply.code, reply.count, reply.warning, rows, out, err))
-}
-
-// What needs no call.
-fn told(run: Run, found: Found, out: &mut [u8; 131072], err: &mut [u8; 4096]) -> Run
-    requires { ⌜ Roomy run ⌝ }
-    ensures { λ r. ⌜ Waits r ⌝ }
-{
-    match found {
-        Found::Header => next_line(headed(run, out)),
-        Found::Bad => refuse(run, err, run.physical, BAD_TEXT),
-        Found::Failed => stopped(run),
-        _ => run,
-    }
-}
-
-// What a turn found, done.
-fn done(
-    run: Run,
-    found: Found,
-    row: &[u64; 29],
-    state: &mut [u64; 44],
-    store: &mut [u64; 7424],
-    rows: &mut [u64; 7424],
-    out: &mut [u8; 131072],
-    err: &mut [u8; 4096],
-) -> Run
-    requires { ⌜ Roomy run ⌝ }
-    ensures { λ r. ⌜ Waits r ⌝ }
-{
-    match found {
-        Found::Row => pushed(run, row, state, store, rows, out, err),
-        Found::End => closed(run, state, store, rows, out, err),
-        _ => told(run, found, out, err),
-    }
-}
-
-// Where the run stands; `turns` are left.
-struct Stand {
-    window: Window,
-    turns: u64,
-    run: Run,
-}
-
-// After a turn: there is none left once the run has ended.
-fn after_turn(window: Window, turns: u64, run: Run) -> Stand
-    requires { ⌜ (window .at ≤ window .end) × ((window .end ≤ 65536) × ((0 < turns) × Waits run)) ⌝ }
-    ensures { λ r. ⌜ (r .window .at ≤ r .window .end) × ((r .window .end ≤ 65536) × ((r .turns < turns) × Waits (r .run))) ⌝ }
-{
-    let left = if run.go { turns - 1 } else { 0 };
-    Stand {
-        window,
-        turns: left,
-        run,
-    }
-}
-
-// One turn, and what it found done.
-fn step(
-    s: Stand,
-    buf: &mut [u8; 65536],
-    state: &mut [u64; 44],
-    store: &mut [u64; 7424],
-    rows: &mut [u64; 7424],
-    out: &mut [u8; 131072],
-    err: &mut [u8; 4096],
-) -> Stand
-    requires { ⌜ (s .window .at ≤ s .window .end) × ((s .window .end ≤ 65536) × ((0 < s .turns) × Waits (s .run))) ⌝ }
-    ensures { λ r. ⌜ (r .window .at ≤ r .window .end) × ((r .window .end ≤ 65536) × ((r .turns < s .turns) × Waits (r .run))) ⌝ }
-{
-    let mut row = [0u64; 29];
-    let ready = emptied(s.run, out);
-    let window = turn(s.window, ready, buf, &mut row);
-    let found = window.found;
-    let run = done(ready, found, &row, state, store, rows, out, err);
-    after_turn(window, s.turns, run)
+    if over == GOES_ON { turns - 1 } else { 0 }
 }
 
 // Before the first line.
-fn begun() -> Stand
-    ensures { λ r. ⌜ (r .window .at ≤ r .window .end) × ((r .window .end ≤ 65536) × Waits (r .run)) ⌝ }
+fn first() -> Reading
+    ensures { λ r. ⌜ r ≡ firstReading ⌝ }
 {
-    Stand {
-        window: at_front(0, Found::Nothing),
-        turns: u64::MAX,
+    Reading {
+        at: 0,
+        end: 0,
         run: Run {
             out: 0,
             err: 0,
             physical: 1,
             source: 0,
-            go: true,
+            refused: false,
         },
+        over: GOES_ON,
     }
 }
 
-fn flush_all(run: Run, out: &[u8; 131072], err: &[u8; 4096])
-    requires { ⌜ Waits run ⌝ }
+// Turn after turn, up to the end.
+fn all_turns(
+    buf: &mut [u8; INPUT],
+    state: &mut [u64; STATE_WORDS],
+    store: &mut [u64; STORE],
+    rows: &mut [u64; ROWS],
+    out: &mut [u8; OUT_ROOM],
+    err: &mut [u8; ERR_ROOM],
+) -> Reading
+    requires { ⌜ (now state ≡ begun .state) × ((now store ≡ begun .store) × (now rows ≡ begun .rows)) ⌝ }
+    ensures { λ r.
+        let is = slices (now (state .exit)) (now (store .exit)) (now (rows .exit)) (now (out .exit)) (now (err .exit)) in
+        ⌜ Finished r is ⌝ }
 {
-    flush(run, out, err);
+    let mut s = first();
+    let mut turns = u64::MAX;
+    while turns > 0 {
+        s = step(s, buf, state, store, rows, out, err);
+        turns = turns_left(turns, s.over);
+    }
+    s
 }
 
-fn start(state: &mut [u64; 44]) {
+// What waits is written, unless writing failed before; and what failed, if anything did.
+fn last(s: Reading, out: &[u8; OUT_ROOM], err: &[u8; ERR_ROOM]) -> u64
+    requires { ⌜ Within s ⌝ }
+{
+    if s.over > NO_INPUT {
+        return s.over;
+    }
+    let left = flush(s.run, out, err);
+    if left.over != GOES_ON {
+        return left.over;
+    }
+    s.over
+}
+
+fn start(state: &mut [u64; STATE_WORDS])
+    ensures { λ r. ⌜ now (state .exit) ≡ startSpec (now (state .entry)) tolerance axes .state ⌝ }
+{
     flattener::start::flat_start(state, TOLERANCE, &[0, 1, 2]);
 }
 
 fn main() {
-    let mut buf = [0u8; 65536];
-    let mut state = [0u64; 44];
-    let mut store = [0u64; 7424];
-    let mut rows = [0u64; 7424];
-    let mut out = [0u8; 131072];
-    let mut err = [0u8; 4096];
+    let mut buf = [0u8; INPUT];
+    let mut state = [0u64; STATE_WORDS];
+    let mut store = [0u64; STORE];
+    let mut rows = [0u64; ROWS];
+    let mut out = [0u8; OUT_ROOM];
+    let mut err = [0u8; ERR_ROOM];
     start(&mut state);
-    let mut s = begun();
-    while s.turns > 0 {
-        s = step(
-            s,
-            &mut buf,
-            &mut state,
-            &mut store,
-            &mut rows,
-            &mut out,
-            &mut err,
-        );
-    }
-    flush_all(s.run, &out, &err);
+    let s = all_turns(
+        &mut buf,
+        &mut state,
+        &mut store,
+        &mut rows,
+        &mut out,
+        &mut err,
+    );
+    let over = last(s, &out, &err);
+    tell(over);
+    report(over, s.run.refused);
 }

@@ -1,8 +1,8 @@
 // Seeding a position.
-use replies::Reply;
-use starts::seed::seed;
-ghost use Rattle.starts.specs.Seed.{seedSpec};
-ghost use Rattle.replies.specs.Replies.{StateIs};
+use call_reply::Reply;
+use call_start::seed::seed;
+ghost use Rattle.call_start.specs.Seed.{seedSpec};
+ghost use Rattle.call_reply.specs.Replies.{StateIs};
 
 // Makes the number whose bits are `value` the position of an axis.
 #[no_mangle]

@@ -1,8 +1,8 @@
 // Starting.
-use replies::Reply;
-use starts::start::start;
-ghost use Rattle.starts.specs.Start.{startSpec};
-ghost use Rattle.replies.specs.Replies.{StateIs};
+use call_reply::Reply;
+use call_start::start::start;
+ghost use Rattle.call_start.specs.Start.{startSpec};
+ghost use Rattle.call_reply.specs.Replies.{StateIs};
 
 // Makes `state` a fresh one for this tolerance, by its bits, and this axis list.
 #[no_mangle]

@@ -1,12 +1,11 @@
--- Whole multiples of a power of two down: their sums, differences, halves and quarters are exact. Assumes nothing.
+-- LAWS. Whole multiples of a power of two down: their sums, differences, halves and quarters are exact. Assumes nothing.
 use mathlib.Core.Path.{_≡_, refl, sym, ap, _∙_, subst}
-use mathlib.Core.Logic.{_⊎_, inl, inr, ⊎-elim}
 use Prim.Native.Nat.{ℕ, zero, suc, _+_, _-_, _*_, _^_, _≤_, _<_}
-use native.Mathlib.Nat.{mul-assoc, mul-comm, mul-left-comm, mul-right-comm, mul-one, one-mul, zero-mul, mul-pos, zero-lt-suc, lt-of-lt-of-le, mul-mul-mul-comm, mul-lt-mul-of-pos-right, mul-le-mul-right, le-of-mul-le-mul-right, mul-sub, add-mul, pow-succ', eq-of-mul-eq-mul-right}
+use native.Mathlib.Nat.{mul-assoc, mul-comm, mul-right-comm, one-mul, zero-mul, mul-pos, zero-lt-suc, lt-of-lt-of-le, mul-mul-mul-comm}
+use native.Mathlib.Nat.{mul-lt-mul-of-pos-right, mul-le-mul-right, le-of-mul-le-mul-right, mul-sub, add-mul, pow-succ'}
 use native.Mathlib.Omega.{arith}
-use mathlib.Core.Bool.{Bool, true, false, true≢false, false≢true}
-use lib.IntN.{ℤ, pos, negsuc}
-use lib.Dec.{T, ltb}
+use mathlib.Core.Bool.{true, false, true≢false}
+use lib.IntN.{pos}
 use lib.Pow.{pow-add, pow-pos, pow-mono, shl-lt}
 use lib.Ieee.{Float, nan, inf, fin, binary64, up, down, round, sum, add, sub, mul, neg, lt, ofBits, ofInt}
 use lib.Ieee.Fits.{down-pos, up-pos}
@@ -29,8 +28,11 @@ dy-value a d h l =
     (ap (λ (z : ℕ). a * 2 ^ z) (sym e) ∙ ap (λ (z : ℕ). a * z) (pow-add 2 (1074 - d) d) ∙ sym (mul-assoc a (2 ^ (1074 - d)) (2 ^ d)))
 
 -- a number of value a / c against the common denominator
-scaled : (m n a c : ℕ) (x y : ℕ) → m * c ≡ a * x → m * y * c ≡ a * (x * y)
-scaled m n a c x y h = mul-right-comm m y c ∙ ap (λ (z : ℕ). z * y) h ∙ mul-assoc a x y
+scaled : (m a c x y : ℕ) → m * c ≡ a * x → m * y * c ≡ a * (x * y)
+scaled m a c x y h = mul-right-comm m y c ∙ ap (λ (z : ℕ). z * y) h ∙ mul-assoc a x y
+
+scaled-back : (m a c x y : ℕ) → m * c ≡ a * x → m * y * c ≡ a * (y * x)
+scaled-back m a c x y h = scaled m a c x y h ∙ ap (λ (z : ℕ). a * z) (mul-comm x y)
 
 order : (A B a b c k : ℕ) → 0 < c → A * c ≡ a * k → B * c ≡ b * k → b ≤ a → B ≤ A
 order A B a b c k C p q h = le-of-mul-le-mul-right (subst (λ (z : ℕ). z ≤ A * c) (sym q) (subst (λ (z : ℕ). b * k ≤ z) (sym p) (mul-le-mul-right k h))) C
@@ -44,8 +46,8 @@ sub-of c a b (fin false m e) nan C p q h = absurd q
 sub-of c a b (fin false m e) (inf s) C p q h = absurd q
 sub-of c a b (fin false m e) (fin true n d) C p q h = absurd (true≢false (q .0))
 sub-of c a b (fin false m e) (fin false n d) C p q h =
-    let x : m * up e * down d * c ≡ a * (down e * down d) = scaled (m * up e) 0 a c (down e) (down d) (p .1) in
-    let y : n * up d * down e * c ≡ b * (down e * down d) = scaled (n * up d) 0 b c (down d) (down e) (q .1) ∙ ap (λ (z : ℕ). b * z) (mul-comm (down d) (down e)) in
+    let x : m * up e * down d * c ≡ a * (down e * down d) = scaled (m * up e) a c (down e) (down d) (p .1) in
+    let y : n * up d * down e * c ≡ b * (down e * down d) = scaled-back (n * up d) b c (down d) (down e) (q .1) in
     let l : n * up d * down e ≤ m * up e * down d = order (m * up e * down d) (n * up d * down e) a b c (down e * down d) C x y h in
     rw (le-ltb (m * up e * down d) (n * up d * down e) l)
     (round-same binary64 false (m * up e * down d - n * up d * down e) (down e * down d) (a - b) c (mul-pos (down-pos e) (down-pos d)) C
@@ -62,8 +64,8 @@ add-of c a b (fin false m e) nan C p q = absurd q
 add-of c a b (fin false m e) (inf s) C p q = absurd q
 add-of c a b (fin false m e) (fin true n d) C p q = absurd (true≢false (q .0))
 add-of c a b (fin false m e) (fin false n d) C p q =
-    let x : m * up e * down d * c ≡ a * (down e * down d) = scaled (m * up e) 0 a c (down e) (down d) (p .1) in
-    let y : n * up d * down e * c ≡ b * (down e * down d) = scaled (n * up d) 0 b c (down d) (down e) (q .1) ∙ ap (λ (z : ℕ). b * z) (mul-comm (down d) (down e)) in
+    let x : m * up e * down d * c ≡ a * (down e * down d) = scaled (m * up e) a c (down e) (down d) (p .1) in
+    let y : n * up d * down e * c ≡ b * (down e * down d) = scaled-back (n * up d) b c (down d) (down e) (q .1) in
     round-same binary64 false (m * up e * down d + n * up d * down e) (down e * down d) (a + b) c (mul-pos (down-pos e) (down-pos d)) C
     (add-mul (m * up e * down d) (n * up d * down e) c ∙ rw (x, y) (sym (add-mul a b (down e * down d))))
 
@@ -77,7 +79,8 @@ mul-of c k a b (fin false m e) (inf s) C K p q = absurd q
 mul-of c k a b (fin false m e) (fin true n d) C K p q = absurd (true≢false (q .0))
 mul-of c k a b (fin false m e) (fin false n d) C K p q =
     round-same binary64 false (m * up e * (n * up d)) (down e * down d) (a * b) (c * k) (mul-pos (down-pos e) (down-pos d)) (mul-pos C K)
-    (mul-mul-mul-comm (m * up e) (n * up d) c k ∙ ap (λ (z : ℕ). z * (n * up d * k)) (p .1) ∙ ap (λ (z : ℕ). a * down e * z) (q .1) ∙ mul-mul-mul-comm a (down e) b (down d))
+    (mul-mul-mul-comm (m * up e) (n * up d) c k ∙ ap (λ (z : ℕ). z * (n * up d * k)) (p .1) ∙ ap (λ (z : ℕ). a * down e * z) (q .1)
+    ∙ mul-mul-mul-comm a (down e) b (down d))
 
 -- ---- of dyadic numbers
 
@@ -90,7 +93,8 @@ module _ (a b d : ℕ) (ha : a < 2 ^ 53) (hb : b < 2 ^ 53) (hd : d ≤ 1000) whe
 
 pub dy-up : (a d : ℕ) → dy a d ≡ dy (2 * a) (suc d)
 unfolding dy
-dy-up a d = round-same binary64 false a (2 ^ d) (2 * a) (2 ^ suc d) (pow-pos d) (pow-pos (suc d)) (ap (λ (z : ℕ). a * z) (pow-succ' 2 d) ∙ sym (mul-assoc a 2 (2 ^ d)) ∙ ap (λ (z : ℕ). z * 2 ^ d) (mul-comm a 2))
+dy-up a d = round-same binary64 false a (2 ^ d) (2 * a) (2 ^ suc d) (pow-pos d) (pow-pos (suc d))
+    (ap (λ (z : ℕ). a * z) (pow-succ' 2 d) ∙ sym (mul-assoc a 2 (2 ^ d)) ∙ ap (λ (z : ℕ). z * 2 ^ d) (mul-comm a 2))
 
 half-value : HasValue f½ false 1 2
 unfolding ofBits
@@ -112,7 +116,8 @@ module _ (a d : ℕ) (ha : a < 2 ^ 53) (hd : d ≤ 1000) where
   pub dy-quarter : f¼ ⊗ dy a d ≡ dy a (suc (suc d))
   unfolding dy
   dy-quarter = mul-of 4 (2 ^ d) 1 a f¼ (dy a d) (zero-lt-suc 3) (pow-pos d) quarter-value (dy-value a d ha hd)
-      ∙ round-same binary64 false (1 * a) (4 * 2 ^ d) a (2 ^ suc (suc d)) (mul-pos (zero-lt-suc 3) (pow-pos d)) (pow-pos (suc (suc d))) (four 1 a ∙ ap (λ (z : ℕ). z * (4 * 2 ^ d)) (one-mul a))
+      ∙ round-same binary64 false (1 * a) (4 * 2 ^ d) a (2 ^ suc (suc d)) (mul-pos (zero-lt-suc 3) (pow-pos d)) (pow-pos (suc (suc d)))
+      (four 1 a ∙ ap (λ (z : ℕ). z * (4 * 2 ^ d)) (one-mul a))
     where
       four : (k a : ℕ) → k * a * 2 ^ suc (suc d) ≡ k * a * (4 * 2 ^ d)
       four k a = ap (λ (z : ℕ). k * a * z) (pow-succ' 2 (suc d) ∙ ap (λ (z : ℕ). 2 * z) (pow-succ' 2 d) ∙ sym (mul-assoc 2 2 (2 ^ d)))
@@ -160,14 +165,16 @@ module _ (a b d : ℕ) (le : a ≤ b) (hb : b * 8 < 2 ^ 53) (hd : d ≤ 900) whe
       let e : 2 * a + (a + b) ≡ 3 * a + b = omega arith in
       quarter-is a b d le (omega arith) hd
       ∙ sym (ap (λ (z : Float). f½ ⊗ (dy a d ⊕ z)) (middle-is a b d le (omega arith) hd) ∙ ap (λ (z : Float). f½ ⊗ (z ⊕ dy (a + b) (suc d))) (dy-up a d)
-      ∙ ap (λ (z : Float). f½ ⊗ z) (dy-add (2 * a) (a + b) (suc d) (omega arith) (omega arith) (omega arith)) ∙ dy-half (2 * a + (a + b)) (suc d) (omega arith) (omega arith) ∙ ap (λ (z : ℕ). dy z (suc (suc d))) e)
+      ∙ ap (λ (z : Float). f½ ⊗ z) (dy-add (2 * a) (a + b) (suc d) (omega arith) (omega arith) (omega arith))
+      ∙ dy-half (2 * a + (a + b)) (suc d) (omega arith) (omega arith) ∙ ap (λ (z : ℕ). dy z (suc (suc d))) e)
 
   pub three-shared : dy a d ⊕ f¾ ⊗ (dy b d ⊖ dy a d) ≡ f½ ⊗ (f½ ⊗ (dy a d ⊕ dy b d) ⊕ dy b d)
   three-shared =
       let e : a + b + 2 * b ≡ a + 3 * b = omega arith in
       three-is a b d le (omega arith) hd
       ∙ sym (ap (λ (z : Float). f½ ⊗ (z ⊕ dy b d)) (middle-is a b d le (omega arith) hd) ∙ ap (λ (z : Float). f½ ⊗ (dy (a + b) (suc d) ⊕ z)) (dy-up b d)
-      ∙ ap (λ (z : Float). f½ ⊗ z) (dy-add (a + b) (2 * b) (suc d) (omega arith) (omega arith) (omega arith)) ∙ dy-half (a + b + 2 * b) (suc d) (omega arith) (omega arith) ∙ ap (λ (z : ℕ). dy z (suc (suc d))) e)
+      ∙ ap (λ (z : Float). f½ ⊗ z) (dy-add (a + b) (2 * b) (suc d) (omega arith) (omega arith) (omega arith))
+      ∙ dy-half (a + b + 2 * b) (suc d) (omega arith) (omega arith) ∙ ap (λ (z : ℕ). dy z (suc (suc d))) e)
 
 -- ---- what is below a number is below a larger one
 
@@ -188,7 +195,7 @@ lt-larger c a b (fin false m e) (fin false n d) (fin false k w) C p q h t =
   where
     larger : m * up e * c ≡ a * down e → n * up d * c ≡ b * down d → m * up e * down d ≤ n * up d * down e
     larger u v = order (n * up d * down e) (m * up e * down d) b a c (down e * down d) C
-        (scaled (n * up d) 0 b c (down d) (down e) v ∙ ap (λ (z : ℕ). b * z) (mul-comm (down d) (down e))) (scaled (m * up e) 0 a c (down e) (down d) u) h
+        (scaled-back (n * up d) b c (down d) (down e) v) (scaled (m * up e) a c (down e) (down d) u) h
 
     cross : (K M N W E D : ℕ) → 0 < E → K * E < M * W → M * D ≤ N * E → 0 < D → K * D < N * W
     cross K M N W E D pe s l pd =
@@ -200,7 +207,7 @@ lt-larger c a b (fin false m e) (fin false n d) (fin false k w) C p q h t =
         native.Mathlib.Nat.lt-of-mul-lt-mul-right E (omega arith)
 lt-larger c a b (fin false m e) (fin false n d) (fin true k w) C p q h t =
     let l : m * up e * down d ≤ n * up d * down e = order (n * up d * down e) (m * up e * down d) b a c (down e * down d) C
-    (scaled (n * up d) 0 b c (down d) (down e) (q .1) ∙ ap (λ (z : ℕ). b * z) (mul-comm (down d) (down e))) (scaled (m * up e) 0 a c (down e) (down d) (p .1)) h in
+    (scaled-back (n * up d) b c (down d) (down e) (q .1)) (scaled (m * up e) a c (down e) (down d) (p .1)) h in
     lt-ltb 0 (k * up w * down d + n * up d * down w) (some k m n (ltb-true 0 (k * up w * down e + m * up e * down w) t) l)
   where
     some : (k m n : ℕ) → 0 < k * up w * down e + m * up e * down w → m * up e * down d ≤ n * up d * down e → 0 < k * up w * down d + n * up d * down w

@@ -1,12 +1,12 @@
--- Laws of `upto` and `filled`: a slice that a loop fills from the front. Assumes nothing.
-use mathlib.Core.Path.{_≡_, refl, sym, _∙_, ap, subst}
+-- LAWS. `upto` and `filled`: a slice that a loop fills from the front. Assumes nothing.
+use mathlib.Core.Path.{_≡_, refl, sym, _∙_, ap}
 use mathlib.Core.List.{List, [], _∷_, _++_, append-nil}
 use Prim.Native.Nat.{ℕ, zero, suc, _+_, _*_, _-_, _<_, _≤_}
 use native.Mathlib.Numerals.{add-one}
 use native.Mathlib.Nat.{suc-mul, mul-le-mul-right, le-trans, eq-or-lt-of-le, ne-of-gt, ne-of-lt}
 use mathlib.Core.Logic.{_⊎_, inl, inr, ⊎-elim}
 use native.Mathlib.Omega.{arith}
-use lib.ListN.{length, getD, take, drop, set, length-append, length-drop, length-set, List·getD-append}
+use lib.ListN.{length, getD, drop, set, length-append, length-drop, length-set, List·getD-append}
 use mathlib.Core.Bool.{Bool, true, false}
 use lib.Dec.{ltb}
 use borrow.Author.Tests.{ltb-true, ltb-false}
@@ -89,7 +89,8 @@ split k n false e = inr (ltb-false k n e)
 pub lt-or-le : (k n : ℕ) → (k < n) ⊎ (n ≤ k)
 lt-or-le k n = split k n (ltb k n) refl
 
--- A loop's invariant, from the back: of xs, which was l, those from i up to n are f i .. f (n - 1), and those past n are as they were. d is what stands past an end.
+-- A loop's invariant, from the back: of xs, which was l, those from i up to n are f i .. f (n - 1), and those past n are as they were.
+-- d is what stands past an end.
 pub record Backing {A : Type 0} (d : A) (f : ℕ → A) (i n : ℕ) (l xs : List A) : Type 0 where
   pub same : length xs ≡ length l
   pub is : (k : ℕ) → i ≤ k → k < n → getD xs k d ≡ f k

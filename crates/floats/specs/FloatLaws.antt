@@ -1,23 +1,26 @@
--- Exact laws of the rounded operations: by one, by zero, of a number with itself, and of whole numbers. Assumes nothing.
+-- LAWS. The rounded operations where they are exact: by one, by zero, of a number with itself, of whole numbers. Assumes nothing.
 use mathlib.Core.Path.{_≡_, refl, sym, ap, _∙_, subst}
-use mathlib.Core.Logic.{_⊎_, inl, inr, ⊎-elim}
+use mathlib.Core.Logic.{_⊎_, ⊎-elim}
 use Prim.Native.Nat.{ℕ, zero, suc, _+_, _-_, _*_, _/_, _%_, _^_, _≤_, _<_}
-use native.Mathlib.Nat.{mul-assoc, mul-comm, mul-left-comm, mul-right-comm, mul-one, one-mul, zero-mul, mul-pos, zero-lt-suc, lt-of-lt-of-le, lt-of-not-le, not-le-of-lt, le-of-eq, lt-irrefl, eq-of-mul-eq-mul-right, lt-of-mul-lt-mul-right, mul-lt-mul-of-pos-right, mul-le-mul-right, mul-le-mul, mul-mul-mul-comm, mul-sub}
+use native.Mathlib.Nat.{mul-assoc, mul-comm, mul-right-comm, mul-one, one-mul, zero-mul, mul-pos, zero-lt-suc, not-le-of-lt, lt-irrefl}
+use native.Mathlib.Nat.{eq-of-mul-eq-mul-right, lt-of-mul-lt-mul-right, mul-lt-mul-of-pos-right, mul-le-mul-right, mul-le-mul}
+use native.Mathlib.Nat.{mul-mul-mul-comm, mul-sub}
 use native.Mathlib.Omega.{arith}
-use mathlib.Core.Bool.{Bool, true, false, not, _&&_, Bool·beq, cond, true≢false, false≢true}
+use mathlib.Core.Bool.{Bool, true, false, not, _&&_, cond, true≢false}
 use lib.IntN.{ℤ, pos, negsuc}
 use lib.Dec.{T, leb, ltb, eqb, ltb→lt, leb→le}
 use lib.Pow.{pow-add, pow-pos, pow-lt}
-use lib.Ieee.{Float, nan, inf, fin, Format, binary32, binary64, prec, emax, low, unlike, up, down, size, round, sum, add, sub, mul, div, neg, lt, le, odd, units, fits, toBits, ofBits, ofInt}
-use lib.Ieee.Fits.{down-pos, up-pos, and-l, and-r, round-fits, ofInt-fits, add-fits, sub-fits, mul-fits, div-fits}
-use lib.Ieee.Bits.{ofBits-toBits, ofBits-fits}
+use lib.Ieee.{Float, nan, inf, fin, Format, binary32, binary64, prec, emax, low, unlike, up, down, round, sum, add, sub, mul, div, neg, lt}
+use lib.Ieee.{le, odd, units, fits, toBits, ofBits, ofInt}
+use lib.Ieee.Fits.{down-pos, up-pos, and-l, and-r, round-fits, ofInt-fits}
+use lib.Ieee.Bits.{ofBits-toBits}
 use lib.Ieee.Exact.{HasValue, round-exact}
 use lib.Ieee.Nearest.{div-same}
 use lib.Ieee.Scale.{finite, round-same}
 use lib.Ieee.Back.{round-whole}
 use lib.Ieee.Order.{round-mono}
 use borrow.Author.Tests.{lt-ltb, le-ltb, ne-eqb, eq-eqb}
-use Rattle.floats.specs.Numbers.{_⊕_, _⊖_, _⊗_, _⊘_, f0, f1}
+use Rattle.floats.specs.Numbers.{_⊕_, _⊖_, _⊗_, f0, f1}
 
 -- ---- a value that fits is written in one way
 
@@ -29,7 +32,8 @@ same-bits f s m e n d h =
     (mul-right-comm (m * up e) (2 ^ low f) (down d) ∙ ap (λ (x : ℕ). x * 2 ^ low f) h ∙ mul-right-comm (n * up d) (down e) (2 ^ low f)) in
     rw q
 
-pub fits-unique : (f : Format) (s : Bool) (m : ℕ) (e : ℤ) (n : ℕ) (d : ℤ) → T (fits f (fin s m e)) → T (fits f (fin s n d)) → m * up e * down d ≡ n * up d * down e → fin s m e ≡ fin s n d
+pub fits-unique : (f : Format) (s : Bool) (m : ℕ) (e : ℤ) (n : ℕ) (d : ℤ) → T (fits f (fin s m e)) → T (fits f (fin s n d))
+    → m * up e * down d ≡ n * up d * down e → fin s m e ≡ fin s n d
 fits-unique f s m e n d p q h = sym (ofBits-toBits f (fin s m e) p) ∙ ap (ofBits f) (same-bits f s m e n d h) ∙ ofBits-toBits f (fin s n d) q
 
 -- ---- `round` at a value that fits
@@ -37,8 +41,10 @@ fits-unique f s m e n d p q h = sym (ofBits-toBits f (fin s m e) p) ∙ ap (ofBi
 small : (f : Format) (s : Bool) (m : ℕ) (e : ℤ) → T (fits f (fin s (suc m) e)) → suc m < 2 ^ prec f
 unfolding fits
 small f s m e t =
-    ltb→lt (suc m) (2 ^ prec f) (and-r (eqb (suc m % 2) 1) (ltb (suc m) (2 ^ prec f)) (and-l (eqb (suc m % 2) 1 && ltb (suc m) (2 ^ prec f)) (leb (down e) (2 ^ low f))
-    (and-l (eqb (suc m % 2) 1 && ltb (suc m) (2 ^ prec f) && leb (down e) (2 ^ low f)) (ltb (suc m * up e) (2 ^ suc (emax f) * down e)) t)))
+    let whole = eqb (suc m % 2) 1 in
+    let few = ltb (suc m) (2 ^ prec f) in
+    let fine = leb (down e) (2 ^ low f) in
+    ltb→lt (suc m) (2 ^ prec f) (and-r whole few (and-l (whole && few) fine (and-l (whole && few && fine) (ltb (suc m * up e) (2 ^ suc (emax f) * down e)) t)))
 
 deep : (f : Format) (s : Bool) (m : ℕ) (e : ℤ) → T (fits f (fin s (suc m) e)) → down e ≤ 2 ^ low f
 unfolding fits
@@ -49,7 +55,8 @@ deep f s m e t =
 under : (f : Format) (s : Bool) (m : ℕ) (e : ℤ) → T (fits f (fin s (suc m) e)) → suc m * up e < 2 ^ suc (emax f) * down e
 unfolding fits
 under f s m e t =
-    ltb→lt (suc m * up e) (2 ^ suc (emax f) * down e) (and-r (eqb (suc m % 2) 1 && ltb (suc m) (2 ^ prec f) && leb (down e) (2 ^ low f)) (ltb (suc m * up e) (2 ^ suc (emax f) * down e)) t)
+    let most = 2 ^ suc (emax f) * down e in
+    ltb→lt (suc m * up e) most (and-r (eqb (suc m % 2) 1 && ltb (suc m) (2 ^ prec f) && leb (down e) (2 ^ low f)) (ltb (suc m * up e) most) t)
 
 pow-le-inv : (a b : ℕ) → 2 ^ a ≤ 2 ^ b → a ≤ b
 pow-le-inv a b h = ⊎-elim (λ l. absurd (not-le-of-lt (pow-lt l) h)) (λ l. l) (Rattle.floats.specs.Fill.lt-or-le b a)
@@ -71,7 +78,8 @@ own-value f s m e t =
     let w : suc m * 2 ^ j * down e < 2 ^ (low f + suc (emax f)) * down e =
     subst (λ (x : ℕ). x < 2 ^ (low f + suc (emax f)) * down e) h
     (subst (λ (x : ℕ). suc m * up e * 2 ^ low f < x)
-    (mul-right-comm (2 ^ suc (emax f)) (down e) (2 ^ low f) ∙ ap (λ (x : ℕ). x * down e) (mul-comm (2 ^ suc (emax f)) (2 ^ low f) ∙ sym (pow-add 2 (low f) (suc (emax f)))))
+    (mul-right-comm (2 ^ suc (emax f)) (down e) (2 ^ low f)
+    ∙ ap (λ (x : ℕ). x * down e) (mul-comm (2 ^ suc (emax f)) (2 ^ low f) ∙ sym (pow-add 2 (low f) (suc (emax f)))))
     (mul-lt-mul-of-pos-right (under f s m e t) (pow-pos (low f)))) in
     round-exact f s (suc m * up e) (down e) (suc m) j (down-pos e) (small f s m e t) (lt-of-mul-lt-mul-right (down e) w) h
 
@@ -152,7 +160,8 @@ mul-by-one f nan t = refl
 mul-by-one f (inf s) t = ap inf (unlike-false s)
 mul-by-one f (fin s m e) t =
     ap (λ (b : Bool). round f b (m * up e * 1) (down e * 1)) (unlike-false s)
-    ∙ round-self f s m e t (m * up e * 1) (down e * 1) (mul-pos (down-pos e) (zero-lt-suc 0)) (mul-assoc (m * up e) 1 (down e) ∙ ap (λ (x : ℕ). m * up e * x) (mul-comm 1 (down e)))
+    ∙ round-self f s m e t (m * up e * 1) (down e * 1) (mul-pos (down-pos e) (zero-lt-suc 0))
+    (mul-assoc (m * up e) 1 (down e) ∙ ap (λ (x : ℕ). m * up e * x) (mul-comm 1 (down e)))
 
 pub one-by-mul : (f : Format) (x : Float) → T (fits f x) → mul f one x ≡ x
 unfolding mul
@@ -210,22 +219,27 @@ unfolding mul
 mul-zero-left f s nan t = absurd t
 mul-zero-left f s (inf u) t = absurd t
 mul-zero-left f s (fin u m e) t =
-    subst (λ (z : Float). T (isZero z)) (sym (round-none f (unlike s u) (0 * 1 * (m * up e)) (1 * down e) (mul-pos (zero-lt-suc 0) (down-pos e)) (simp zero-mul))) tt
+    subst (λ (z : Float). T (isZero z)) (sym (round-none f (unlike s u) (0 * 1 * (m * up e)) (1 * down e) (mul-pos (zero-lt-suc 0) (down-pos e))
+    (simp zero-mul))) tt
 
 -- ---- a zero and a number
 
 add-naught : (f : Format) (s t : Bool) (m : ℕ) (e : ℤ) (k : ℤ) → T (fits f (fin t (suc m) e)) → add f (fin s zero k) (fin t (suc m) e) ≡ fin t (suc m) e
 unfolding add sum
-add-naught f true true m e k h = round-self f true (suc m) e h (0 * up k * down e + suc m * up e * down k) (down k * down e) (mul-pos (down-pos k) (down-pos e)) (simp (zero-mul, native.Mathlib.Nat.zero-add, mul-assoc))
-add-naught f false false m e k h = round-self f false (suc m) e h (0 * up k * down e + suc m * up e * down k) (down k * down e) (mul-pos (down-pos k) (down-pos e)) (simp (zero-mul, native.Mathlib.Nat.zero-add, mul-assoc))
+add-naught f true true m e k h = round-self f true (suc m) e h (0 * up k * down e + suc m * up e * down k) (down k * down e)
+    (mul-pos (down-pos k) (down-pos e)) (simp (zero-mul, native.Mathlib.Nat.zero-add, mul-assoc))
+add-naught f false false m e k h = round-self f false (suc m) e h (0 * up k * down e + suc m * up e * down k) (down k * down e)
+    (mul-pos (down-pos k) (down-pos e)) (simp (zero-mul, native.Mathlib.Nat.zero-add, mul-assoc))
 add-naught f true false m e k h =
     let z : 0 * up k * down e ≡ 0 = simp zero-mul in
     rw (z, lt-ltb 0 (suc m * up e * down k) (mul-pos (mul-pos (zero-lt-suc m) (up-pos e)) (down-pos k)))
-    (round-self f false (suc m) e h (suc m * up e * down k - 0) (down k * down e) (mul-pos (down-pos k) (down-pos e)) (simp (native.Mathlib.Nat.sub-zero, mul-assoc)))
+    (round-self f false (suc m) e h (suc m * up e * down k - 0) (down k * down e) (mul-pos (down-pos k) (down-pos e))
+    (simp (native.Mathlib.Nat.sub-zero, mul-assoc)))
 add-naught f false true m e k h =
     let z : 0 * up k * down e ≡ 0 = simp zero-mul in
     rw (z, lt-ltb 0 (suc m * up e * down k) (mul-pos (mul-pos (zero-lt-suc m) (up-pos e)) (down-pos k)))
-    (round-self f true (suc m) e h (suc m * up e * down k - 0) (down k * down e) (mul-pos (down-pos k) (down-pos e)) (simp (native.Mathlib.Nat.sub-zero, mul-assoc)))
+    (round-self f true (suc m) e h (suc m * up e * down k - 0) (down k * down e) (mul-pos (down-pos k) (down-pos e))
+    (simp (native.Mathlib.Nat.sub-zero, mul-assoc)))
 
 tidy-zero : (x : Float) → T (isZero x) → tidy x ≡ naught false
 tidy-zero nan h = absurd h
@@ -237,8 +251,10 @@ zero-sum : (f : Format) (s t : Bool) (a b c : ℕ) → 0 < c → a ≡ 0 → b �
 unfolding sum
 zero-sum f true true a b c C ha hb = subst (λ (z : Float). T (isZero z)) (sym (round-none f true (a + b) c C (omega arith))) tt
 zero-sum f false false a b c C ha hb = subst (λ (z : Float). T (isZero z)) (sym (round-none f false (a + b) c C (omega arith))) tt
-zero-sum f true false a b c C ha hb = rw (le-ltb a b (omega arith), le-ltb b a (omega arith)) (subst (λ (z : Float). T (isZero z)) (sym (round-none f false (a - b) c C (omega arith))) tt)
-zero-sum f false true a b c C ha hb = rw (le-ltb a b (omega arith)) (subst (λ (z : Float). T (isZero z)) (sym (round-none f false (a - b) c C (omega arith))) tt)
+zero-sum f true false a b c C ha hb = rw (le-ltb a b (omega arith), le-ltb b a (omega arith))
+    (subst (λ (z : Float). T (isZero z)) (sym (round-none f false (a - b) c C (omega arith))) tt)
+zero-sum f false true a b c C ha hb = rw (le-ltb a b (omega arith))
+    (subst (λ (z : Float). T (isZero z)) (sym (round-none f false (a - b) c C (omega arith))) tt)
 
 -- up to the sign of a zero
 pub add-zero-left : (f : Format) (z x : Float) → T (isZero z) → T (fits f x) → tidy (add f z x) ≡ tidy x
@@ -249,7 +265,8 @@ add-zero-left f (fin s (suc n) k) x h t = absurd h
 add-zero-left f (fin s zero k) nan h t = refl
 add-zero-left f (fin s zero k) (inf u) h t = refl
 add-zero-left f (fin s zero k) (fin u zero e) h t =
-    tidy-zero (sum f s (0 * up k * down e) u (0 * up e * down k) (down k * down e)) (zero-sum f s u _ _ _ (mul-pos (down-pos k) (down-pos e)) (simp zero-mul) (simp zero-mul))
+    tidy-zero (sum f s (0 * up k * down e) u (0 * up e * down k) (down k * down e))
+    (zero-sum f s u _ _ _ (mul-pos (down-pos k) (down-pos e)) (simp zero-mul) (simp zero-mul))
 add-zero-left f (fin s zero k) (fin u (suc m) e) h t = ap tidy (add-naught f s u m e k t)
 
 -- a number that is not zero is what it is up to that sign
@@ -283,6 +300,13 @@ pub whole-value : (n : ℕ) → n ≤ far → HasValue (whole n) false n 1
 unfolding ofInt
 whole-value n h = round-whole binary64 false n h
 
+-- a whole number against the common denominator
+across : (m a x y : ℕ) → m * 1 ≡ a * x → m * y ≡ a * (x * y)
+across m a x y h = ap (λ (z : ℕ). z * y) (sym (mul-one m) ∙ h) ∙ mul-assoc a x y
+
+across-back : (m a x y : ℕ) → m * 1 ≡ a * x → m * y ≡ a * (y * x)
+across-back m a x y h = across m a x y h ∙ ap (λ (z : ℕ). a * z) (mul-comm x y)
+
 whole-sub-of : (a b : ℕ) (x y : Float) → HasValue x false a 1 → HasValue y false b 1 → b ≤ a → sub binary64 x y ≡ round binary64 false (a - b) 1
 unfolding sub add neg sum
 whole-sub-of a b nan y p q h = absurd p
@@ -292,8 +316,8 @@ whole-sub-of a b (fin false m e) nan p q h = absurd q
 whole-sub-of a b (fin false m e) (inf s) p q h = absurd q
 whole-sub-of a b (fin false m e) (fin true n d) p q h = absurd (true≢false (q .0))
 whole-sub-of a b (fin false m e) (fin false n d) p q h =
-    let x : m * up e * down d ≡ a * (down e * down d) = ap (λ (z : ℕ). z * down d) (sym (mul-one (m * up e)) ∙ p .1) ∙ mul-assoc a (down e) (down d) in
-    let y : n * up d * down e ≡ b * (down e * down d) = ap (λ (z : ℕ). z * down e) (sym (mul-one (n * up d)) ∙ q .1) ∙ mul-assoc b (down d) (down e) ∙ ap (λ (z : ℕ). b * z) (mul-comm (down d) (down e)) in
+    let x : m * up e * down d ≡ a * (down e * down d) = across (m * up e) a (down e) (down d) (p .1) in
+    let y : n * up d * down e ≡ b * (down e * down d) = across-back (n * up d) b (down d) (down e) (q .1) in
     let l : b * (down e * down d) ≤ a * (down e * down d) = mul-le-mul-right (down e * down d) h in
     rw (x, y, le-ltb _ _ l)
     (round-same binary64 false _ (down e * down d) (a - b) 1 (mul-pos (down-pos e) (down-pos d)) (zero-lt-suc 0)
@@ -312,8 +336,8 @@ whole-add-of a b (fin false m e) nan p q = absurd q
 whole-add-of a b (fin false m e) (inf s) p q = absurd q
 whole-add-of a b (fin false m e) (fin true n d) p q = absurd (true≢false (q .0))
 whole-add-of a b (fin false m e) (fin false n d) p q =
-    let x : m * up e * down d ≡ a * (down e * down d) = ap (λ (z : ℕ). z * down d) (sym (mul-one (m * up e)) ∙ p .1) ∙ mul-assoc a (down e) (down d) in
-    let y : n * up d * down e ≡ b * (down e * down d) = ap (λ (z : ℕ). z * down e) (sym (mul-one (n * up d)) ∙ q .1) ∙ mul-assoc b (down d) (down e) ∙ ap (λ (z : ℕ). b * z) (mul-comm (down d) (down e)) in
+    let x : m * up e * down d ≡ a * (down e * down d) = across (m * up e) a (down e) (down d) (p .1) in
+    let y : n * up d * down e ≡ b * (down e * down d) = across-back (n * up d) b (down d) (down e) (q .1) in
     rw (x, y)
     (round-same binary64 false _ (down e * down d) (a + b) 1 (mul-pos (down-pos e) (down-pos d)) (zero-lt-suc 0)
     (mul-one _ ∙ sym (native.Mathlib.Nat.add-mul a b (down e * down d))))
@@ -349,8 +373,8 @@ whole-lt-of a b (fin false m e) nan p q = absurd q
 whole-lt-of a b (fin false m e) (inf s) p q = absurd q
 whole-lt-of a b (fin false m e) (fin true n d) p q = absurd (true≢false (q .0))
 whole-lt-of a b (fin false m e) (fin false n d) p q =
-    let x : m * up e * down d ≡ a * (down e * down d) = ap (λ (z : ℕ). z * down d) (sym (mul-one (m * up e)) ∙ p .1) ∙ mul-assoc a (down e) (down d) in
-    let y : n * up d * down e ≡ b * (down e * down d) = ap (λ (z : ℕ). z * down e) (sym (mul-one (n * up d)) ∙ q .1) ∙ mul-assoc b (down d) (down e) ∙ ap (λ (z : ℕ). b * z) (mul-comm (down d) (down e)) in
+    let x : m * up e * down d ≡ a * (down e * down d) = across (m * up e) a (down e) (down d) (p .1) in
+    let y : n * up d * down e ≡ b * (down e * down d) = across-back (n * up d) b (down d) (down e) (q .1) in
     rw (x, y) (ltb-scale a b (down e * down d) (mul-pos (down-pos e) (down-pos d)))
   where
     ltb-scale : (a b k : ℕ) → 0 < k → ltb (a * k) (b * k) ≡ ltb a b
@@ -394,7 +418,7 @@ not-under n a k p h l = go (whole n) (whole-value n h)
         let x : m * up e ≡ n * down e = sym (mul-one (m * up e)) ∙ v .1 in
         let s : a * down e ≤ 2 ^ suc k * down e = mul-le-mul-right (down e) l in
         let t : 1 * (2 ^ suc k * down e) ≤ n * (2 ^ suc k * down e) = mul-le-mul-right (2 ^ suc k * down e) p in
-        let y : m * up e * 2 ^ suc k ≡ n * (2 ^ suc k * down e) = ap (λ (z : ℕ). z * 2 ^ suc k) x ∙ mul-assoc n (down e) (2 ^ suc k) ∙ ap (λ (z : ℕ). n * z) (mul-comm (down e) (2 ^ suc k)) in
+        let y : m * up e * 2 ^ suc k ≡ n * (2 ^ suc k * down e) = across-back (m * up e) n (down e) (2 ^ suc k) (v .1) in
         le-ltb (m * up e * 2 ^ suc k) (a * 1 * down e) (omega arith)
 
 -- ---- a product of numbers that are not large is finite
@@ -446,7 +470,8 @@ pub round-finite : (s : Bool) (a c : ℕ) → 0 < c → a ≤ 2 ^ 100 * c → T 
 round-finite s a c C h =
     round-finite-sign binary64 false s a c
     (finite-under (round binary64 false a c)
-    (subst (λ (z : Float). T (le (round binary64 false a c) z)) big-is (round-mono binary64 a c (2 ^ 100) 1 C (zero-lt-suc 0) (subst (λ (z : ℕ). z ≤ 2 ^ 100 * c) (sym (mul-one a)) h)))
+    (subst (λ (z : Float). T (le (round binary64 false a c) z)) big-is
+    (round-mono binary64 a c (2 ^ 100) 1 C (zero-lt-suc 0) (subst (λ (z : ℕ). z ≤ 2 ^ 100 * c) (sym (mul-one a)) h)))
     (round-plain binary64 a c))
 
 -- the size is at most 2^50

@@ -5,3 +5,4 @@ pub mod Fill
 pub mod Splice
 pub mod FloatLaws
 pub mod Dyadic
+pub mod Truth

@@ -1,7 +1,7 @@
--- Lists as the definitions write them. Assumes nothing.
+-- DEFINITIONS. Lists as the definitions write them. Assumes nothing.
 use Prim.Native.Nat.{ℕ, zero, suc, _+_, _*_, _<_}
 use mathlib.Core.Path.{_≡_}
-use mathlib.Core.Bool.{Bool, true, false, cond, _||_}
+use mathlib.Core.Bool.{Bool, true, false, cond, _&&_, _||_}
 use mathlib.Core.List.{List, [], _∷_, _++_}
 use mathlib.Core.Option.{Option, none, some}
 use lib.Dec.{eqb}
@@ -59,3 +59,8 @@ spliced l i ws = take i l ++ (ws ++ drop (i + length ws) l)
 -- the first n of xs are f 0 .. f (n - 1)
 unfoldable pub Agrees : List Float → (ℕ → Float) → ℕ → Type 0
 Agrees xs f n = (k : ℕ) → k < n → at xs k ≡ f k
+
+-- every k below n
+unfoldable pub all : ℕ → (ℕ → Bool) → Bool
+all zero f = true
+all (suc n) f = all n f && f n

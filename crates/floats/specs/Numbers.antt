@@ -1,6 +1,6 @@
--- Floats as the definitions write them: each operation rounded once, constants by their bits. Assumes nothing.
+-- DEFINITIONS. Floats as the definitions write them: each operation rounded once, constants by their bits. Assumes nothing.
 use Prim.Native.Nat.{ℕ}
-use mathlib.Core.Bool.{Bool, cond}
+use mathlib.Core.Bool.{cond}
 use mathlib.Core.List.{List}
 use lib.IntN.{pos}
 use lib.ListN.{getD}

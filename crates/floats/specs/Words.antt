@@ -1,12 +1,12 @@
--- Document 01, "Own arithmetic": tests of a number over its bits, and what they say of the number. Assumes nothing.
-use Prim.Native.Nat.{ℕ, zero, suc, _+_, _*_, _/_, _%_, _<_, _≤_}
-use mathlib.Core.Path.{_≡_, refl, sym, ap, _∙_}
+-- LAWS. Whether a bit pattern stands for a finite number, by its bits alone. Assumes nothing.
+use Prim.Native.Nat.{ℕ, zero, suc, _+_, _/_, _%_, _<_, _≤_}
+use mathlib.Core.Path.{_≡_, refl, _∙_}
 use mathlib.Core.Bool.{Bool, true, false, not, cond}
 use mathlib.Core.Logic.{⊎-elim}
 use native.Mathlib.Nat.{mod-lt, zero-lt-suc}
 use native.Mathlib.Omega.{arith}
 use lib.Dec.{leb, ltb, eqb}
-use lib.Ieee.{Float, nan, inf, fin, binary64, prec, low, odd, ofFields, ofBits, hid, ones, top}
+use lib.Ieee.{Float, nan, inf, binary64, prec, low, odd, ofFields, ofBits, hid, ones, top}
 use lib.Ieee.Scale.{finite}
 use borrow.Author.Tests.{lt-ltb, le-ltb, eq-eqb, ne-eqb}
 use Rattle.floats.specs.Numbers.{num}
@@ -44,4 +44,5 @@ field-test r h =
 -- the test says of the bits what the number is
 pub finite-bits : (b : ℕ) → finite (num b) ≡ finiteBits b
 unfolding finiteBits ofBits
-finite-bits b = fields-finite (leb (top binary64) b) (b % top binary64 / hid binary64) (b % hid binary64) ∙ field-test (b % 0x8000000000000000) (mod-lt b (zero-lt-suc _))
+finite-bits b = fields-finite (leb (top binary64) b) (b % top binary64 / hid binary64) (b % hid binary64)
+    ∙ field-test (b % 0x8000000000000000) (mod-lt b (zero-lt-suc _))

@@ -1,11 +1,11 @@
 // What a call answered, as lines.
-use calltext::output::flushed;
-use calltext::output::put_line;
-use calltext::output::put_line_hex;
-use calltext::output::put_line_number;
-use calltext::output::put_line_numbers;
-use calltext::output::put_rows;
-use replies::Reply;
+use call_reply::Reply;
+use replay_text::output::flushed;
+use replay_text::output::put_line;
+use replay_text::output::put_line_hex;
+use replay_text::output::put_line_number;
+use replay_text::output::put_line_numbers;
+use replay_text::output::put_rows;
 
 fn put_warning(r: Reply, out: &mut [u8], at: usize) -> usize {
     if r.warning == 0 {

@@ -4,22 +4,23 @@ mod session;
 
 use crate::session::Lent;
 use crate::session::done;
-use calltext::ask::Ask;
-use calltext::ask::read_ask;
-use calltext::memory::MOST_LENGTH;
-use calltext::memory::OLD_WORDS;
-use calltext::memory::ROOM_WORDS;
-use calltext::memory::STORE_WORDS;
-use calltext::memory::TEXT_ROOM;
-use calltext::memory::rest;
-use calltext::output::flush;
-use lines::line_end;
-use lines::read_more;
-use lines::to_front;
-use saved::STATE_WORDS;
-ghost use Prim.Native.Nat.{ℕ, _+_, _-_, _<_, _≤_};
+use layout::STATE_WORDS;
+use replay_text::ask::Ask;
+use replay_text::ask::read_ask;
+use replay_text::memory::MOST_LENGTH;
+use replay_text::memory::OLD_WORDS;
+use replay_text::memory::ROOM_WORDS;
+use replay_text::memory::STORE_WORDS;
+use replay_text::memory::TEXT_ROOM;
+use replay_text::memory::rest;
+use replay_text::output::flush;
+use text_lines::Found;
+use text_lines::Turn;
+use text_lines::next_turn;
+ghost use Prim.Native.Nat.{_<_, _≤_};
 ghost use lib.ListN.{length};
 ghost use mathlib.Core.Path.{_≡_};
+ghost use Rattle.replay.specs.Places.{Lies};
 
 // Where reading stands: the unread bytes of the buffer are from `at` up to `end`; `lines` were read, the last of
 // which asks for `ask`; `turns` are left.
@@ -35,47 +36,49 @@ fn next(n: u64) -> u64 {
     if n < 0xffff_ffff_ffff { n + 1 } else { n }
 }
 
-// The line that ends before place e.
-fn take_line(w: Window, e: usize, buf: &[u8], words: &mut [u64; MOST_LENGTH]) -> Window
-    requires { ⌜ (w .at < e) × ((e ≤ w .end) × (w .end ≤ length (now buf))) ⌝ }
+// The line that a turn found, without its LF.
+fn take_line(t: Turn, lines: u64, turns: u64, buf: &[u8], words: &mut [u64; MOST_LENGTH]) -> Window
+    requires { ⌜ (t .from < t .at) × ((t .at ≤ t .end) × (t .end ≤ length (now buf))) ⌝ }
     ensures { λ r. ⌜ (r .at ≤ r .end) × (r .end ≤ length (now (buf .entry))) ⌝ }
 {
-    let at = w.at;
-    let stop = e - 1;
-    let ask = read_ask(&buf[at..stop], words);
+    let from = t.from;
+    let stop = t.at - 1;
+    let ask = read_ask(&buf[from..stop], words);
     Window {
-        at: e,
-        end: w.end,
-        lines: next(w.lines),
-        turns: w.turns,
+        at: t.at,
+        end: t.end,
+        lines: next(lines),
+        turns,
         ask,
     }
 }
 
-// The end of the input: n bytes that no LF ends are a line too.
-fn take_rest(n: usize, lines: u64, buf: &[u8], words: &mut [u64; MOST_LENGTH]) -> Window
-    requires { ⌜ n ≤ length (now buf) ⌝ }
+// The end of the input: bytes that no LF ends are a line too.
+fn take_rest(t: Turn, lines: u64, buf: &[u8], words: &mut [u64; MOST_LENGTH]) -> Window
+    requires { ⌜ (t .at ≤ t .end) × (t .end ≤ length (now buf)) ⌝ }
     ensures { λ r. ⌜ (r .at ≤ r .end) × (r .end ≤ length (now (buf .entry))) ⌝ }
 {
-    if n == 0 {
-        return at_front(0, lines, 0);
+    let at = t.at;
+    let end = t.end;
+    if at == end {
+        return unasked(end, end, lines, 0);
     }
-    let ask = read_ask(&buf[0..n], words);
+    let ask = read_ask(&buf[at..end], words);
     Window {
-        at: 0,
-        end: 0,
+        at: end,
+        end,
         lines: next(lines),
         turns: 0,
         ask,
     }
 }
 
-// No line was read, and the unread bytes are at the front.
-fn at_front(end: usize, lines: u64, turns: u64) -> Window
-    ensures { λ r. ⌜ (r .at ≤ r .end) × (r .end ≡ end) ⌝ }
+// No line was read.
+fn unasked(at: usize, end: usize, lines: u64, turns: u64) -> Window
+    ensures { λ r. ⌜ (r .at ≡ at) × (r .end ≡ end) ⌝ }
 {
     Window {
-        at: 0,
+        at,
         end,
         lines,
         turns,
@@ -83,17 +86,17 @@ fn at_front(end: usize, lines: u64, turns: u64) -> Window
     }
 }
 
-// The bytes that are not read yet go to the front, and more are read behind them.
-fn read_on(w: Window, buf: &mut [u8], words: &mut [u64; MOST_LENGTH]) -> Window
-    requires { ⌜ (w .at ≤ w .end) × (w .end ≤ length (now buf)) ⌝ }
-    ensures { λ r. ⌜ (r .at ≤ r .end) × (r .end ≤ length (now (buf .exit))) ⌝ }
+// What a turn found: the next line, more bytes, or the last line.
+fn asked(t: Turn, lines: u64, turns: u64, buf: &[u8], words: &mut [u64; MOST_LENGTH]) -> Window
+    requires { ⌜ Lies t (length (now buf)) ⌝ }
+    ensures { λ r. ⌜ (r .at ≤ r .end) × (r .end ≤ length (now (buf .entry))) ⌝ }
 {
-    let n = to_front(buf, w.at, w.end);
-    let came = read_more(buf, n);
-    if came.n > n {
-        return at_front(came.n, w.lines, w.turns);
+    let found = t.found;
+    match found {
+        Found::Line => take_line(t, lines, turns, buf, words),
+        Found::More => unasked(t.at, t.end, lines, turns),
+        _ => take_rest(t, lines, buf, words),
     }
-    take_rest(n, w.lines, buf, words)
 }
 
 // One turn: a whole line that is in the buffer, or a read.
@@ -101,11 +104,8 @@ fn turn(w: Window, buf: &mut [u8], words: &mut [u64; MOST_LENGTH]) -> Window
     requires { ⌜ (w .at ≤ w .end) × (w .end ≤ length (now buf)) ⌝ }
     ensures { λ r. ⌜ (r .at ≤ r .end) × (r .end ≤ length (now (buf .exit))) ⌝ }
 {
-    let e = line_end(buf, w.at, w.end);
-    if e <= w.end {
-        return take_line(w, e, buf, words);
-    }
-    read_on(w, buf, words)
+    let t = next_turn(buf, w.at, w.end);
+    asked(t, w.lines, w.turns, buf, words)
 }
 
 // None once the input has ended.
@@ -173,7 +173,7 @@ fn begun() -> Stand
     ensures { λ r. ⌜ (r .window .at ≤ r .window .end) × (r .window .end ≤ 65536) ⌝ }
 {
     Stand {
-        window: at_front(0, 0, u64::MAX),
+        window: unasked(0, 0, 0, u64::MAX),
         lent: Lent {
             state: STATE_WORDS,
             store: STORE_WORDS,

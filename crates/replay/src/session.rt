@@ -1,19 +1,19 @@
 // What a line asks for, done: a call and its answer, or a change of what is lent.
 use crate::answer::put_answer;
-use calltext::ask::Ask;
-use calltext::memory::MOST_LENGTH;
-use calltext::memory::OLD_WORDS;
-use calltext::memory::ROOM_WORDS;
-use calltext::memory::STORE_WORDS;
-use calltext::memory::TEXT_ROOM;
-use calltext::memory::copy;
-use calltext::memory::is_resting;
-use calltext::memory::part;
-use calltext::memory::rest;
-use calltext::memory::row_words;
-use calltext::memory::same;
-use calltext::output::put_line_number;
-use replies::Reply;
+use call_reply::Reply;
+use replay_text::ask::Ask;
+use replay_text::memory::MOST_LENGTH;
+use replay_text::memory::OLD_WORDS;
+use replay_text::memory::ROOM_WORDS;
+use replay_text::memory::STORE_WORDS;
+use replay_text::memory::TEXT_ROOM;
+use replay_text::memory::copy;
+use replay_text::memory::is_resting;
+use replay_text::memory::part;
+use replay_text::memory::rest;
+use replay_text::memory::row_words;
+use replay_text::memory::same;
+use replay_text::output::put_line_number;
 
 // The words lent from now on, and where the output stands.
 pub struct Lent {

@@ -1,12 +1,13 @@
--- A root against a bound, by the digits of both. Assumes nothing.
+-- LAWS. A root against a bound, by the digits of both. Assumes nothing.
 use mathlib.Core.Path.{_≡_, refl, sym, ap, _∙_, subst}
 use mathlib.Core.Logic.{_⊎_, inl, inr, ⊎-elim}
-use Prim.Native.Nat.{ℕ, zero, suc, _+_, _-_, _*_, _/_, _%_, _^_, _≤_, _<_, compare}
-use native.Mathlib.Nat.{add-comm, le-trans, le-of-eq, le-of-lt, lt-of-lt-of-le, lt-of-le-of-lt, lt-of-not-le, lt-irrefl, mul-pos, mul-le-mul, mul-le-mul-right, mul-lt-mul-of-pos-right, lt-of-mul-lt-mul-right, le-div-iff-mul-le}
+use Prim.Native.Nat.{ℕ, suc, _+_, _-_, _*_, _/_, _%_, _^_, _≤_, _<_, compare}
+use native.Mathlib.Nat.{add-comm, le-trans, le-of-eq, le-of-lt, lt-of-lt-of-le, lt-of-le-of-lt, lt-of-not-le, lt-irrefl, mul-pos}
+use native.Mathlib.Nat.{mul-le-mul, mul-le-mul-right, mul-lt-mul-of-pos-right}
 use native.Mathlib.Omega.{arith}
 use native.Mathlib.Decide.{decLe, decLt}
 use mathlib.Core.Bool.{Bool, true, false, _&&_}
-use lib.Dec.{T, leb, ltb, eqb, leb→le, le→leb, ltb→lt, lt→ltb}
+use lib.Dec.{T, leb, ltb, leb→le, le→leb, ltb→lt, lt→ltb}
 use lib.Pow.{pow-add, pow-pos, pow-mono}
 use lib.Ieee.{Float, binary64, le, ofBits, nearest}
 use lib.Ieee.Exact.{HasValue}
@@ -35,7 +36,8 @@ le-is x y a b v w p q =
     (λ t. le-of-values x y a (2 ^ 1074) b (2 ^ 1074) (pow-pos 1074) (pow-pos 1074) v w (mul-le-mul-right (2 ^ 1074) (leb→le a b t)))
   where
     le-back : a * 2 ^ 1074 ≤ b * 2 ^ 1074 → a ≤ b
-    le-back h = ⊎-elim (λ (k : a ≤ b). k) (λ (k : b < a). absurd (lt-irrefl (a * 2 ^ 1074) (lt-of-le-of-lt h (mul-lt-mul-of-pos-right k (pow-pos 1074))))) (either (decLe a b))
+    le-back h = ⊎-elim (λ (k : a ≤ b). k) (λ (k : b < a). absurd (lt-irrefl (a * 2 ^ 1074) (lt-of-le-of-lt h (mul-lt-mul-of-pos-right k (pow-pos 1074)))))
+        (either (decLe a b))
       where
         either : Dec (a ≤ b) → (a ≤ b) ⊎ (b < a)
         either (yes k) = inl k
@@ -75,12 +77,14 @@ within m r t n =
 larger : (R F k j : ℕ) → R < 2 ^ 53 → 2 ^ 52 ≤ F → k < j → R * 2 ^ k ≤ F * 2 ^ j
 larger R F k j r f h =
     le-trans (mul-le-mul-right (2 ^ k) (le-of-lt r))
-    (le-trans (le-of-eq (sym (pow-add 2 53 k))) (le-trans (pow-mono {i = 53 + k} {j = 52 + j} (omega arith)) (le-trans (le-of-eq (pow-add 2 52 j)) (mul-le-mul-right (2 ^ j) f))))
+    (le-trans (le-of-eq (sym (pow-add 2 53 k))) (le-trans (pow-mono {i = 53 + k} {j = 52 + j} (omega arith))
+    (le-trans (le-of-eq (pow-add 2 52 j)) (mul-le-mul-right (2 ^ j) f))))
 
 smaller : (R F k j : ℕ) → 2 ^ 52 ≤ R → F < 2 ^ 53 → j < k → F * 2 ^ j < R * 2 ^ k
 smaller R F k j r f h =
     lt-of-lt-of-le (mul-lt-mul-of-pos-right f (pow-pos j))
-    (le-trans (le-of-eq (sym (pow-add 2 53 j))) (le-trans (pow-mono {i = 53 + j} {j = 52 + k} (omega arith)) (le-trans (le-of-eq (pow-add 2 52 k)) (mul-le-mul-right (2 ^ k) r))))
+    (le-trans (le-of-eq (sym (pow-add 2 53 j))) (le-trans (pow-mono {i = 53 + j} {j = 52 + k} (omega arith))
+    (le-trans (le-of-eq (pow-add 2 52 k)) (mul-le-mul-right (2 ^ k) r))))
 
 apart-test : (R F k j : ℕ) → 2 ^ 52 ≤ R → R < 2 ^ 53 → 2 ^ 52 ≤ F → F < 2 ^ 53 → (k ≡ j → ⊥) → ltb k j ≡ leb (R * 2 ^ k) (F * 2 ^ j)
 apart-test R F k j rl rh fl fh ne =
@@ -118,7 +122,8 @@ rooted-is x =
     let b = bounds x (taken x) (taken-is x) in
     near-to (taken x) (omega (arith, b)) (omega (arith, b))
 
-sizes : (x y : ℕ) → Normals x y → le (sqrt binary64 (ofBits binary64 x)) (ofBits binary64 y) ≡ leb (rooted x * 2 ^ ((exponent x + 1021) / 2)) (digits y * 2 ^ (exponent y - 1))
+sizes : (x y : ℕ) → Normals x y → le (sqrt binary64 (ofBits binary64 x)) (ofBits binary64 y)
+    ≡ leb (rooted x * 2 ^ ((exponent x + 1021) / 2)) (digits y * 2 ^ (exponent y - 1))
 sizes x y h =
     let k = (exponent x + 1021) / 2 in
     let j = exponent y - 1 in
@@ -128,14 +133,16 @@ sizes x y h =
     (subst (λ (z : ℕ). HasValue (ofBits binary64 y) false (z * 2 ^ j) (2 ^ 1074)) (add-comm (2 ^ 52) (y % 2 ^ 52)) (normal-value y (h .y-lo) (h .y-hi)))
     (mul-pos (omega arith) (pow-pos k)) (mul-pos (omega arith) (pow-pos j))
 
-pub by-power : (x y : ℕ) → Normals x y → ((exponent x + 1021) / 2 ≡ exponent y - 1 → ⊥) → ltb ((exponent x + 1021) / 2) (exponent y - 1) ≡ le (sqrt binary64 (ofBits binary64 x)) (ofBits binary64 y)
+pub by-power : (x y : ℕ) → Normals x y → ((exponent x + 1021) / 2 ≡ exponent y - 1 → ⊥)
+    → ltb ((exponent x + 1021) / 2) (exponent y - 1) ≡ le (sqrt binary64 (ofBits binary64 x)) (ofBits binary64 y)
 by-power x y h ne =
     let b = bounds x (taken x) (taken-is x) in
     apart-test (rooted x) (digits y) ((exponent x + 1021) / 2) (exponent y - 1)
     (root-lo (taken x) (rooted x) (b .0) (rooted-is x)) (root-hi (taken x) (rooted x) (b .1) (rooted-is x)) (omega arith) (omega arith) ne
     ∙ sym (sizes x y h)
 
-pub by-digits : (x y : ℕ) → Normals x y → (exponent x + 1021) / 2 ≡ exponent y - 1 → leb (taken x) (greatest (digits y)) ≡ le (sqrt binary64 (ofBits binary64 x)) (ofBits binary64 y)
+pub by-digits : (x y : ℕ) → Normals x y → (exponent x + 1021) / 2 ≡ exponent y - 1
+    → leb (taken x) (greatest (digits y)) ≡ le (sqrt binary64 (ofBits binary64 x)) (ofBits binary64 y)
 by-digits x y h e =
     sym (within (taken x) (rooted x) (digits y) (rooted-is x))
     ∙ sym (same-power (rooted x) (digits y) ((exponent x + 1021) / 2))

@@ -1,23 +1,26 @@
--- What `sqrt` means, without its definition's steps: of all the values of the format, none is nearer to the root. For two values r and y the root is no nearer to y
--- where it is on r's side of the mean of the two, and that is said by squares: 4 * x against (r + y) * (r + y). All are in units of the smallest value, so x is n = a * 2 ^ 1074. Assumes nothing.
+-- LAWS. What `sqrt` means, without its definition's steps: of all the values of the format, none is nearer to the root. Assumes nothing.
+-- For two values r and y the root is no nearer to y where it is on r's side of the mean of the two, and that is said by squares:
+-- 4 * x against (r + y) * (r + y). All are in units of the smallest value, so x is n = a * 2 ^ 1074.
 use mathlib.Core.Path.{_≡_, refl, sym, ap, _∙_, subst}
 use mathlib.Core.Logic.{_⊎_, inl, inr, ⊎-elim}
 use Prim.Native.Nat.{ℕ, zero, suc, _+_, _-_, _*_, _/_, _%_, _^_, _≤_, _<_, Ordering, Ordering·lt, Ordering·eq, Ordering·gt, compare}
-use native.Mathlib.Nat.{le-refl, le-trans, le-of-eq, le-of-lt, lt-of-lt-of-le, lt-of-le-of-lt, lt-of-not-le, lt-irrefl, zero-mul, mul-one, mul-assoc, mul-right-comm, mul-pos, mul-le-mul, mul-le-mul-left, mul-le-mul-right, mul-lt-mul-of-pos-right, lt-of-mul-lt-mul-right, eq-of-mul-eq-mul-right, div-lt-iff-lt-mul, le-div-iff-mul-le, suc-mul, add-mul}
+use native.Mathlib.Nat.{le-trans, le-of-eq, le-of-lt, lt-of-lt-of-le, lt-of-le-of-lt, lt-of-not-le, lt-irrefl, zero-mul, mul-one, mul-assoc}
+use native.Mathlib.Nat.{mul-right-comm, mul-pos, mul-le-mul, mul-le-mul-right, mul-lt-mul-of-pos-right, lt-of-mul-lt-mul-right}
+use native.Mathlib.Nat.{eq-of-mul-eq-mul-right, div-lt-iff-lt-mul, le-div-iff-mul-le, suc-mul, add-mul}
 use native.Mathlib.Omega.{arith}
 use native.Mathlib.Decide.{decLe}
-use mathlib.Core.Bool.{Bool, true, false, _&&_}
+use mathlib.Core.Bool.{false, _&&_}
 use lib.Dec.{T, leb, ltb, eqb, ltb→lt, leb→le}
-use lib.IntN.{ℤ, pos, negsuc}
+use lib.IntN.{pos, negsuc}
 use lib.Pow.{pow-add, pow-pos, pow-mono}
-use lib.Ieee.{Float, nan, inf, fin, binary64, up, down, size, nearest, units, fits}
+use lib.Ieee.{Float, nan, inf, fin, binary64, up, down, size, nearest, fits}
 use lib.Ieee.Digits.{size-lt, size-le, size-reaches}
 use lib.Ieee.Fits.{down-pos, nearest-le, and-l, and-r}
 use lib.Ieee.Exact.{HasValue, units-val}
-use Rattle.root.specs.Root.{floorRoot, rootUnits, sqrt}
+use Rattle.root.specs.Root.{floorRoot, sqrt}
 use Rattle.root.proofs.Floor.{floor-root}
 use Rattle.root.proofs.Whole.{Cmp, cmp}
-use Rattle.root.proofs.Rounded.{cut, rootUnits-is, even-pow, pow-lt-back, square-of-product}
+use Rattle.root.proofs.Rounded.{rootUnits-is, even-pow, pow-lt-back, square-of-product}
 use Rattle.root.proofs.Values.{sqrt-of-value}
 use Rattle.root.proofs.Holds.{digits-lt, half, few}
 
@@ -37,7 +40,8 @@ gap q k m j o l = go (decLe k j)
     go : Dec (k ≤ j) → (m * 2 ^ j ≤ q * 2 ^ k) ⊎ (suc q * 2 ^ k ≤ m * 2 ^ j)
     go (yes h) =
         let t = m * 2 ^ (j - k) in
-        let e : t * 2 ^ k ≡ m * 2 ^ j = mul-assoc m (2 ^ (j - k)) (2 ^ k) ∙ ap (λ (x : ℕ). m * x) (sym (pow-add 2 (j - k) k) ∙ ap (λ (x : ℕ). 2 ^ x) (omega arith)) in
+        let e : t * 2 ^ k ≡ m * 2 ^ j = mul-assoc m (2 ^ (j - k)) (2 ^ k)
+        ∙ ap (λ (x : ℕ). m * x) (sym (pow-add 2 (j - k) k) ∙ ap (λ (x : ℕ). 2 ^ x) (omega arith)) in
         either t e (decLe t q)
       where
         either : (t : ℕ) → t * 2 ^ k ≡ m * 2 ^ j → Dec (t ≤ q) → (m * 2 ^ j ≤ q * 2 ^ k) ⊎ (suc q * 2 ^ k ≤ m * 2 ^ j)
@@ -49,7 +53,8 @@ gap q k m j o l = go (decLe k j)
         small (inl z) g = absurd (omega arith)
         small (inr b) g =
             le-trans (mul-le-mul-right (2 ^ j) (le-of-lt l))
-            (le-trans (le-of-eq (sym (pow-add 2 53 j))) (le-trans (pow-mono {i = 53 + j} {j = 52 + k} (omega arith)) (le-trans (le-of-eq (pow-add 2 52 k)) (mul-le-mul-right (2 ^ k) b))))
+            (le-trans (le-of-eq (sym (pow-add 2 53 j)))
+            (le-trans (pow-mono {i = 53 + j} {j = 52 + k} (omega arith)) (le-trans (le-of-eq (pow-add 2 52 k)) (mul-le-mul-right (2 ^ k) b))))
 
 -- ---- the two candidates, and which is nearer
 
@@ -68,7 +73,8 @@ module _ (n q k m j : ℕ) (lo : q * 2 ^ k * (q * 2 ^ k) ≤ n) (hi : n < suc q 
       let a = q * 2 ^ k in
       let y = m * 2 ^ j in
       record {
-        above = λ (g : a < y). ⊎-elim (λ (s : y ≤ a). absurd (omega arith)) (λ (s : suc q * 2 ^ k ≤ y). le-trans h (square-mono (suc (2 * q) * 2 ^ k) (a + y) (omega (arith, twice q (2 ^ k))))) (gap q k m j o l);
+        above = λ (g : a < y). ⊎-elim (λ (s : y ≤ a). absurd (omega arith))
+            (λ (s : suc q * 2 ^ k ≤ y). le-trans h (square-mono (suc (2 * q) * 2 ^ k) (a + y) (omega (arith, twice q (2 ^ k))))) (gap q k m j o l);
         below = λ (g : y < a). le-trans (square-mono (a + y) (a + a) (omega arith)) (omega (arith, square-of-double a));
       }
 
@@ -78,7 +84,8 @@ module _ (n q k m j : ℕ) (lo : q * 2 ^ k * (q * 2 ^ k) ≤ n) (hi : n < suc q 
       let y = m * 2 ^ j in
       record {
         above = λ (g : a < y). le-trans (omega (arith, square-of-double a)) (square-mono (a + a) (a + y) (omega arith));
-        below = λ (g : y < a). ⊎-elim (λ (s : y ≤ q * 2 ^ k). le-trans (square-mono (a + y) (suc (2 * q) * 2 ^ k) (omega (arith, twice q (2 ^ k)))) h) (λ (s : a ≤ y). absurd (omega arith)) (gap q k m j o l);
+        below = λ (g : y < a). ⊎-elim (λ (s : y ≤ q * 2 ^ k). le-trans (square-mono (a + y) (suc (2 * q) * 2 ^ k) (omega (arith, twice q (2 ^ k)))) h)
+            (λ (s : a ≤ y). absurd (omega arith)) (gap q k m j o l);
       }
 
   either : (c : Ordering) → Cmp c (4 * n) (suc (2 * q) * 2 ^ k * (suc (2 * q) * 2 ^ k)) → Closer n (nearest q c * 2 ^ k) (m * 2 ^ j)
@@ -95,7 +102,8 @@ module _ (n q k m j : ℕ) (lo : q * 2 ^ k * (q * 2 ^ k) ≤ n) (hi : n < suc q 
 
 leading : (n k q : ℕ) → suc (size n) / 2 - 53 ≡ k → n < suc q * suc q * (2 ^ k * 2 ^ k) → (k ≡ 0) ⊎ (2 ^ 52 ≤ q)
 leading n zero q e h = inl refl
-leading n (suc i) q e h = inr (le-of-not (λ (g : suc q ≤ 2 ^ 52). lt-irrefl n (lt-of-lt-of-le h (le-trans (mul-le-mul-right (2 ^ suc i * 2 ^ suc i) (square-mono (suc q) (2 ^ 52) g)) reached))))
+leading n (suc i) q e h = inr (le-of-not (λ (g : suc q ≤ 2 ^ 52). lt-irrefl n
+    (lt-of-lt-of-le h (le-trans (mul-le-mul-right (2 ^ suc i * 2 ^ suc i) (square-mono (suc q) (2 ^ 52) g)) reached))))
   where
     le-of-not : (suc q ≤ 2 ^ 52 → ⊥) → 2 ^ 52 ≤ q
     le-of-not f = omega (arith, lt-of-not-le f)
@@ -109,12 +117,14 @@ size-bound : (x : Float) (a : ℕ) → T (fits binary64 x) → 0 < a → HasValu
 unfolding fits
 size-bound nan a h p v = absurd v
 size-bound (inf s) a h p v = absurd v
-size-bound (fin t zero e) a h p v = absurd (lt-irrefl 0 (subst (λ (y : ℕ). 0 < y) (sym (v .1) ∙ ap (λ (y : ℕ). y * 2 ^ 1074) (zero-mul (up e)) ∙ zero-mul (2 ^ 1074)) (mul-pos p (down-pos e))))
+size-bound (fin t zero e) a h p v = absurd (lt-irrefl 0
+    (subst (λ (y : ℕ). 0 < y) (sym (v .1) ∙ ap (λ (y : ℕ). y * 2 ^ 1074) (zero-mul (up e)) ∙ zero-mul (2 ^ 1074)) (mul-pos p (down-pos e))))
 size-bound (fin t (suc m) e) a h p v =
     lt-of-mul-lt-mul-right (down e)
     (lt-of-le-of-lt (le-of-eq (sym (v .1)))
     (lt-of-lt-of-le
-    (mul-lt-mul-of-pos-right (ltb→lt (suc m * up e) (2 ^ 1024 * down e) (and-r (eqb (suc m % 2) 1 && ltb (suc m) (2 ^ 53) && leb (down e) (2 ^ 1074)) (ltb (suc m * up e) (2 ^ 1024 * down e)) h)) (pow-pos 1074))
+    (mul-lt-mul-of-pos-right (ltb→lt (suc m * up e) (2 ^ 1024 * down e)
+    (and-r (eqb (suc m % 2) 1 && ltb (suc m) (2 ^ 53) && leb (down e) (2 ^ 1074)) (ltb (suc m * up e) (2 ^ 1024 * down e)) h)) (pow-pos 1074))
     (le-of-eq (mul-right-comm (2 ^ 1024) (down e) (2 ^ 1074)))))
 
 Places : ℕ → Type 0
@@ -124,8 +134,13 @@ place : (y : Float) (b : ℕ) → T (fits binary64 y) → HasValue y false b (2 
 unfolding fits Places
 place nan b h v = absurd v
 place (inf s) b h v = absurd v
-place (fin t zero e) b h v =
-    (0, 0, omega arith, eq-of-mul-eq-mul-right (down e) (down-pos e) b 0 (sym (v .1) ∙ ap (λ (y : ℕ). y * 2 ^ 1074) (zero-mul (up e)) ∙ zero-mul (2 ^ 1074) ∙ sym (zero-mul (down e))))
+place (fin t zero e) b h v = (
+  0,
+  0,
+  omega arith,
+  eq-of-mul-eq-mul-right (down e) (down-pos e) b 0
+      (sym (v .1) ∙ ap (λ (y : ℕ). y * 2 ^ 1074) (zero-mul (up e)) ∙ zero-mul (2 ^ 1074) ∙ sym (zero-mul (down e))),
+)
 place (fin t (suc m) (pos i)) b h v =
     let A = eqb (suc m % 2) 1 in
     let B = ltb (suc m) (2 ^ 53) in
@@ -141,20 +156,23 @@ place (fin t (suc m) (negsuc i)) b h v =
     let B = ltb (suc m) (2 ^ 53) in
     let C = leb (2 ^ suc i) (2 ^ 1074) in
     let D = ltb (suc m * 1) (2 ^ 1024 * 2 ^ suc i) in
-    let few : suc i < 1075 = pow-lt-back (suc i) 1075 (lt-of-le-of-lt (leb→le (2 ^ suc i) (2 ^ 1074) (and-r (A && B) C (and-l (A && B && C) D h))) (lib.Dec.lit< tt)) in
+    let few : suc i < 1075 = pow-lt-back (suc i) 1075
+    (lt-of-le-of-lt (leb→le (2 ^ suc i) (2 ^ 1074) (and-r (A && B) C (and-l (A && B && C) D h))) (lib.Dec.lit< tt)) in
     let back : 1074 - suc i + suc i ≡ 1074 = omega arith in (
       suc m,
       1074 - suc i,
       ltb→lt (suc m) (2 ^ 53) (and-r A B (and-l (A && B) C (and-l (A && B && C) D h))),
       eq-of-mul-eq-mul-right (2 ^ suc i) (pow-pos (suc i)) b (suc m * 2 ^ (1074 - suc i))
           (sym (v .1) ∙ ap (λ (y : ℕ). y * 2 ^ 1074) (mul-one (suc m))
-          ∙ sym (mul-assoc (suc m) (2 ^ (1074 - suc i)) (2 ^ suc i) ∙ ap (λ (y : ℕ). suc m * y) (sym (pow-add 2 (1074 - suc i) (suc i)) ∙ ap (λ (y : ℕ). 2 ^ y) back))),
+          ∙ sym (mul-assoc (suc m) (2 ^ (1074 - suc i)) (2 ^ suc i)
+          ∙ ap (λ (y : ℕ). suc m * y) (sym (pow-add 2 (1074 - suc i) (suc i)) ∙ ap (λ (y : ℕ). 2 ^ y) back))),
     )
 
 -- ---- no value of the format is nearer to the root of x than `sqrt` of it
 
 pub sqrt-is-closest : (x : Float) (a : ℕ) → T (fits binary64 x) → 0 < a → HasValue x false a (2 ^ 1074)
-    → (r : ℕ) × HasValue (sqrt binary64 x) false r (2 ^ 1074) × ((y : Float) (b : ℕ) → T (fits binary64 y) → HasValue y false b (2 ^ 1074) → Closer (a * 2 ^ 1074) r b)
+    → (r : ℕ) × HasValue (sqrt binary64 x) false r (2 ^ 1074)
+    × ((y : Float) (b : ℕ) → T (fits binary64 y) → HasValue y false b (2 ^ 1074) → Closer (a * 2 ^ 1074) r b)
 unfolding Places
 sqrt-is-closest x a f p v =
     let n = a * 2 ^ 1074 in
@@ -166,7 +184,8 @@ sqrt-is-closest x a f p v =
     let c = compare (4 * n) (h * h) in
     let n-lt : n < 2 ^ 3172 = mul-lt-mul-of-pos-right (size-bound x a f p v) (pow-pos 1074) in
     let k-le : k ≤ 2000 = few (size n) (size-le n 3172 n-lt) in
-    let small : n / K < 2 ^ 106 = div-lt-iff-lt-mul Kp .1 (subst (λ (y : ℕ). n < y) (even-pow 106 k) (lt-of-lt-of-le (size-lt n) (pow-mono (half (size n) k refl)))) in
+    let small : n / K < 2 ^ 106 = div-lt-iff-lt-mul Kp .1
+    (subst (λ (y : ℕ). n < y) (even-pow 106 k) (lt-of-lt-of-le (size-lt n) (pow-mono (half (size n) k refl)))) in
     let fl = floor-root 53 (n / K) small in
     let lo : q * 2 ^ k * (q * 2 ^ k) ≤ n = le-trans (le-of-eq (square-of-product q (2 ^ k))) (le-div-iff-mul-le Kp .0 (fl .0)) in
     let next : n < suc q * suc q * K = div-lt-iff-lt-mul Kp .0 (fl .1) in
@@ -175,8 +194,10 @@ sqrt-is-closest x a f p v =
     let fine : nearest q c * 2 ^ k < 2 ^ 2098 =
     lt-of-le-of-lt (le-trans (mul-le-mul-right (2 ^ k) r-le) (le-of-eq (sym (pow-add 2 53 k)))) (lib.Pow.pow-lt {i = 53 + k} {j = 2098} (omega arith)) in (
       nearest q c * 2 ^ k,
-      subst (λ (y : Float). HasValue y false (nearest q c * 2 ^ k) (2 ^ 1074)) (sym (sqrt-of-value x a p v ∙ rootUnits-is n)) (units-val binary64 false (nearest q c) k fine),
+      subst (λ (y : Float). HasValue y false (nearest q c * 2 ^ k) (2 ^ 1074)) (sym (sqrt-of-value x a p v ∙ rootUnits-is n))
+          (units-val binary64 false (nearest q c) k fine),
       λ y b g w.
           let pl = place y b g w in
-          subst (λ (z : ℕ). Closer n (nearest q c * 2 ^ k) z) (sym (pl .3)) (either n q k (pl .0) (pl .1) lo hi (leading n k q refl next) (pl .2) c (cmp (4 * n) (h * h))),
+          subst (λ (z : ℕ). Closer n (nearest q c * 2 ^ k) z) (sym (pl .3))
+          (either n q k (pl .0) (pl .1) lo hi (leading n k q refl next) (pl .2) c (cmp (4 * n) (h * h))),
     )

@@ -1,15 +1,16 @@
--- The format holds the root of each value that it holds. Assumes nothing.
-use mathlib.Core.Path.{_≡_, refl, sym, ap, _∙_, subst}
-use Prim.Native.Nat.{ℕ, zero, suc, _+_, _-_, _*_, _/_, _%_, _^_, _≤_, _<_, Ordering, compare}
-use native.Mathlib.Nat.{le-trans, le-of-eq, le-of-lt, lt-of-lt-of-le, lt-of-le-of-lt, lt-of-not-le, lt-irrefl, mul-pos, mul-assoc, mul-comm, mul-right-comm, mul-le-mul-right, mul-le-mul-left, mul-lt-mul-of-pos-right, div-lt-iff-lt-mul}
+-- LAWS. The format holds the root of each value that it holds. Assumes nothing.
+use mathlib.Core.Path.{_≡_, refl, sym, subst}
+use Prim.Native.Nat.{ℕ, zero, suc, _+_, _-_, _*_, _/_, _%_, _^_, _≤_, _<_, compare}
+use native.Mathlib.Nat.{le-trans, le-of-eq, lt-of-lt-of-le, lt-of-le-of-lt, lt-of-not-le, lt-irrefl, mul-pos, mul-right-comm}
+use native.Mathlib.Nat.{mul-le-mul-right, mul-le-mul-left, mul-lt-mul-of-pos-right, div-lt-iff-lt-mul}
 use native.Mathlib.Omega.{arith}
-use mathlib.Core.Bool.{Bool, true, false, cond, _&&_}
+use mathlib.Core.Bool.{true, false, _&&_}
 use lib.Dec.{T, leb, ltb, eqb, ltb→lt}
 use lib.Pow.{pow-add, pow-pos, pow-mono}
 use lib.IntN.{ℤ}
 use lib.Ieee.{Float, nan, inf, fin, binary64, up, down, size, nearest, units, odd, fits}
 use lib.Ieee.Digits.{size-lt, size-le}
-use lib.Ieee.Fits.{down-pos, nearest-le, odd-fits, cond-fits, nan-fits, inf-fits, and-r}
+use lib.Ieee.Fits.{down-pos, nearest-le, odd-fits, cond-fits, inf-fits, and-r}
 use Rattle.root.specs.Root.{floorRoot, rootUnits, sqrt}
 use Rattle.root.proofs.Floor.{floor-root}
 use Rattle.root.proofs.Rounded.{cut, rootUnits-is, even-pow}
@@ -17,14 +18,17 @@ use Rattle.root.proofs.Rounded.{cut, rootUnits-is, even-pow}
 units-fits : (r k : ℕ) → r ≤ 2 ^ 53 → k ≤ 2000 → T (fits binary64 (units binary64 false r k))
 unfolding units
 units-fits r k h l =
-    let fine : r * 2 ^ k < 2 ^ 2098 = lt-of-le-of-lt (le-trans (mul-le-mul-right (2 ^ k) h) (le-of-eq (sym (pow-add 2 53 k)))) (lt-of-lt-of-le (pow-up (53 + k)) (pow-mono {i = suc (53 + k)} {j = 2098} (omega arith))) in
-    cond-fits binary64 (ltb (r * 2 ^ k) (2 ^ 2098)) (odd 54 false r k 1074) (inf false) (odd-fits binary64 54 false r k (omega arith) h fine) (inf-fits binary64 false)
+    let fine : r * 2 ^ k < 2 ^ 2098 = lt-of-le-of-lt (le-trans (mul-le-mul-right (2 ^ k) h) (le-of-eq (sym (pow-add 2 53 k))))
+    (lt-of-lt-of-le (pow-up (53 + k)) (pow-mono {i = suc (53 + k)} {j = 2098} (omega arith))) in
+    cond-fits binary64 (ltb (r * 2 ^ k) (2 ^ 2098)) (odd 54 false r k 1074) (inf false) (odd-fits binary64 54 false r k (omega arith) h fine)
+    (inf-fits binary64 false)
   where
     pow-up : (i : ℕ) → 2 ^ i < 2 ^ suc i
     pow-up i = lib.Pow.pow-lt (native.Mathlib.Nat.lt-suc-self i)
 
 pub digits-lt : (q n : ℕ) → q * q ≤ n → n < 2 ^ 106 → q < 2 ^ 53
-digits-lt q n a b = lt-of-not-le (λ (h : 2 ^ 53 ≤ q). lt-irrefl (2 ^ 106) (lt-of-le-of-lt (le-trans (mul-le-mul-left (2 ^ 53) h) (mul-le-mul-right q h)) (lt-of-le-of-lt a b)))
+digits-lt q n a b = lt-of-not-le (λ (h : 2 ^ 53 ≤ q). lt-irrefl (2 ^ 106)
+    (lt-of-le-of-lt (le-trans (mul-le-mul-left (2 ^ 53) h) (mul-le-mul-right q h)) (lt-of-le-of-lt a b)))
 
 cut-fits : (n k : ℕ) → n < 2 ^ (106 + (k + k)) → k ≤ 2000 → T (fits binary64 (cut n k))
 cut-fits n k h l =
@@ -62,4 +66,5 @@ sqrt-fits (fin s (suc m) e) h =
     cond-fits binary64 s nan (rootUnits binary64 (suc m * up e * 2 ^ 1074 / down e * 2 ^ 1074)) tt
     (root-fits (suc m * up e * 2 ^ 1074 / down e * 2 ^ 1074)
     (bounded (suc m * up e) e
-    (ltb→lt (suc m * up e) (2 ^ 1024 * down e) (and-r (eqb (suc m % 2) 1 && ltb (suc m) (2 ^ 53) && leb (down e) (2 ^ 1074)) (ltb (suc m * up e) (2 ^ 1024 * down e)) h))))
+    (ltb→lt (suc m * up e) (2 ^ 1024 * down e) (and-r (eqb (suc m % 2) 1 && ltb (suc m) (2 ^ 53) && leb (down e) (2 ^ 1074))
+    (ltb (suc m * up e) (2 ^ 1024 * down e)) h))))

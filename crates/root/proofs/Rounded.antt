@@ -1,7 +1,10 @@
--- `rootUnits` at a number n that is M * 2 ^ 52 times an even power of two, for an M of 53 or 54 digits: it is R * 2 ^ k, for the whole number R nearest to the root of M * 2 ^ 52. Assumes nothing.
+-- LAWS. `rootUnits` at M * 2 ^ 52 times an even power of two, for an M of 53 or 54 digits. Assumes nothing.
+-- It is R * 2 ^ k, for the whole number R nearest to the root of M * 2 ^ 52.
 use mathlib.Core.Path.{_≡_, refl, sym, ap, _∙_, subst}
-use Prim.Native.Nat.{ℕ, zero, suc, _+_, _-_, _*_, _/_, _%_, _^_, _≤_, _<_, Ordering, Ordering·lt, Ordering·eq, Ordering·gt, compare}
-use native.Mathlib.Nat.{le-refl, le-trans, le-of-eq, lt-of-lt-of-le, lt-of-le-of-lt, lt-of-not-le, lt-irrefl, mul-pos, mul-assoc, mul-comm, mul-left-comm, mul-le-mul-right, mul-lt-mul-of-pos-right, mul-div-cancel, lt-of-mul-lt-mul-right, eq-of-mul-eq-mul-right}
+use Prim.Native.Nat.{ℕ, suc, _+_, _-_, _*_, _/_, _^_, _≤_, _<_, Ordering, Ordering·lt, Ordering·eq, Ordering·gt, compare}
+use native.Mathlib.Nat.{le-trans, le-of-eq, lt-of-lt-of-le, lt-of-le-of-lt, lt-of-not-le, lt-irrefl, mul-pos, mul-assoc, mul-comm}
+use native.Mathlib.Nat.{mul-left-comm, mul-le-mul-right, mul-lt-mul-of-pos-right, mul-div-cancel, lt-of-mul-lt-mul-right}
+use native.Mathlib.Nat.{eq-of-mul-eq-mul-right}
 use native.Mathlib.Omega.{arith}
 use mathlib.Core.Bool.{false}
 use lib.Pow.{pow-add, pow-pos, pow-mono}
@@ -63,8 +66,10 @@ root-units M k R lo hi near =
     subst (λ (x : ℕ). Cmp (compare (4 * n) (h * h)) (4 * N * K) x) (square-of-product (suc (2 * q)) (2 ^ k))
     (subst (λ (x : ℕ). Cmp (compare (4 * n) (h * h)) x (h * h)) (sym (mul-assoc 4 N K)) (cmp (4 * n) (h * h))) in
     let is : Nearest M (nearest q (compare (4 * n) (h * h))) =
-    nearest-is M q (compare (4 * n) (h * h)) (omega arith) (fl .0) (fl .1) (smaller (compare (4 * n) (h * h)) (4 * N) (suc (2 * q) * suc (2 * q)) K (mul-pos (pow-pos k) (pow-pos k)) c) in
+    let order = compare (4 * n) (h * h) in
+    nearest-is M q order (omega arith) (fl .0) (fl .1) (smaller order (4 * N) (suc (2 * q) * suc (2 * q)) K (mul-pos (pow-pos k) (pow-pos k)) c) in
     rootUnits-is n
     ∙ ap (λ (j : ℕ). cut n j) (dropped N k (omega arith) N-lt)
-    ∙ ap (λ (x : ℕ). units binary64 false (nearest (floorRoot 53 x) (compare (4 * n) (suc (2 * floorRoot 53 x) * 2 ^ k * (suc (2 * floorRoot 53 x) * 2 ^ k)))) k) (mul-div-cancel N (mul-pos (pow-pos k) (pow-pos k)))
+    ∙ ap (λ (x : ℕ). units binary64 false (nearest (floorRoot 53 x)
+    (compare (4 * n) (suc (2 * floorRoot 53 x) * 2 ^ k * (suc (2 * floorRoot 53 x) * 2 ^ k)))) k) (mul-div-cancel N (mul-pos (pow-pos k) (pow-pos k)))
     ∙ ap (λ (r : ℕ). units binary64 false r k) (nearest-one M (nearest q (compare (4 * n) (h * h))) R is near)

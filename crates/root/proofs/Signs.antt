@@ -1,12 +1,12 @@
--- Which values have a root: those that are 0 or more. Assumes nothing.
+-- LAWS. Which values have a root: those that are 0 or more. Assumes nothing.
 use mathlib.Core.Path.{_≡_, refl, sym, ap, _∙_, subst}
-use Prim.Native.Nat.{ℕ, zero, suc, _+_, _-_, _*_, _/_, _%_, _^_, _≤_, _<_}
+use Prim.Native.Nat.{ℕ, zero, suc, _+_, _-_, _*_, _/_, _^_, _<_}
 use native.Mathlib.Nat.{lt-irrefl, zero-mul, mul-one, mul-pos, zero-lt-suc}
-use mathlib.Core.Bool.{Bool, true, false, not, _||_, _&&_, Bool·beq, cond}
+use mathlib.Core.Bool.{Bool, true, false, not, _||_, _&&_, cond}
 use lib.Dec.{T, ltb, eqb, eqb→eq, lt→ltb}
 use lib.IntN.{ℤ}
 use lib.Ieee.{Float, nan, inf, fin, Format, binary64, up, down, below, level, lt, eq, le, isNan, ofBits, odd, units, div, low, prec, emax}
-use lib.Ieee.Fits.{down-pos, up-pos, and-l}
+use lib.Ieee.Fits.{up-pos, and-l}
 use lib.Ieee.Bits.{is-true}
 use Rattle.root.specs.Root.{rootUnits, sqrt}
 

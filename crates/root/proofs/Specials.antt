@@ -1,13 +1,13 @@
--- Where there is nothing to compute: the zeros, the infinity above, and what has no root. Assumes nothing.
+-- LAWS. Where there is nothing to compute: the zeros, the infinity above, and what has no root. Assumes nothing.
 use mathlib.Core.Path.{_≡_, refl, sym, ap, _∙_, subst}
 use Prim.Native.Nat.{ℕ, zero, suc, _+_, _-_, _*_, _/_, _%_, _^_, _≤_, _<_}
-use native.Mathlib.Nat.{lt-irrefl, zero-mul, mul-pos, mod-eq-of-lt, zero-lt-suc}
+use native.Mathlib.Nat.{lt-irrefl, zero-mul, mul-pos}
 use native.Mathlib.Omega.{arith}
 use native.Mathlib.Decide.{decLt}
-use mathlib.Core.Bool.{Bool, true, false, not, cond}
-use lib.Dec.{T, leb, eqb, eqb→eq, not-T, le→leb}
+use mathlib.Core.Bool.{Bool, true, false, cond}
+use lib.Dec.{leb, eqb, eqb→eq, not-T, le→leb}
 use lib.Pow.{pow-pos}
-use lib.Ieee.{Float, nan, inf, fin, binary64, up, down, odd, ofFields, ofBits, toBits}
+use lib.Ieee.{Float, nan, inf, fin, binary64, up, odd, ofFields, ofBits, toBits}
 use lib.Ieee.Fits.{down-pos}
 use lib.Ieee.Bits.{is-true, is-false}
 use lib.Ieee.Exact.{HasValue, odd-sign}
@@ -31,7 +31,8 @@ below : (x : Float) (a : ℕ) → 0 < a → HasValue x true a (2 ^ 1074) → sqr
 unfolding sqrt
 below nan a p v = refl
 below (inf s) a p v = absurd v
-below (fin t zero e) a p v = absurd (lt-irrefl 0 (subst (λ (y : ℕ). 0 < y) (sym (v .1) ∙ ap (λ (y : ℕ). y * 2 ^ 1074) (zero-mul (up e)) ∙ zero-mul (2 ^ 1074)) (mul-pos p (down-pos e))))
+below (fin t zero e) a p v = absurd (lt-irrefl 0 (subst (λ (y : ℕ). 0 < y)
+    (sym (v .1) ∙ ap (λ (y : ℕ). y * 2 ^ 1074) (zero-mul (up e)) ∙ zero-mul (2 ^ 1074)) (mul-pos p (down-pos e))))
 below (fin t (suc m) e) a p v = rw (v .0)
 
 -- the fields of a number below 0, of the infinity below, and of a NaN with a sign
@@ -72,5 +73,6 @@ nan-bits : 0x7ff8_0000_0000_0000 ≡ toBits binary64 nan
 unfolding toBits
 nan-bits = refl
 
-pub of-no-root : (b : ℕ) → b < 2 ^ 64 → 0x7ff0_0000_0000_0000 < b → (b ≡ 0x8000_0000_0000_0000 → ⊥) → 0x7ff8_0000_0000_0000 ≡ toBits binary64 (sqrt binary64 (ofBits binary64 b))
+pub of-no-root : (b : ℕ) → b < 2 ^ 64 → 0x7ff0_0000_0000_0000 < b → (b ≡ 0x8000_0000_0000_0000 → ⊥)
+    → 0x7ff8_0000_0000_0000 ≡ toBits binary64 (sqrt binary64 (ofBits binary64 b))
 of-no-root b w l m = nan-bits ∙ ap (toBits binary64) (sym (no-root b w l m))

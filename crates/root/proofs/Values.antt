@@ -1,9 +1,10 @@
--- The root of a number above 0 by its size in units of the smallest value: the bits of `sqrt`'s result, and what a pattern's size is. Assumes nothing.
-use mathlib.Core.Path.{_≡_, refl, sym, ap, _∙_, subst}
+-- LAWS. The root of a number above 0 by its size in units of the smallest value: the bits of `sqrt`'s result, and what a pattern's size is. Assumes nothing.
+use mathlib.Core.Path.{_≡_, sym, ap, _∙_, subst}
 use Prim.Native.Nat.{ℕ, zero, suc, _+_, _-_, _*_, _/_, _%_, _^_, _≤_, _<_}
-use native.Mathlib.Nat.{le-refl, le-trans, le-of-eq, le-of-lt, lt-of-lt-of-le, lt-of-le-of-lt, lt-of-not-le, lt-irrefl, lt-of-mul-lt-mul-right, zero-mul, zero-add, mul-one, mul-assoc, mul-pos, mul-le-mul-right, mul-div-cancel, mod-eq-of-lt}
+use native.Mathlib.Nat.{le-trans, le-of-eq, lt-of-lt-of-le, lt-of-le-of-lt, lt-of-not-le, lt-irrefl, lt-of-mul-lt-mul-right, zero-mul}
+use native.Mathlib.Nat.{zero-add, mul-one, mul-assoc, mul-pos, mul-le-mul-right, mul-div-cancel, mod-eq-of-lt}
 use native.Mathlib.Omega.{arith}
-use mathlib.Core.Bool.{Bool, true, false, not, cond}
+use mathlib.Core.Bool.{Bool, false, not, cond}
 use lib.Dec.{T, leb, eqb, eqb→eq, not-T}
 use lib.Arith.{lt→nleb}
 use lib.Pow.{pow-add, pow-pos, pow-mono, shl-lt}
@@ -21,7 +22,8 @@ pub sqrt-of-value : (x : Float) (a : ℕ) → 0 < a → HasValue x false a (2 ^ 
 unfolding sqrt
 sqrt-of-value nan a p v = absurd v
 sqrt-of-value (inf s) a p v = absurd v
-sqrt-of-value (fin t zero e) a p v = absurd (lt-irrefl 0 (subst (λ (y : ℕ). 0 < y) (sym (v .1) ∙ ap (λ (y : ℕ). y * 2 ^ 1074) (zero-mul (up e)) ∙ zero-mul (2 ^ 1074)) (mul-pos p (down-pos e))))
+sqrt-of-value (fin t zero e) a p v = absurd (lt-irrefl 0
+    (subst (λ (y : ℕ). 0 < y) (sym (v .1) ∙ ap (λ (y : ℕ). y * 2 ^ 1074) (zero-mul (up e)) ∙ zero-mul (2 ^ 1074)) (mul-pos p (down-pos e))))
 sqrt-of-value (fin t (suc m) e) a p v =
     ap (λ (s : Bool). cond s nan (rootUnits binary64 (suc m * up e * 2 ^ 1074 / down e * 2 ^ 1074))) (v .0)
     ∙ ap (λ (y : ℕ). rootUnits binary64 (y / down e * 2 ^ 1074)) (v .1)
@@ -81,7 +83,8 @@ root-hi M R hi n = lt-of-not-le (λ (h : 2 ^ 53 ≤ R). no (big (n .below) (mul-
 
 -- ---- together: the bits of the root of a number of a units, where a * 2 ^ 1074 is M * 2 ^ 52 times an even power of two
 
-pub root-pattern : (x : Float) (a M k R : ℕ) → HasValue x false a (2 ^ 1074) → 0 < a → a * 2 ^ 1074 ≡ M * 2 ^ 52 * (2 ^ k * 2 ^ k) → 2 ^ 52 ≤ M → M + 2 ≤ 2 ^ 54 → k ≤ 2000 → Nearest M R
+pub root-pattern : (x : Float) (a M k R : ℕ) → HasValue x false a (2 ^ 1074) → 0 < a → a * 2 ^ 1074 ≡ M * 2 ^ 52 * (2 ^ k * 2 ^ k) → 2 ^ 52 ≤ M
+    → M + 2 ≤ 2 ^ 54 → k ≤ 2000 → Nearest M R
     → k * 2 ^ 52 + R ≡ toBits binary64 (sqrt binary64 x)
 root-pattern x a M k R v p e lo hi l n =
     let M-lt : M < 2 ^ 54 = omega arith in
@@ -114,14 +117,16 @@ pub low-value : (b : ℕ) → b < 2 ^ 52 → HasValue (ofBits binary64 b) false 
 low-value b h =
     let z : b / 2 ^ 52 ≡ 0 = omega arith in
     let r : b % 2 ^ 52 ≡ b = omega arith in
-    subst (λ (y : Float). HasValue y false b (2 ^ 1074)) (sym (fields b (omega arith) ∙ ap (λ (y : ℕ). ofFields binary64 false y (b % 2 ^ 52)) z ∙ ap (λ (y : ℕ). ofFields binary64 false 0 y) r))
+    subst (λ (y : Float). HasValue y false b (2 ^ 1074))
+    (sym (fields b (omega arith) ∙ ap (λ (y : ℕ). ofFields binary64 false y (b % 2 ^ 52)) z ∙ ap (λ (y : ℕ). ofFields binary64 false 0 y) r))
     (subst (λ (y : ℕ). HasValue (ofFields binary64 false 0 b) false y (2 ^ 1074)) (mul-one b) (at-low b))
 
 pub normal-value : (b : ℕ) → 2 ^ 52 ≤ b → b < 2047 * 2 ^ 52 → HasValue (ofBits binary64 b) false ((2 ^ 52 + b % 2 ^ 52) * 2 ^ (b / 2 ^ 52 - 1)) (2 ^ 1074)
 normal-value b lo hi =
     let x = b / 2 ^ 52 - 1 in
     let z : b / 2 ^ 52 ≡ suc x = omega arith in
-    subst (λ (y : Float). HasValue y false ((2 ^ 52 + b % 2 ^ 52) * 2 ^ x) (2 ^ 1074)) (sym (fields b (omega arith) ∙ ap (λ (y : ℕ). ofFields binary64 false y (b % 2 ^ 52)) z))
+    subst (λ (y : Float). HasValue y false ((2 ^ 52 + b % 2 ^ 52) * 2 ^ x) (2 ^ 1074))
+    (sym (fields b (omega arith) ∙ ap (λ (y : ℕ). ofFields binary64 false y (b % 2 ^ 52)) z))
     (at-normal x (b % 2 ^ 52) (omega arith))
 
 -- F * 2 ^ i smallest values, times 2 ^ 1074, with the powers of two gathered

@@ -1,8 +1,7 @@
--- There is one whole number nearest to a root. Assumes nothing.
-use mathlib.Core.Path.{_≡_, refl, sym, ap, _∙_, subst}
-use mathlib.Core.Logic.{_⊎_, inl, inr}
-use Prim.Native.Nat.{ℕ, zero, suc, _+_, _*_, _/_, _%_, _^_, _≤_, _<_, Ordering, Ordering·lt, Ordering·eq, Ordering·gt, compare}
-use native.Mathlib.Nat.{mul-add, add-mul, suc-mul, mul-suc, mul-le-mul-left, mul-le-mul-right, le-trans}
+-- LAWS. There is one whole number nearest to a root. Assumes nothing.
+use mathlib.Core.Path.{_≡_, subst}
+use Prim.Native.Nat.{ℕ, zero, suc, _+_, _*_, _^_, _≤_, _<_, Ordering, Ordering·lt, Ordering·eq, Ordering·gt, compare}
+use native.Mathlib.Nat.{suc-mul, mul-suc, mul-le-mul-left, mul-le-mul-right}
 use native.Mathlib.Omega.{arith}
 use native.Mathlib.Decide.{decLe}
 use mathlib.Core.Bool.{not}
@@ -38,7 +37,8 @@ square-of-half q = omega (arith, square-of-suc (2 * q), twice q)
     twice q = simp (native.Mathlib.Nat.mul-assoc, native.Mathlib.Nat.mul-comm, native.Mathlib.Nat.mul-left-comm) (quad (q * q))
 
 -- the whole part of a root, moved up where the root is above half way, is the nearest
-pub nearest-is : (M q : ℕ) (o : Ordering) → 0 < M → q * q ≤ M * 2 ^ 52 → M * 2 ^ 52 < suc q * suc q → Cmp o (4 * (M * 2 ^ 52)) (suc (2 * q) * suc (2 * q)) → Nearest M (nearest q o)
+pub nearest-is : (M q : ℕ) (o : Ordering) → 0 < M → q * q ≤ M * 2 ^ 52 → M * 2 ^ 52 < suc q * suc q → Cmp o (4 * (M * 2 ^ 52)) (suc (2 * q) * suc (2 * q))
+    → Nearest M (nearest q o)
 nearest-is M zero Ordering·lt p a b c = record { above = omega arith; below = omega arith }
 nearest-is M (suc q) Ordering·lt p a b c = record { above = omega (arith, square-of-half (suc q)); below = omega arith }
 nearest-is M q Ordering·eq p a b c = absurd (omega (arith, square-of-half q))

@@ -1,4 +1,4 @@
--- The binary digits of a pattern as its root takes them, and the bound of a root's digits. Assumes nothing.
+-- DEFINITIONS. The binary digits of a pattern as its root takes them, and the bound of a root's digits. Assumes nothing.
 use Prim.Native.Nat.{ℕ, _+_, _*_, _/_, _%_, _^_}
 use mathlib.Core.Bool.{Bool, cond, _&&_}
 use lib.Dec.{eqb, leb, ltb}

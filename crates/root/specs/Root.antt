@@ -1,11 +1,12 @@
--- Document 01, "Own arithmetic", "Square root: nearest, ties to even, stated by squares of whole numbers". The square root of IEEE 754 (2019, 5.4.1 and 5.5.1), over the values of `lib.Ieee`: the root's exact value, rounded to the format's nearest, ties to the even one.
--- There are no real numbers here, so a root is compared by squares of whole numbers. Definitions only.
+-- DEFINITIONS. The square root of IEEE 754 over `lib.Ieee`: the exact root to the format's nearest value, ties to the even one. Assumes nothing.
+-- There are no real numbers here: a root is compared by squares of whole numbers.
 use Prim.Native.Nat.{ℕ, zero, suc, _+_, _-_, _*_, _/_, _^_, _≤_, _<_, compare}
-use mathlib.Core.Bool.{Bool, true, false, cond}
+use mathlib.Core.Bool.{false, cond}
 use lib.Dec.{leb}
 use lib.Ieee.{Float, binary64, nan, inf, fin, Format, prec, low, up, down, size, nearest, units}
 
--- r is the whole number nearest to √(m * 2 ^ 52): r - 1/2 < √(m * 2 ^ 52) < r + 1/2. No root of a whole number lies half way, so both sides squared are these.
+-- r is the whole number nearest to √(m * 2 ^ 52): r - 1/2 < √(m * 2 ^ 52) < r + 1/2. No root of a whole number lies half way,
+-- so both sides squared are these.
 pub record Nearest (m r : ℕ) : Type 0 where
   pub above : m * 2 ^ 52 ≤ r * r + r
   pub below : r * r < m * 2 ^ 52 + r
@@ -15,7 +16,8 @@ unfoldable pub floorRoot : ℕ → ℕ → ℕ
 floorRoot zero n = zero
 floorRoot (suc d) n = let h = 2 * floorRoot d (n / 4) in cond (leb (suc h * suc h) n) (suc h) h
 
--- The value of the format f nearest to √n times f's smallest value. √n's whole part has half as many binary digits as n, rounded up. The format keeps the `prec` leading ones and drops k.
+-- The value of the format f nearest to √n times f's smallest value. √n's whole part has half as many binary digits as n,
+-- rounded up. The format keeps the `prec` leading ones and drops k.
 -- So the result is a multiple of 2 ^ k: q of them, or one more where √n is above (q + 1/2) * 2 ^ k. That is half of h, and √n is half of √(4 * n).
 unfoldable pub rootUnits : Format → ℕ → Float
 unfolding floorRoot size units
@@ -25,7 +27,8 @@ rootUnits f n =
     let h = suc (2 * q) * 2 ^ k in
     units f false (nearest q (compare (4 * n) (h * h))) k
 
--- A number above 0 is some w of the format's smallest values, each 2 ^ -low, and its root √(w * 2 ^ low) of them. The root of a zero is that zero, and no number below 0 has a root.
+-- A number above 0 is some w of the format's smallest values, each 2 ^ -low, and its root √(w * 2 ^ low) of them. The root of a
+-- zero is that zero, and no number below 0 has a root.
 unfoldable pub sqrt : Format → Float → Float
 unfolding rootUnits
 sqrt f nan = nan

@@ -5,9 +5,9 @@
 // So no proof rests on how good the guess is.
 pub mod at_most;
 
-use rootguess::inverse;
-use rootguess::lower;
-use rootguess::upper;
+use root_guess::inverse;
+use root_guess::lower;
+use root_guess::upper;
 ghost use mathlib.Core.Path.{_≡_};
 ghost use mathlib.Core.Bool.{false};
 ghost use mathlib.Core.Logic.{_⊎_};

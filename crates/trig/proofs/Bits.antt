@@ -1,7 +1,7 @@
--- Values of the step lists that antt computes. Assumes nothing.
+-- LAWS. Values of the step lists that antt computes. Assumes nothing.
 use mathlib.Core.Path.{_≡_, refl}
-use lib.Ieee.{Float, binary64, add, sub, mul, div, neg, lt, le, eq, ofBits, toBits}
-use Rattle.trig.specs.Trig.{sinSteps, cosSteps, atan2Steps, acosSteps}
+use lib.Ieee.{binary64, add, sub, mul, div, neg, lt, le, eq, ofBits, toBits}
+use Rattle.trig.specs.Trig.{sinSteps, cosSteps, acosSteps}
 use Rattle.root.specs.Root.{root, sqrt}
 
 pub sin-nought : sinSteps (ofBits binary64 0) ≡ ofBits binary64 0

@@ -1,4 +1,4 @@
--- The numbers of docs/TRIG.md, each by its bit pattern. Assumes nothing.
+-- DEFINITIONS. The numbers of docs/TRIG.md, each by its bit pattern. Assumes nothing.
 use lib.Ieee.{Float}
 use Rattle.floats.specs.Numbers.{num}
 

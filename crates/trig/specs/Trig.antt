@@ -1,8 +1,10 @@
--- Document 01, "Own arithmetic": "Sine, cosine, arc cosine and two-argument arc tangent are fixed step lists in docs/TRIG.md", over lib.Ieee, each operation rounded once. Assumes nothing.
-use mathlib.Core.Bool.{Bool, true, false, cond}
+-- DEFINITIONS. Sine, cosine, arc cosine and arc tangent of two arguments, by the step lists of docs/TRIG.md. Assumes nothing.
+use mathlib.Core.Bool.{cond}
 use lib.Ieee.{Float, binary64, neg, lt, le, eq}
 use lib.Ieee as Ieee
-use Rattle.trig.specs.Coefficients.{twoOverPi, magic, piHalfA, piHalfB, s0, s1, s2, s3, s4, s5, c0, c1, c2, c3, c4, c5, a0, a1, a2, a3, a4, a5, a6, a7, a8, a9, edge, pi, piLow, piHalf, piHalfLow, piFourth, piFourthLow, piThreeFourths, piThreeFourthsLow}
+use Rattle.trig.specs.Coefficients.{twoOverPi, magic, piHalfA, piHalfB, s0, s1, s2, s3, s4, s5, c0, c1, c2, c3, c4, c5, a0, a1, a2}
+use Rattle.trig.specs.Coefficients.{a3, a4, a5, a6, a7, a8, a9, edge, pi, piLow, piHalf, piHalfLow, piFourth, piFourthLow}
+use Rattle.trig.specs.Coefficients.{piThreeFourths, piThreeFourthsLow}
 use Rattle.floats.specs.Numbers.{_⊕_, _⊖_, _⊗_, _⊘_, f0, f¼, f½, f1, f4, tau}
 use Rattle.root.specs.Root.{root}
 
@@ -79,6 +81,6 @@ unfoldable pub acosSteps : Float → Float
 unfolding atan2Steps
 acosSteps x = atan2Steps (root ((f1 ⊖ x) ⊗ (f1 ⊕ x))) x
 
--- "Arc", Sweep: "brought to 0..tau as 000 does": Rust's rem_euclid by tau
+-- an angle brought to 0 .. tau: Rust's rem_euclid by tau
 abbrev pub euclid : Float → Float
 euclid x = let r = Ieee.rem binary64 x tau in cond (lt r f0) (r ⊕ tau) r

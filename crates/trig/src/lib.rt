@@ -1,6 +1,7 @@
 // Sine, cosine, arc cosine, two-argument arc tangent: the step lists of docs/TRIG.md.
 ghost use mathlib.Core.Path.{_≡_};
-ghost use Rattle.trig.specs.Trig.{sinOf, cosOf, sinTurned, cosTurned, sinSteps, cosSteps, atanFrom, atanRight, atanLeft, atanUp, atan2Steps, acosSteps, euclid};
+ghost use Rattle.trig.specs.Trig.{sinOf, cosOf, sinTurned, cosTurned, sinSteps, cosSteps, atanFrom, atanRight, atanLeft, atanUp};
+ghost use Rattle.trig.specs.Trig.{atan2Steps, acosSteps, euclid};
 
 const TWO_OVER_PI: f64 = 0.6366197723675814;
 
@@ -72,11 +73,7 @@ const PI_THREE_FOURTHS: f64 = 2.356194490192345;
 
 const PI_THREE_FOURTHS_LOW: f64 = 9.184850993605148e-17;
 
-const TAU: f64 = 6.283185307179586;
-
-const TWO_TO_53: f64 = 9007199254740992.0;
-
-const TWO_TO_52: f64 = 4503599627370496.0;
+pub const TAU: f64 = 6.283185307179586;
 
 pub struct Angle {
     pub sin: f64,

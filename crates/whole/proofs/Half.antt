@@ -1,20 +1,20 @@
--- What the code of `half_up_count` finds by tests on floats is `halfUpOf`. Assumes nothing.
+-- LAWS. What the code of `half_up_count` finds by tests on floats is `halfUpOf`. Assumes nothing.
 use mathlib.Core.Path.{_≡_, refl, sym, ap, _∙_, subst}
 use mathlib.Core.Bool.{Bool, true, false, cond, true≢false, false≢true}
-use Prim.Native.Nat.{ℕ, zero, suc, _+_, _-_, _*_, _/_, _%_, _^_, _≤_, _<_, min}
-use native.Mathlib.Nat.{div-eq-of-lt-le, div-mul-le-self, lt-div-mul-add, div-lt-iff-lt-mul, add-mul, mul-add, one-mul, mul-one, mul-comm, mul-assoc, mul-left-comm, mul-right-comm, mul-le-mul-right, lt-of-lt-of-le, zero-lt-suc, mul-pos, mul-lt-mul-of-pos-right}
+use Prim.Native.Nat.{ℕ, _+_, _-_, _*_, _/_, _^_, _≤_, _<_}
+use native.Mathlib.Nat.{div-eq-of-lt-le, div-mul-le-self, lt-div-mul-add, div-lt-iff-lt-mul, add-mul, one-mul, mul-one, mul-assoc}
+use native.Mathlib.Nat.{mul-left-comm, mul-right-comm, lt-of-lt-of-le, zero-lt-suc, mul-pos, mul-lt-mul-of-pos-right}
 use native.Mathlib.Omega.{arith}
-use lib.IntN.{ℤ, pos, negsuc}
-use lib.Dec.{T, ltb, ltb→lt, lt→ltb, lit<, lit≤}
+use lib.IntN.{ℤ, pos}
+use lib.Dec.{ltb, lit<, lit≤}
 use lib.Ieee.{Float, nan, inf, fin, binary64, up, down, lt, add, ofBits, ofInt, toUnsigned, round}
 use lib.Ieee.Fits.{down-pos}
 use lib.Ieee.Exact.{HasValue, round-exact}
 use lib.Ieee.Scale.{round-same}
 use lib.Ieee.Back.{round-whole}
-use borrow.Author.Tests.{ltb-true, ltb-false, lt-ltb, le-ltb}
+use borrow.Author.Tests.{ltb-true, ltb-false, lt-ltb}
 use Rattle.floats.specs.Numbers.{f0, f½}
-use Rattle.whole.specs.Whole.{twoTo52, twoTo53}
-use Rattle.whole.specs.Whole.{halfUpOf}
+use Rattle.whole.specs.Whole.{twoTo52, twoTo53, halfUpOf}
 use Rattle.whole.proofs.Whole.{ltb-scale, cut}
 
 -- ---- a test of a float against a value is one of numbers
@@ -25,7 +25,8 @@ lt-value (inf t) a c m e C v = absurd v
 lt-value (fin true n g) a c m e C v = absurd (true≢false (v .0))
 lt-value (fin false n g) a c m e C v =
     let l : m * up e * down g * c ≡ m * up e * c * down g = mul-right-comm (m * up e) (down g) c in
-    let r : n * up g * down e * c ≡ a * down e * down g = mul-right-comm (n * up g) (down e) c ∙ ap (λ (z : ℕ). z * down e) (v .1) ∙ mul-right-comm a (down g) (down e) in
+    let r : n * up g * down e * c ≡ a * down e * down g =
+    mul-right-comm (n * up g) (down e) c ∙ ap (λ (z : ℕ). z * down e) (v .1) ∙ mul-right-comm a (down g) (down e) in
     sym (ltb-scale (m * up e * down g) (n * up g * down e) c C)
     ∙ ap (λ (z : ℕ). ltb z (n * up g * down e * c)) l
     ∙ ap (λ (z : ℕ). ltb (m * up e * c * down g) z) r
@@ -97,8 +98,10 @@ nearer n d q p h k = go (ltb (n * 2) ((2 * q + 1) * d)) refl
     after = add-mul (q + 1) 1 (2 * d) ∙ ap (λ (z : ℕ). z + 1 * (2 * d)) next ∙ ap (λ (z : ℕ). 2 * (q * d) + 2 * d + z) (one-mul (2 * d))
 
     go : (t : Bool) → ltb (n * 2) ((2 * q + 1) * d) ≡ t → cond t q (q + 1) ≡ (2 * n + d) / (2 * d)
-    go true b = let c : n * 2 < (2 * q + 1) * d = ltb-true (n * 2) ((2 * q + 1) * d) b in sym (div-eq-of-lt-le (2 * d) (omega (arith, mid, low)) (omega (arith, mid, next)))
-    go false b = let c : (2 * q + 1) * d ≤ n * 2 = ltb-false (n * 2) ((2 * q + 1) * d) b in sym (div-eq-of-lt-le (2 * d) (omega (arith, mid, next)) (omega (arith, mid, after)))
+    go true b = let c : n * 2 < (2 * q + 1) * d = ltb-true (n * 2) ((2 * q + 1) * d) b in
+        sym (div-eq-of-lt-le (2 * d) (omega (arith, mid, low)) (omega (arith, mid, next)))
+    go false b = let c : (2 * q + 1) * d ≤ n * 2 = ltb-false (n * 2) ((2 * q + 1) * d) b in
+        sym (div-eq-of-lt-le (2 * d) (omega (arith, mid, next)) (omega (arith, mid, after)))
 
 pub few : (x : Float) → lt f0 x ≡ true → lt x twoTo52 ≡ true → toUnsigned 64 x < 4503599627370496
 unfolding lt ofBits toUnsigned
@@ -108,7 +111,8 @@ few (inf false) p q = absurd (false≢true q)
 few (fin true m e) p q = absurd (false≢true p)
 few (fin false m e) p q = let h : m * up e / down e < 4503599627370496 = div-lt-iff-lt-mul (down-pos e) .1 (below m e q) in omega arith
 
-pub half-up-is : (x : Float) → lt f0 x ≡ true → lt x twoTo52 ≡ true → cond (lt x (add binary64 (ofInt binary64 (pos (toUnsigned 64 x))) f½)) (toUnsigned 64 x) (toUnsigned 64 x + 1) ≡ halfUpOf x
+pub half-up-is : (x : Float) → lt f0 x ≡ true → lt x twoTo52 ≡ true
+    → cond (lt x (add binary64 (ofInt binary64 (pos (toUnsigned 64 x))) f½)) (toUnsigned 64 x) (toUnsigned 64 x + 1) ≡ halfUpOf x
 unfolding lt ofBits
 half-up-is nan p q = absurd (false≢true p)
 half-up-is (inf true) p q = absurd (false≢true p)

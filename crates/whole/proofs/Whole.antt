@@ -1,19 +1,19 @@
--- What the code of `ceil_count` finds by tests on floats is `ceilOf`. Assumes nothing.
-use mathlib.Core.Path.{_≡_, refl, sym, ap, _∙_, subst}
+-- LAWS. What the code of `ceil_count` finds by tests on floats is `ceilOf`. Assumes nothing.
+use mathlib.Core.Path.{_≡_, refl, sym, ap, _∙_}
 use mathlib.Core.Bool.{Bool, true, false, cond, true≢false, false≢true}
-use Prim.Native.Nat.{ℕ, zero, suc, _+_, _-_, _*_, _/_, _%_, _^_, _≤_, _<_, min}
-use native.Mathlib.Nat.{div-eq-of-lt-le, div-mul-le-self, lt-div-mul-add, div-lt-iff-lt-mul, add-mul, one-mul, mul-one, mul-comm, mul-assoc, mul-left-comm, mul-right-comm, mul-lt-mul-of-pos-right, mul-le-mul-right}
+use Prim.Native.Nat.{ℕ, _+_, _-_, _*_, _/_, _≤_, _<_}
+use native.Mathlib.Nat.{div-eq-of-lt-le, div-mul-le-self, lt-div-mul-add, div-lt-iff-lt-mul, add-mul, one-mul, mul-one, mul-right-comm}
+use native.Mathlib.Nat.{mul-lt-mul-of-pos-right, mul-le-mul-right}
 use native.Mathlib.Omega.{arith}
-use lib.IntN.{ℤ, pos, negsuc}
-use lib.Dec.{T, ltb, ltb→lt, lt→ltb}
+use lib.IntN.{ℤ, pos}
+use lib.Dec.{T, ltb, lt→ltb}
 use lib.Ieee.{Float, nan, inf, fin, binary64, up, down, lt, ofBits, ofInt, toUnsigned, round}
 use lib.Ieee.Fits.{down-pos}
 use lib.Ieee.Exact.{HasValue}
 use lib.Ieee.Back.{round-whole}
 use borrow.Author.Tests.{ltb-true, ltb-false, lt-ltb, le-ltb}
 use Rattle.floats.specs.Numbers.{f0}
-use Rattle.whole.specs.Whole.{twoTo53}
-use Rattle.whole.specs.Whole.{ceilOf, truncOf}
+use Rattle.whole.specs.Whole.{twoTo53, ceilOf, truncOf}
 
 -- ---- numbers
 up-one : (n d q : ℕ) → q * d < n → n < q * d + d → (n + (d - 1)) / d ≡ q + 1
@@ -84,7 +84,8 @@ picked n d p = go (ltb (n / d * d) n) refl
     go true h = sym (up-one n d (n / d) (ltb-true (n / d * d) n h) (lt-div-mul-add p))
     go false h = sym (stays n d (n / d) p (ltb-false (n / d * d) n h) (div-mul-le-self n d))
 
-pub ceil-is : (x : Float) → lt f0 x ≡ true → lt x twoTo53 ≡ true → cond (lt (ofInt binary64 (pos (toUnsigned 64 x))) x) (toUnsigned 64 x + 1) (toUnsigned 64 x) ≡ ceilOf x
+pub ceil-is : (x : Float) → lt f0 x ≡ true → lt x twoTo53 ≡ true
+    → cond (lt (ofInt binary64 (pos (toUnsigned 64 x))) x) (toUnsigned 64 x + 1) (toUnsigned 64 x) ≡ ceilOf x
 unfolding lt ofBits
 ceil-is nan p q = absurd (false≢true p)
 ceil-is (inf true) p q = absurd (false≢true p)

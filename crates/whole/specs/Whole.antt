@@ -1,5 +1,5 @@
--- Document 01, "Own arithmetic": "Rounding up, truncation and halves away from zero are stated over bits": over a float's fraction m * up e / down e. Assumes nothing.
-use Prim.Native.Nat.{ℕ, _+_, _-_, _*_, _/_, _^_}
+-- DEFINITIONS. A float rounded up, truncated, and to the nearest with halves up, over its fraction m * up e / down e. Assumes nothing.
+use Prim.Native.Nat.{ℕ, _+_, _-_, _*_, _/_}
 use mathlib.Core.Bool.{cond}
 use lib.Ieee.{Float, nan, inf, fin, up, down, lt}
 use Rattle.floats.specs.Numbers.{num, f0}

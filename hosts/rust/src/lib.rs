@@ -1,11 +1,13 @@
 //! A safe Rust host: the flattener behind the C interface of docs/INTERFACE.md, with its memory.
 
+pub mod layout;
 mod raw;
 
-pub const CELLS: usize = 23;
-const ROW_WORDS: usize = 6 + CELLS;
-const STATE_WORDS: usize = 44;
-const STORE_WORDS: usize = 256 * ROW_WORDS;
+pub use layout::CELLS;
+use layout::*;
+
+/// Row places at first; they grow.
+const PLACES: usize = 256;
 const TOO_FEW_PLACES: u64 = 7;
 
 /// A block or an output row. A motion, plane or carry of 0 is none.
@@ -22,12 +24,15 @@ pub struct Row {
 impl Row {
     fn to_words(&self) -> [u64; ROW_WORDS] {
         let mut words = [0; ROW_WORDS];
-        let head = [self.line.into(), self.motion.into(), self.plane.into(), self.marked.into(), self.carry];
-        words[..5].copy_from_slice(&head);
+        words[R_LINE] = self.line.into();
+        words[R_MOTION] = self.motion.into();
+        words[R_PLANE] = self.plane.into();
+        words[R_MARK] = self.marked.into();
+        words[R_CARRY] = self.carry;
         for (k, cell) in self.cells.iter().enumerate() {
             if let Some(number) = cell {
-                words[5] |= 1 << k;
-                words[6 + k] = number.to_bits();
+                words[R_PRESENT] |= 1 << k;
+                words[R_CELLS + k] = number.to_bits();
             }
         }
         words
@@ -35,21 +40,21 @@ impl Row {
 
     fn from_words(words: &[u64]) -> Row {
         let mut row = Row {
-            line: words[0] as u32,
-            motion: words[1] as u8,
-            plane: words[2] as u8,
-            marked: words[3] != 0,
-            carry: words[4],
+            line: words[R_LINE] as u32,
+            motion: words[R_MOTION] as u8,
+            plane: words[R_PLANE] as u8,
+            marked: words[R_MARK] != 0,
+            carry: words[R_CARRY],
             ..Row::default()
         };
         for (k, cell) in row.cells.iter_mut().enumerate() {
-            *cell = (words[5] >> k & 1 == 1).then(|| f64::from_bits(words[6 + k]));
+            *cell = (words[R_PRESENT] >> k & 1 == 1).then(|| f64::from_bits(words[R_CELLS + k]));
         }
         row
     }
 }
 
-/// Document 01's reply number of a call that was refused. Nothing was changed.
+/// The reply number (docs/RULES.md, section 2) of a call that was refused. Nothing was changed.
 #[derive(Clone, Copy, Debug, PartialEq)]
 pub struct Refused(pub u64);
 
@@ -78,7 +83,7 @@ impl Flattener {
             raw::flat_start(state.as_mut_ptr(), state.len(), tolerance.to_bits(), axes.as_ptr(), axes.len())
         };
         accepted(reply)?;
-        Ok(Flattener { state, store: vec![0; STORE_WORDS], rows: vec![0; 256 * ROW_WORDS] })
+        Ok(Flattener { state, store: vec![0; STORE_WORDS], rows: vec![0; PLACES * ROW_WORDS] })
     }
 
     pub fn seed(&mut self, axis: u64, value: f64) -> Result<(), Refused> {
@@ -144,12 +149,7 @@ fn accepted(reply: raw::Reply) -> Result<Said, Refused> {
 mod tests {
     use super::*;
 
-    const X: usize = 0;
-    const Y: usize = 1;
-    const Z: usize = 2;
-    const F: usize = 11;
-    const I: usize = 15;
-    const TURN: usize = 19;
+    const XYZ: [u64; 3] = [X as u64, Y as u64, Z as u64];
 
     fn block(line: u32, motion: u8, cells: &[(usize, f64)]) -> Row {
         let mut row = Row { line, motion, ..Row::default() };
@@ -160,16 +160,16 @@ mod tests {
     }
 
     #[test]
-    fn the_whole_case_of_document_01() {
-        let mut flattener = Flattener::start(0.1, &[0, 1, 2]).unwrap();
+    fn the_whole_case_of_row_text() {
+        let mut flattener = Flattener::start(0.1, &XYZ).unwrap();
         let mut out = Vec::new();
         let blocks = [
-            Row { plane: 17, ..block(1, 2, &[(X, 0.04), (Y, 0.0), (F, 1000.0)]) },
-            block(2, 4, &[(X, 0.0), (Y, 0.04), (I, -0.04)]),
-            block(3, 5, &[(X, 10.0), (Y, 0.04)]),
+            Row { plane: 17, ..block(1, G1, &[(X, 0.04), (Y, 0.0), (F, 1000.0)]) },
+            block(2, G3, &[(X, 0.0), (Y, 0.04), (I, -0.04)]),
+            block(3, ASPLINE, &[(X, 10.0), (Y, 0.04)]),
             block(4, 0, &[(X, 20.0)]),
             block(5, 0, &[(F, 500.0)]),
-            block(6, 2, &[(X, 0.0), (Y, 0.0)]),
+            block(6, G1, &[(X, 0.0), (Y, 0.0)]),
         ];
         for row in &blocks {
             flattener.push(row, &mut out).unwrap();
@@ -177,8 +177,8 @@ mod tests {
         flattener.close(&mut out).unwrap();
         let want = [
             blocks[0].clone(),
-            block(2, 2, &[(X, 0.0), (Y, 0.04)]),
-            block(3, 2, &[(X, 10.0), (Y, 0.04)]),
+            block(2, G1, &[(X, 0.0), (Y, 0.04)]),
+            block(3, G1, &[(X, 10.0), (Y, 0.04)]),
             block(4, 0, &[(X, 20.0), (Y, 0.04)]),
             blocks[4].clone(),
             blocks[5].clone(),
@@ -188,11 +188,11 @@ mod tests {
 
     #[test]
     fn places_grow_for_a_long_arc() {
-        let mut flattener = Flattener::start(0.1, &[0, 1, 2]).unwrap();
-        flattener.seed(0, 10.0).unwrap();
-        flattener.seed(1, 0.0).unwrap();
+        let mut flattener = Flattener::start(0.1, &XYZ).unwrap();
+        flattener.seed(X as u64, 10.0).unwrap();
+        flattener.seed(Y as u64, 0.0).unwrap();
         let mut out = Vec::new();
-        let said = flattener.push(&block(1, 4, &[(X, 10.0), (Z, 5.0), (I, -10.0), (TURN, 99.0)]), &mut out).unwrap();
+        let said = flattener.push(&block(1, G3, &[(X, 10.0), (Z, 5.0), (I, -10.0), (TURN, 99.0)]), &mut out).unwrap();
         assert_eq!((said.warning, said.held), (0, 1 << Z));
         assert_eq!(out.len(), 2220);
         assert!(out[..2219].iter().all(|row| row.marked && row.line == 1));
@@ -201,14 +201,14 @@ mod tests {
 
     #[test]
     fn a_refusal_has_its_number_and_changes_nothing() {
-        assert_eq!(Flattener::start(0.0, &[0]).err(), Some(Refused(1)));
-        assert_eq!(Flattener::start(0.1, &[15]).err(), Some(Refused(2)));
-        let mut flattener = Flattener::start(0.1, &[0, 1, 2]).unwrap();
-        assert_eq!(flattener.seed(0, f64::NAN), Err(Refused(3)));
+        assert_eq!(Flattener::start(0.0, &XYZ).err(), Some(Refused(1)));
+        assert_eq!(Flattener::start(0.1, &[LIST_CODES as u64]).err(), Some(Refused(2)));
+        let mut flattener = Flattener::start(0.1, &XYZ).unwrap();
+        assert_eq!(flattener.seed(X as u64, f64::NAN), Err(Refused(3)));
         let before = flattener.state.clone();
         let mut out = Vec::new();
-        assert_eq!(flattener.push(&block(1, 32, &[]), &mut out), Err(Refused(4)));
-        assert_eq!(flattener.push(&block(1, 2, &[(TURN, 1001.0)]), &mut out), Err(Refused(5)));
+        assert_eq!(flattener.push(&block(1, LAST_MOTION + 1, &[]), &mut out), Err(Refused(4)));
+        assert_eq!(flattener.push(&block(1, G1, &[(TURN, 1001.0)]), &mut out), Err(Refused(5)));
         assert_eq!((flattener.state, out), (before, Vec::new()));
     }
 }

@@ -8,7 +8,7 @@ const ROWS: f64 = 12_000.0;
 
 impl Gen {
     pub fn arc_block(&mut self) {
-        let motion = self.rng.pick(&[3, 4]);
+        let motion = self.rng.pick(&[G2, G3]);
         let motion = self.stated(motion);
         let mut block = self.block(motion);
         // The plane is needed before the geometry: a plane cell is put into the words by the block itself.

@@ -5,7 +5,7 @@ use crate::sequence::*;
 use crate::words::*;
 
 pub const MOST_SAMPLES: usize = 10_000;
-const MOST_POINTS: u64 = 257;
+const MOST_POINTS: u64 = MOST_HELD as u64 + 1;
 /// The shape whose points lie nearly in one place, whatever the scale.
 const NEAR: u64 = 1;
 
@@ -45,7 +45,7 @@ impl Gen {
         curve
     }
 
-    /// 2 to 257, and small ones more often.
+    /// 2 to the most, and small ones more often.
     fn curve_points(&mut self) -> usize {
         let n = match self.rng.below(8) {
             0 => 2 + self.rng.below(MOST_POINTS - 1),
@@ -56,7 +56,7 @@ impl Gen {
         n.clamp(2, MOST_POINTS) as usize
     }
 
-    /// 1 to 10 geometric axes, with some of the other codes, in any order.
+    /// Some geometric axes, with some of the other codes, in any order.
     fn curve_axes(&mut self) -> Vec<u64> {
         let count = 1 + self.rng.below(AXES as u64) as usize;
         let mut list = self.shuffled((0..AXES as u64).collect());
@@ -67,13 +67,13 @@ impl Gen {
 
     /// What SD says, or None where no block has it.
     fn curve_degree(&mut self, motion: u64, points: usize) -> Option<u64> {
-        if motion != 6 && !self.rng.one_in(10) {
+        if motion != BSPLINE && !self.rng.one_in(10) {
             return None;
         }
         match self.rng.below(5) {
             0 => None,
-            1 => Some(1 + self.rng.below(256)),
-            2 => Some((points as u64).saturating_sub(self.rng.below(3)).clamp(1, 256)),
+            1 => Some(1 + self.rng.below(MOST_DEGREE)),
+            2 => Some((points as u64).saturating_sub(self.rng.below(3)).clamp(1, MOST_DEGREE)),
             _ => Some(1 + self.rng.below(8)),
         }
     }
@@ -81,7 +81,7 @@ impl Gen {
     /// 1 to 10,000, small and large as likely; of dear ones, some splines apart, no more than end in a tenth of a
     /// second: a sample costs some 16 evaluations, here and in both programs of a run.
     fn wanted_samples(&mut self, motion: u64, degree: u64, channels: usize) -> f64 {
-        let steps = if motion == 6 { degree * degree } else { 60 };
+        let steps = if motion == BSPLINE { degree * degree } else { 60 };
         let nanoseconds = 16.0 * (50.0 + steps as f64 * channels as f64);
         let most = if self.rng.one_in(60) { 4e9 } else { 1e8 } / nanoseconds;
         self.rng.power(0.0, most.clamp(1.0, MOST_SAMPLES as f64).log10())
@@ -100,7 +100,7 @@ impl Gen {
     fn curve_blocks(&mut self, curve: &mut Curve, shape: u64, degree: Option<u64>) {
         let axes = self.axes();
         let repeats = self.rng.pick(&[0, 0, 2, 8]);
-        let weights = if curve.motion == 6 { self.rng.pick(&[0, 1, 4]) } else { 0 };
+        let weights = if curve.motion == BSPLINE { self.rng.pick(&[0, 1, 4]) } else { 0 };
         let blocks = curve.points - 1;
         let with_degree = self.rng.below(blocks as u64) as usize;
         let mut at: Vec<f64> = axes.iter().map(|&k| self.position(k).unwrap_or(self.origin)).collect();

@@ -8,11 +8,11 @@ impl Gen {
         match self.rng.below(10) {
             0..=2 => vec![0, 1, 2],
             3 => vec![0, 1, 2, 9],
-            4 => (0..15).collect(),
+            4 => (0..LIST_CODES as u64).collect(),
             5..=7 => self.shuffled(vec![0, 1, 2, 9]),
             8 if self.rng.one_in(4) => Vec::new(),
             _ => {
-                let list = (0..15).filter(|_| !self.rng.one_in(3)).collect();
+                let list = (0..LIST_CODES as u64).filter(|_| !self.rng.one_in(3)).collect();
                 self.shuffled(list)
             }
         }
@@ -45,7 +45,7 @@ impl Gen {
         let axes = self.axis_list();
         self.start(tolerance, &axes);
         for _ in 0..self.rng.below(4) {
-            let axis = self.rng.below(15);
+            let axis = self.rng.below(LIST_CODES as u64);
             let x = self.coordinate();
             self.seed(axis, x.to_bits());
         }
@@ -74,7 +74,7 @@ impl Gen {
                 0 => self.linear_block(),
                 1 => self.go(),
                 2 => {
-                    let axis = self.rng.below(10);
+                    let axis = self.rng.below(AXES as u64);
                     let x = self.coordinate();
                     self.seed(axis, x.to_bits());
                 }
@@ -92,16 +92,16 @@ impl Gen {
 
     pub fn splines(&mut self) {
         self.sizes();
-        let motion = self.rng.pick(&[5, 6, 6, 7]);
+        let motion = self.rng.pick(&[ASPLINE, BSPLINE, BSPLINE, CSPLINE]);
         let points = self.point_count();
         let degree = match self.rng.below(4) {
             0 => 3,
-            1 => 1 + self.rng.below(256),
+            1 => 1 + self.rng.below(MOST_DEGREE),
             _ => 1 + self.rng.below(8),
         };
         // Work of one row: an evaluation of a B-spline costs the square of its degree.
         let power = (degree.min(points as u64) as f64).max(1.0);
-        let work = if motion == 6 { 4e6 / (power * power) } else { 4000.0 };
+        let work = if motion == BSPLINE { 4e6 / (power * power) } else { 4000.0 };
         let most = (work / points as f64).clamp(1.0, 400.0);
         let rows = self.rng.power(-0.7, most.log10().max(0.0));
         let tolerance = self.spline_tolerance(rows);
@@ -109,7 +109,7 @@ impl Gen {
         if self.rng.one_in(6) {
             self.command_alone(motion);
         }
-        if motion == 6 && degree != 3 && !self.axes().is_empty() {
+        if motion == BSPLINE && degree != 3 && !self.axes().is_empty() {
             let word = self.stated(motion);
             let mut block = self.block(word);
             self.some_axes(&mut block, 1);
@@ -123,7 +123,7 @@ impl Gen {
         }
         self.end_spline();
         if points < 10 {
-            let motion = self.rng.pick(&[5, 6, 7]);
+            let motion = self.rng.pick(&SPLINES);
             let points = 1 + self.rng.below(6) as usize;
             self.spline(motion, points);
         }
@@ -136,7 +136,7 @@ impl Gen {
         self.sizes();
         let tolerance = self.spline_tolerance(3.0);
         self.begin(tolerance);
-        let motion = self.rng.pick(&[5, 6, 7]);
+        let motion = self.rng.pick(&SPLINES);
         let points = 2 + self.rng.below(6) as usize;
         self.spline(motion, points);
         self.close();
@@ -151,7 +151,7 @@ impl Gen {
         self.begin(tolerance);
         let points = 4 + self.rng.below(4) as usize;
         for i in 0..points {
-            let motion = if i == 0 { 6 } else { 0 };
+            let motion = if i == 0 { BSPLINE } else { 0 };
             let mut block = self.block(motion);
             for k in self.axes() {
                 let x = self.coordinate();
@@ -167,7 +167,7 @@ impl Gen {
         self.close();
     }
 
-    /// "ASPLINE, close, then points": the first held block then has no motion.
+    /// A spline word, a close, then points: the first held block then has no motion.
     pub fn command_alone(&mut self, motion: u64) {
         let block = self.block(motion);
         self.push(block);
@@ -182,7 +182,7 @@ impl Gen {
         for _ in 0..2 + self.rng.below(8) {
             match self.rng.below(8) {
                 0..=2 => {
-                    let motion = self.rng.pick(&[5, 6, 7]);
+                    let motion = self.rng.pick(&SPLINES);
                     let points = 1 + self.rng.below(12) as usize;
                     self.spline(motion, points);
                     self.end_spline();
@@ -193,7 +193,7 @@ impl Gen {
                     }
                 }
                 6 => {
-                    let axis = self.rng.below(15);
+                    let axis = self.rng.below(LIST_CODES as u64);
                     let x = self.any_number();
                     let x = x.clamp(-self.scale * 1e3, self.scale * 1e3);
                     self.seed(axis, x.to_bits());
@@ -203,7 +203,7 @@ impl Gen {
                     self.some_axes(&mut block, 2);
                     self.riders(&mut block);
                     self.push(block);
-                    let word = 8 + self.rng.below(24);
+                    let word = self.other_word();
                     let mut block = self.block(word);
                     self.riders(&mut block);
                     self.push(block);

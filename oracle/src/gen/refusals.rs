@@ -14,7 +14,7 @@ impl Gen {
                 0 => self.arc_block(),
                 1 => self.go(),
                 _ => {
-                    let motion = self.rng.pick(&[5, 6, 7]);
+                    let motion = self.rng.pick(&SPLINES);
                     let points = 1 + self.rng.below(5) as usize;
                     self.spline(motion, points);
                 }
@@ -31,14 +31,14 @@ impl Gen {
         match self.rng.below(10) {
             0 => {
                 let tolerance = self.rng.pick(&[0.0, -0.0, -1.0, f64::NAN, f64::INFINITY, f64::NEG_INFINITY]);
-                let axes = self.rng.pick(&[&[0u64, 1, 2][..], &[15], &[]]);
+                let axes = self.rng.pick(&[&[0u64, 1, 2][..], &[LIST_CODES as u64], &[]]);
                 self.start(tolerance, axes);
             }
             1 => {
-                let axes: &[&[u64]] = &[&[15], &[0, 0], &[3, 4, 3], &[1 << 40], &[0; 16]];
+                let axes: &[&[u64]] = &[&[LIST_CODES as u64], &[0, 0], &[3, 4, 3], &[1 << 40], &[0; LIST_CODES + 1]];
                 let axes = self.rng.pick(axes);
                 self.start(0.1, axes);
-                let code = self.rng.pick(&[15, 16, 22, 1 << 32, 1 << 53]);
+                let code = self.rng.pick(&[LAST_CODE + 1, LAST_CODE + 2, PL as u64, 1 << 32, 1 << 53]);
                 let bits = self.bad_bits();
                 self.seed(code, bits);
             }
@@ -59,14 +59,14 @@ impl Gen {
     }
 
     pub fn bad_number(&mut self) {
-        let motion = self.rng.below(32);
+        let motion = self.rng.below(LAST_MOTION + 1);
         let mut block = self.block(motion);
         self.some_axes(&mut block, 2);
         let k = self.rng.below(CELLS as u64) as usize;
         block.set(k, 0.0);
         block.0[CELL + k] = self.bad_bits();
         self.push(block);
-        let axis = self.rng.below(15);
+        let axis = self.rng.below(LIST_CODES as u64);
         let bits = self.bad_bits();
         self.seed(axis, bits);
     }
@@ -79,17 +79,17 @@ impl Gen {
                 row.resize(length, 0);
             }
             1 => row[LINE] = 1 << 32 | self.rng.below(100),
-            2 => row[MOTION] = 32 + self.rng.below(10),
+            2 => row[MOTION] = LAST_MOTION + 1 + self.rng.below(10),
             3 => row[PLANE] = self.rng.pick(&[1, 16, 20, 1 << 63]),
             4 => row[MARK] = self.rng.pick(&[1, 2, u64::MAX]),
-            5 => row[PRESENT] = 1 << self.rng.pick(&[23, 24, 40, 63]),
+            5 => row[PRESENT] = 1 << self.rng.pick(&[CELLS, CELLS + 1, 40, 63]),
             _ => row[MOTION] = 1 << self.rng.pick(&[5, 8, 32, 63]),
         }
         self.words(&row);
     }
 
     pub fn bad_turn(&mut self) {
-        let motion = self.rng.below(8);
+        let motion = self.rng.below(FIRST_OTHER);
         let mut block = self.block(motion);
         let turns = self.rng.pick(&[1000.0000000000001, 1000.4, 1e9, 1001.0]);
         block.set(TURN, turns);
@@ -109,7 +109,7 @@ impl Gen {
             self.push(block);
         }
         if held == 0 {
-            let motion = self.rng.pick(&[5, 6, 7]);
+            let motion = self.rng.pick(&SPLINES);
             let block = self.block(motion);
             self.push(block);
         }
@@ -156,10 +156,10 @@ impl Gen {
             let row = self.rng.below(held as u64) as usize * ROW_WORDS;
             let (at, word) = match self.rng.below(6) {
                 0 => (row + LINE, 1 << 32),
-                1 => (row + MOTION, self.rng.pick(&[1, 2, 5, 6, 7, 8, 32])),
+                1 => (row + MOTION, self.rng.pick(&[1, G1, ASPLINE, BSPLINE, CSPLINE, FIRST_OTHER, LAST_MOTION + 1])),
                 2 => (row + PLANE, 5),
                 3 => (row + MARK, 1),
-                4 => (row + PRESENT, 1 << 23),
+                4 => (row + PRESENT, 1 << CELLS),
                 _ => (row + CELL + self.rng.below(CELLS as u64) as usize, self.bad_bits()),
             };
             let before = self.lent.store[at];
@@ -171,14 +171,14 @@ impl Gen {
         let (at, word) = match self.rng.below(10) {
             0 => (0, self.rng.pick(&[0, 1 << 63, 0x7ff0_0000_0000_0000, u64::MAX])),
             1 => (W_COUNT, self.rng.pick(&[16, 200, u64::MAX])),
-            2 => (W_AXES, self.rng.pick(&[15, 1, 2, u64::MAX])),
-            3 => (W_MOTION, self.rng.pick(&[0, 1, 2, 8, 32])),
+            2 => (W_AXES, self.rng.pick(&[LAST_CODE + 1, 1, 2, u64::MAX])),
+            3 => (W_MOTION, self.rng.pick(&[0, 1, G1, FIRST_OTHER, LAST_MOTION + 1])),
             4 => (W_PLANE, self.rng.pick(&[0, 16, 20])),
-            5 => (W_KNOWN, self.rng.pick(&[1 << 10, 1 << 9, 1 << 5, u64::MAX])),
-            6 => (W_START, self.rng.pick(&[1 << 10, 1 << 9, 1 << 5, u64::MAX])),
-            7 => (W_KNOWN + 1 + self.rng.below(10) as usize, self.bad_bits()),
-            8 => (W_DEGREE, self.rng.pick(&[0, 257, u64::MAX])),
-            _ => (W_HELD, self.rng.pick(&[257, 1 << 40])),
+            5 => (W_KNOWN, self.rng.pick(&[1 << AXES, 1 << (AXES - 1), 1 << 5, u64::MAX])),
+            6 => (W_START, self.rng.pick(&[1 << AXES, 1 << (AXES - 1), 1 << 5, u64::MAX])),
+            7 => (W_KNOWN + 1 + self.rng.below(AXES as u64) as usize, self.bad_bits()),
+            8 => (W_DEGREE, self.rng.pick(&[0, MOST_DEGREE + 1, u64::MAX])),
+            _ => (W_HELD, self.rng.pick(&[MOST_HELD as u64 + 1, 1 << 40])),
         };
         let before = self.lent.state[at];
         self.poke(at, word);
@@ -188,7 +188,7 @@ impl Gen {
 
     /// A block of each sort of call, on whatever the state is; pushed words may be refused or not.
     pub fn try_all(&mut self) {
-        let axis = self.rng.below(10);
+        let axis = self.rng.below(AXES as u64);
         self.seed(axis, 1f64.to_bits());
         if self.rng.one_in(2) {
             self.bad_row();
@@ -221,7 +221,7 @@ impl Gen {
             2 => {
                 let warned = self.rng.next();
                 self.poke(W_WARNED, warned);
-                let word = 8 + self.rng.below(24);
+                let word = self.other_word();
                 if held == 0 {
                     let block = self.block(word);
                     self.push(block);
@@ -251,7 +251,8 @@ impl Gen {
                 self.pokestore(row + CELL + k, x.to_bits());
             }
             _ if held == 0 => {
-                let motion = self.rng.pick(&[1, 2, 3, 4, 5, 6, 7, 9, 30]);
+                let other = [FIRST_OTHER + 1, LAST_MOTION - 1];
+                let motion = self.rng.pick(&[1, G1, G2, G3, ASPLINE, BSPLINE, CSPLINE, other[0], other[1]]);
                 self.poke(W_MOTION, motion);
             }
             _ => {}

@@ -7,10 +7,7 @@ use std::fmt::Write as _;
 pub const PI: f64 = std::f64::consts::PI;
 pub const LIMIT: f64 = 1e9;
 
-pub const I: usize = 15;
-pub const CR: usize = 18;
-pub const PW: usize = 20;
-pub const PL: usize = 22;
+pub const SPLINES: [u64; 3] = [ASPLINE, BSPLINE, CSPLINE];
 
 /// One sequence: its lines, the words that they leave, and the sizes that its numbers have.
 pub struct Gen {
@@ -200,7 +197,7 @@ impl Gen {
     /// Feed and the like, the carry, and now and then an axis outside the list.
     pub fn riders(&mut self, block: &mut Block) {
         if self.rng.one_in(3) {
-            for k in 10..15 {
+            for k in AXES..LIST_CODES {
                 if self.rng.one_in(3) {
                     let x = self.any_number();
                     block.set(k, x);
@@ -241,6 +238,11 @@ impl Gen {
         }
     }
 
+    /// A curve word that is not flattened.
+    pub fn other_word(&mut self) -> u64 {
+        FIRST_OTHER + self.rng.below(LAST_MOTION + 1 - FIRST_OTHER)
+    }
+
     pub fn plane_cell(&mut self, block: &mut Block, one_in: u64) {
         if self.rng.one_in(one_in) {
             block.0[PLANE] = self.rng.pick(&[17, 18, 19]);
@@ -250,10 +252,10 @@ impl Gen {
     pub fn linear_block(&mut self) {
         let motion = match self.rng.below(6) {
             0 => 1,
-            1 | 2 => self.stated(2),
-            3 => 2,
-            4 => 8 + self.rng.below(24),
-            _ => self.rng.pick(&[1, 2, 8, 9, 10, 31]),
+            1 | 2 => self.stated(G1),
+            3 => G1,
+            4 => self.other_word(),
+            _ => self.rng.pick(&[1, G1, FIRST_OTHER, FIRST_OTHER + 1, FIRST_OTHER + 2, LAST_MOTION]),
         };
         let mut block = self.block(motion);
         self.plane_cell(&mut block, 5);

@@ -63,7 +63,7 @@ impl Gen {
     }
 
     pub fn spline_cells(&mut self, block: &mut Block, motion: u64) {
-        if self.rng.one_in(if motion == 6 { 4 } else { 20 }) {
+        if self.rng.one_in(if motion == BSPLINE { 4 } else { 20 }) {
             let weight = self.weight();
             block.set(PW, weight);
         }
@@ -124,7 +124,7 @@ impl Gen {
             3 => {
                 let held = self.lent.state[W_MOTION];
                 if is_spline(held) {
-                    let word = self.rng.pick(&[5, 6, 7]);
+                    let word = self.rng.pick(&SPLINES);
                     if word != held {
                         let mut block = self.block(word);
                         self.some_axes(&mut block, 1);
@@ -142,7 +142,7 @@ impl Gen {
             0 => 1,
             1 => 2,
             2 => 250 + self.rng.below(7) as usize,
-            3 => 1 + self.rng.below(256) as usize,
+            3 => 1 + self.rng.below(MOST_HELD as u64) as usize,
             4 | 5 => 10 + self.rng.below(40) as usize,
             _ => 1 + self.rng.below(9) as usize,
         }

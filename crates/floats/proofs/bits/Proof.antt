@@ -1,3 +1,4 @@
+-- `floats::bits` meets its contract. Assumes nothing.
 use mathlib.Core.Path.{sym, ap, _∙_}
 use lib.Ieee.{binary64, toBits}
 use lib.Ieee.Compare.{differs-from-itself}
@@ -6,8 +7,6 @@ use Rattle.floats.proofs.Nans.{not-nan, nan-bits}
 use borrow.Author.Needs.{needs}
 use Rattle.floats.proofs.bits.Statement.{statement}
 use Rattle.floats.proofs.bits.Tie as tie
-use Rattle.floats.proofs.bits.Reads as reads
-use Rattle.floats.proofs.bits.Lts as lts
 
 float-to-bits-result : tie.Need-float-to-bits-result
 float-to-bits-result c = not-nan _ (c .if1 .left)

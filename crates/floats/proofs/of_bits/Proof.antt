@@ -1,10 +1,9 @@
+-- `floats::of_bits` meets its contract. Assumes nothing.
 use mathlib.Core.Path.{sym, _∙_}
 use Rattle.floats.proofs.Nans.{low-not, high-nan, zero-over-zero}
 use borrow.Author.Needs.{needs}
 use Rattle.floats.proofs.of_bits.Statement.{statement}
 use Rattle.floats.proofs.of_bits.Tie as tie
-use Rattle.floats.proofs.of_bits.Reads as reads
-use Rattle.floats.proofs.of_bits.Lts as lts
 
 float-from-bits-result : tie.Need-float-from-bits-result
 float-from-bits-result c = low-not _ (c .if1 .left)

@@ -1,15 +1,8 @@
 -- `replay::main` ends: a turn is used up each time round. Assumes nothing.
-use Prim.Native.Nat.{ℕ, _≤_, _<_}
-use native.Mathlib.Omega.{arith}
+use Prim.Native.Nat.{_≤_}
 use borrow.Author.Needs.{needs}
 use Rattle.replay.proofs.main.Statement.{statement}
 use Rattle.replay.proofs.main.Tie as tie
-use Rattle.replay.proofs.main.Reads as reads
-use Rattle.replay.proofs.main.Lts as lts
-use Rattle.calltext.proofs.memory.rest.Reads as rest-reads
-use Rattle.replay.proofs.begun.Reads as begun-reads
-use Rattle.replay.proofs.flush_all.Reads as flush-all-reads
-use Rattle.replay.proofs.step.Reads as step-reads
 
 abbrev Inv-loop : tie.InvT-loop
 Inv-loop buf₀ out₀ state₀ store₀ old₀ rows₀ s₀ buf out state store old rows s = (s .window .at ≤ s .window .end) × (s .window .end ≤ 65536)

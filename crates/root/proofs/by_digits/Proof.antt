@@ -1,7 +1,8 @@
--- `root::by_digits` meets its contract. The invariant of its loop: x₀ * 4 ^ i, where x₀ is m's 54 digits at the top of a word, is root * root + rest words and x,
--- and rest is at most twice root, so that root is the whole part of a root. After 53 turns that is m * 2 ^ 52. Assumes nothing.
+-- `root::by_digits` meets its contract. Assumes nothing.
+-- The invariant of its loop: x₀ * 4 ^ i, where x₀ is m's 54 digits at the top of a word, is root * root + rest words and x, and rest
+-- is at most twice root, so that root is the whole part of a root. After 53 turns that is m * 2 ^ 52.
 use Prim.Native.Nat.{ℕ, _+_, _-_, _*_, _/_, _%_, _^_, _≤_, _<_}
-use mathlib.Core.Path.{_≡_, refl, sym, ap, _∙_, subst}
+use mathlib.Core.Path.{_≡_, sym, ap, _∙_}
 use mathlib.Core.Logic.{⊎-elim}
 use native.Mathlib.Nat.{mul-div-cancel, mul-assoc, mul-le-mul-left, le-of-lt}
 use native.Mathlib.Omega.{arith}
@@ -11,8 +12,6 @@ use Rattle.root.specs.Root.{Nearest}
 use Rattle.root.proofs.Squares.{square-of-next, square-of-odd, square-of-even}
 use Rattle.root.proofs.by_digits.Statement.{statement}
 use Rattle.root.proofs.by_digits.Tie as tie
-use Rattle.root.proofs.by_digits.Reads as reads
-use Rattle.root.proofs.by_digits.Lts as lts
 
 record Digits (x₀ x root rest i : ℕ) : Type 0 where
   turns : i ≤ 53
@@ -63,7 +62,8 @@ done m x root rest i l v h =
     let e : i ≡ 53 = omega arith in
     let shifted : m * 2 ^ 10 % 2 ^ 64 ≡ m * 2 ^ 10 = omega arith in
     let same : (root * root + rest) * 2 ^ 64 + x ≡ m * 2 ^ 52 * 2 ^ 64 =
-    v .all ∙ ap (λ (j : ℕ). m * 2 ^ 10 % 2 ^ 64 * 4 ^ j) e ∙ ap (λ (y : ℕ). y * 4 ^ 53) shifted ∙ mul-assoc m (2 ^ 10) (4 ^ 53) ∙ sym (mul-assoc m (2 ^ 52) (2 ^ 64)) in
+    v .all ∙ ap (λ (j : ℕ). m * 2 ^ 10 % 2 ^ 64 * 4 ^ j) e ∙ ap (λ (y : ℕ). y * 4 ^ 53) shifted ∙ mul-assoc m (2 ^ 10) (4 ^ 53)
+    ∙ sym (mul-assoc m (2 ^ 52) (2 ^ 64)) in
     sym (mul-div-cancel (m * 2 ^ 52) (pow-pos 64)) ∙ ap (λ (y : ℕ). y / 2 ^ 64) (sym same) ∙ digits-div (root * root + rest) (v .word)
 
 -- the root is not 0
@@ -124,9 +124,11 @@ add-result c = omega (arith, last-lt (c .before .before .loop .inv))
 
 returns : tie.Need-returns Inv-loop μ-loop
 returns c =
+    let start = c .before .before .before in
     let at = c .before .before .loop in
-    let m = c .before .before .before .args .m in
-    moves m (at .root) (at .rest) (at .inv .whole) (done m (at .x) (at .root) (at .rest) (at .i) (c .before .before .before .pre .1) (at .inv) (c .before .loop-test .left)) (c .if2 .taken)
+    let m = start .args .m in
+    moves m (at .root) (at .rest) (at .inv .whole) (done m (at .x) (at .root) (at .rest) (at .i) (start .pre .1) (at .inv) (c .before .loop-test .left))
+    (c .if2 .taken)
 
 returns-2 : tie.Need-returns-2 Inv-loop μ-loop
 returns-2 c =

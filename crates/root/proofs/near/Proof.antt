@@ -10,14 +10,6 @@ use Rattle.root.proofs.Values.{root-hi}
 use borrow.Author.Needs.{needs}
 use Rattle.root.proofs.near.Statement.{statement}
 use Rattle.root.proofs.near.Tie as tie
-use Rattle.root.proofs.near.Reads as reads
-use Rattle.root.proofs.near.Lts as lts
-use Rattle.root.proofs.by_digits.Reads as by-digits-reads
-use Rattle.rootguess.proofs.inverse.Reads as inverse-reads
-use Rattle.rootguess.proofs.lower.Reads as lower-reads
-use Rattle.root.proofs.settles.Reads as settles-reads
-use Rattle.root.proofs.square.Reads as square-reads
-use Rattle.rootguess.proofs.upper.Reads as upper-reads
 
 -- what `settles` says where it is true
 abbrev Settled : ℕ → ℕ → ℕ → Type 0

@@ -1,15 +1,11 @@
 -- `root::of_normal` meets its contract. Assumes nothing.
-use Prim.Native.Nat.{ℕ, _+_, _-_, _*_, _/_, _^_, _≤_}
+use Prim.Native.Nat.{_+_, _-_, _*_, _/_, _^_}
 use mathlib.Core.Path.{_≡_, sym, _∙_, subst}
 use native.Mathlib.Omega.{arith}
 use Rattle.root.proofs.Normal.{exponent, Taken, bounds, taken-is, law}
 use borrow.Author.Needs.{needs}
 use Rattle.root.proofs.of_normal.Statement.{statement}
 use Rattle.root.proofs.of_normal.Tie as tie
-use Rattle.root.proofs.of_normal.Reads as reads
-use Rattle.root.proofs.of_normal.Lts as lts
-use Rattle.root.proofs.near.Reads as near-reads
-use Rattle.root.proofs.taken.Reads as taken-reads
 
 digits-are : (c : tie.After-taken) → Taken (c .before .args .b) (c .taken .result)
 digits-are c = subst (Taken (c .before .args .b)) (sym (c .taken .ensures)) (taken-is (c .before .args .b))

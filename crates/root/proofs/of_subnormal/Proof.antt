@@ -1,6 +1,6 @@
 -- `root::of_subnormal` meets its contract. Assumes nothing.
 use Prim.Native.Nat.{ℕ, suc, _+_, _-_, _*_, _/_, _%_, _^_, _≤_, _<_}
-use mathlib.Core.Path.{_≡_, refl, sym, ap, _∙_, subst}
+use mathlib.Core.Path.{_≡_, sym, ap, _∙_}
 use mathlib.Core.Logic.{_⊎_, inl, inr, ⊎-elim}
 use native.Mathlib.Nat.{mul-assoc, mul-le-mul-right, mul-lt-mul-of-pos-right, le-trans, le-of-eq, lt-of-lt-of-le, lt-of-le-of-lt}
 use native.Mathlib.Omega.{arith}
@@ -13,9 +13,6 @@ use Rattle.root.proofs.Values.{root-pattern, low-value, root-hi}
 use borrow.Author.Needs.{needs}
 use Rattle.root.proofs.of_subnormal.Statement.{statement}
 use Rattle.root.proofs.of_subnormal.Tie as tie
-use Rattle.root.proofs.of_subnormal.Reads as reads
-use Rattle.root.proofs.of_subnormal.Lts as lts
-use Rattle.root.proofs.by_digits.Reads as by-digits-reads
 
 -- the shift s that takes b's leading digit to the place of 2 ^ 52
 record Led (b z : ℕ) : Type 0 where
@@ -56,7 +53,10 @@ Taken b M = ((shift b % 2 ≡ 0) × (M ≡ digits b)) ⊎ ((shift b % 2 ≡ 0 �
 bounds : (b M : ℕ) → 0 < b → b < 2 ^ 52 → Taken b M → (2 ^ 52 ≤ M) × (M + 2 ≤ 2 ^ 54)
 bounds b M p l t =
     let h = led b p l in
-    ⊎-elim (λ (w : (shift b % 2 ≡ 0) × (M ≡ digits b)). (omega (arith, w .1), omega (arith, w .1))) (λ (w : (shift b % 2 ≡ 0 → ⊥) × (M ≡ digits b * 2)). (omega (arith, w .1), omega (arith, w .1))) t
+    ⊎-elim
+    (λ (w : (shift b % 2 ≡ 0) × (M ≡ digits b)). (omega (arith, w .1), omega (arith, w .1)))
+    (λ (w : (shift b % 2 ≡ 0 → ⊥) × (M ≡ digits b * 2)). (omega (arith, w .1), omega (arith, w .1)))
+    t
 
 up-power : (b s j k : ℕ) → s + j + (k + k) ≡ 1074 → b * 2 ^ 1074 ≡ b * 2 ^ s * 2 ^ j * (2 ^ k * 2 ^ k)
 up-power b s j k e =
@@ -74,12 +74,14 @@ size-of b M p l t =
     (λ (w : (shift b % 2 ≡ 0) × (M ≡ digits b)).
     up-power b s 52 k (omega (arith, w .0)) ∙ ap (λ (y : ℕ). y * 2 ^ 52 * (2 ^ k * 2 ^ k)) (sym (w .1 ∙ digits-are b p l)))
     (λ (w : (shift b % 2 ≡ 0 → ⊥) × (M ≡ digits b * 2)).
-    up-power b s 53 k (omega (arith, w .0)) ∙ ap (λ (y : ℕ). y * (2 ^ k * 2 ^ k)) (sym (mul-assoc (b * 2 ^ s) 2 (2 ^ 52)) ∙ ap (λ (y : ℕ). y * 2 ^ 52) (sym (w .1 ∙ ap (λ (y : ℕ). y * 2) (digits-are b p l)))))
+    up-power b s 53 k (omega (arith, w .0)) ∙ ap (λ (y : ℕ). y * (2 ^ k * 2 ^ k))
+    (sym (mul-assoc (b * 2 ^ s) 2 (2 ^ 52)) ∙ ap (λ (y : ℕ). y * 2 ^ 52) (sym (w .1 ∙ ap (λ (y : ℕ). y * 2) (digits-are b p l)))))
     t
 
 law : (b M R : ℕ) → 0 < b → b < 2 ^ 52 → Taken b M → Nearest M R → (1022 - shift b) / 2 * 2 ^ 52 + R ≡ toBits binary64 (sqrt binary64 (ofBits binary64 b))
 law b M R p l t n =
-    root-pattern (ofBits binary64 b) b M ((1022 - shift b) / 2) R (low-value b l) p (size-of b M p l t) (bounds b M p l t .0) (bounds b M p l t .1) (omega arith) n
+    root-pattern (ofBits binary64 b) b M ((1022 - shift b) / 2) R (low-value b l) p (size-of b M p l t) (bounds b M p l t .0) (bounds b M p l t .1)
+    (omega arith) n
 
 taken : (c : tie.Joined1) → Taken (c .before .args .b) (c .if1 .m)
 taken c = ⊎-elim (λ w. inl (w .0 .taken, w .1)) (λ w. inr (w .0 .left, w .1)) (c .if1 .came)
@@ -108,7 +110,11 @@ by-digits-requires c κs = omega (arith, bounds (c .before .args .b) (c .if1 .m)
 add-result : tie.Need-add-result
 add-result c =
     let d = c .before in
-    omega (arith, root-hi (d .if1 .m) (c .by-digits .result) (bounds (d .before .args .b) (d .if1 .m) (d .before .pre .0) (d .before .pre .1) (taken d) .1) (c .by-digits .ensures))
+    omega (
+      arith,
+      root-hi (d .if1 .m) (c .by-digits .result) (bounds (d .before .args .b) (d .if1 .m) (d .before .pre .0) (d .before .pre .1) (taken d) .1)
+          (c .by-digits .ensures),
+    )
 
 returns : tie.Need-returns
 returns c =

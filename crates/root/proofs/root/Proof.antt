@@ -1,6 +1,6 @@
 -- `root::root` meets its contract. Assumes nothing.
-use mathlib.Core.Path.{_≡_, refl, sym, ap, _∙_, subst}
-use mathlib.Core.Bool.{Bool, true, false, not}
+use mathlib.Core.Path.{_≡_, sym, ap, _∙_, subst}
+use mathlib.Core.Bool.{Bool, not}
 use lib.Dec.{T}
 use lib.Ieee.{Float, binary64, fits, isNan, toBits, ofBits}
 use lib.Ieee.Bits.{ofBits-toBits, nanBits-is}
@@ -10,9 +10,6 @@ use Rattle.root.proofs.Signs.{rootless, rooted, number, no-number}
 use borrow.Author.Needs.{needs}
 use Rattle.root.proofs.root.Statement.{statement}
 use Rattle.root.proofs.root.Tie as tie
-use Rattle.root.proofs.root.Reads as reads
-use Rattle.root.proofs.root.Lts as lts
-use Rattle.root.proofs.root_bits.Reads as root-bits-reads
 
 -- what owning an `f64` tells: the format holds it
 held : (c : tie.Start) → T (fits binary64 (c .args .x))
@@ -33,7 +30,8 @@ root-bits-requires c κs = search needs
 
 float-from-bits-result : tie.Need-float-from-bits-result
 float-from-bits-result c =
-    subst (λ (b : Bool). T (not b)) (sym (nanBits-is binary64 (c .root-bits .result) ∙ ap isNan (same c) ∙ rooted (c .before .before .args .x) (c .before .if1 .taken))) tt
+    let args = c .before .before .args in
+    subst (λ (b : Bool). T (not b)) (sym (nanBits-is binary64 (c .root-bits .result) ∙ ap isNan (same c) ∙ rooted (args .x) (c .before .if1 .taken))) tt
 
 returns : tie.Need-returns
 returns c = same c

@@ -8,10 +8,6 @@ use Rattle.root.proofs.Specials.{of-zero, of-minus-zero, of-infinity, o
 use borrow.Author.Needs.{needs}
 use Rattle.root.proofs.root_bits.Statement.{statement}
 use Rattle.root.proofs.root_bits.Tie as tie
-use Rattle.root.proofs.root_bits.Reads as reads
-use Rattle.root.proofs.root_bits.Lts as lts
-use Rattle.root.proofs.of_normal.Reads as of-normal-reads
-use Rattle.root.proofs.of_subnormal.Reads as of-subnormal-reads
 
 of-normal-requires : tie.Need-of-normal-requires
 of-normal-requires c κs = search needs

@@ -5,12 +5,10 @@ use mathlib.Core.Logic.{inl, inr}
 use native.Mathlib.Omega.{arith}
 use Rattle.root.specs.Root.{Nearest}
 use Rattle.root.proofs.Squares.{square-of-sum}
-use Rattle.rootguess.specs.Products.{mul-lt-pow}
+use Rattle.root_guess.specs.Products.{mul-lt-pow}
 use borrow.Author.Needs.{needs}
 use Rattle.root.proofs.settles.Statement.{statement}
 use Rattle.root.proofs.settles.Tie as tie
-use Rattle.root.proofs.settles.Reads as reads
-use Rattle.root.proofs.settles.Lts as lts
 
 -- The tests multiplied out are the two sides of `Nearest`.
 nearest : (u a b : ℕ) → a * b * 2 ≤ u * 2 ^ 22 + a → b * b < (u * 2 ^ 22 + a - a * b * 2) * 2 ^ 22 + b

@@ -1,10 +1,9 @@
+-- `root::square` meets its contract. Assumes nothing.
 use native.Mathlib.Omega.{arith}
-use Rattle.rootguess.specs.Products.{mul-lt-pow}
+use Rattle.root_guess.specs.Products.{mul-lt-pow}
 use borrow.Author.Needs.{needs}
 use Rattle.root.proofs.square.Statement.{statement}
 use Rattle.root.proofs.square.Tie as tie
-use Rattle.root.proofs.square.Reads as reads
-use Rattle.root.proofs.square.Lts as lts
 
 mul-result : tie.Need-mul-result
 mul-result c = omega (arith, mul-lt-pow 32 32 (c .pre) (c .pre))

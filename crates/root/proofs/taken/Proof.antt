@@ -1,9 +1,8 @@
+-- `root::taken` meets its contract. Assumes nothing.
 use borrow.Author.Needs.{needs}
 use borrow.Author.Tests.{eq-eqb, ne-eqb}
 use Rattle.root.proofs.taken.Statement.{statement}
 use Rattle.root.proofs.taken.Tie as tie
-use Rattle.root.proofs.taken.Reads as reads
-use Rattle.root.proofs.taken.Lts as lts
 
 add-f : tie.Need-add-f
 add-f c = search needs

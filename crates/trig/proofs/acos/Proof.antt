@@ -1,7 +1,6 @@
 -- `trig::acos` meets its contract: the root is the one that the steps take. Assumes nothing.
 use borrow.Author.Needs.{needs}
-use mathlib.Core.Path.{sym, subst}
-use Rattle.trig.specs.Trig.{acosSteps, atan2Steps}
+use Rattle.trig.specs.Trig.{acosSteps}
 use Rattle.trig.proofs.acos.Statement.{statement}
 use Rattle.trig.proofs.acos.Tie as tie
 

@@ -1,11 +1,6 @@
 -- `whole::ceil_count` meets its contract. Assumes nothing.
 use borrow.Author.Needs.{needs}
 use native.Mathlib.Omega.{arith}
-use mathlib.Core.Path.{_≡_, sym, _∙_, ap}
-use mathlib.Core.Bool.{Bool, cond}
-use Prim.Native.Nat.{ℕ, _+_}
-use lib.IntN.{pos}
-use lib.Ieee.{Float, binary64, lt, ofInt}
 use Rattle.whole.specs.Whole.{ceilCount}
 use Rattle.whole.proofs.Whole.{in-range, few, ceil-is}
 use Rattle.whole.proofs.ceil_count.Statement.{statement}

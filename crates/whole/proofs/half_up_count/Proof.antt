@@ -1,11 +1,6 @@
 -- `whole::half_up_count` meets its contract. Assumes nothing.
 use borrow.Author.Needs.{needs}
 use native.Mathlib.Omega.{arith}
-use mathlib.Core.Path.{_≡_, sym, _∙_, ap}
-use mathlib.Core.Bool.{Bool, cond}
-use Prim.Native.Nat.{ℕ, _+_}
-use lib.IntN.{pos}
-use lib.Ieee.{Float, binary64, lt, ofInt}
 use Rattle.whole.specs.Whole.{halfUpCount}
 use Rattle.whole.proofs.Whole.{in-range}
 use Rattle.whole.proofs.Half.{narrower, few, half-up-is}
@@ -13,7 +8,10 @@ use Rattle.whole.proofs.half_up_count.Statement.{statement}
 use Rattle.whole.proofs.half_up_count.Tie as tie
 
 truncating-f64-to-u64-requires : tie.Need-truncating-f64-to-u64-requires
-truncating-f64-to-u64-requires c κs = in-range (c .before .before .args .x) (c .before .if1 .taken) (narrower (c .before .before .args .x) (c .before .if1 .taken) (c .if2 .taken))
+truncating-f64-to-u64-requires c κs =
+    let if1 = c .before .if1 in
+    let args = c .before .before .args in
+    in-range (args .x) (if1 .taken) (narrower (args .x) (if1 .taken) (c .if2 .taken))
 
 nearest-u64-to-f64-requires : tie.Need-nearest-u64-to-f64-requires
 nearest-u64-to-f64-requires c κs = search needs

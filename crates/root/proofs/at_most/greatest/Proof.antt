@@ -1,12 +1,8 @@
-use mathlib.Core.Path.{_≡_, _∙_}
-use native.Mathlib.Omega.{arith}
+-- `root::at_most::greatest` meets its contract. Assumes nothing.
 use borrow.Author.Needs.{needs}
 use Rattle.root.proofs.Bound.{by-halves}
 use Rattle.root.proofs.at_most.greatest.Statement.{statement}
 use Rattle.root.proofs.at_most.greatest.Tie as tie
-use Rattle.root.proofs.at_most.greatest.Reads as reads
-use Rattle.root.proofs.at_most.greatest.Lts as lts
-use Rattle.root.proofs.at_most.product.Reads as product-reads
 
 product-requires : tie.Need-product-requires
 product-requires c κs = search needs

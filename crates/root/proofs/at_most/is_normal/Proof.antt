@@ -1,3 +1,4 @@
+-- `root::at_most::is_normal` meets its contract. Assumes nothing.
 use borrow.Author.Tests.{le-leb, lt-leb}
 use Rattle.root.proofs.at_most.is_normal.Statement.{statement}
 use Rattle.root.proofs.at_most.is_normal.Tie as tie

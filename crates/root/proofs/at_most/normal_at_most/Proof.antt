@@ -1,13 +1,8 @@
-use mathlib.Core.Path.{_≡_, sym, ap, _∙_}
-use native.Mathlib.Omega.{arith}
+-- `root::at_most::normal_at_most` meets its contract. Assumes nothing.
 use borrow.Author.Needs.{needs}
 use Rattle.root.proofs.Bound.{Normals, by-power, by-digits}
 use Rattle.root.proofs.at_most.normal_at_most.Statement.{statement}
 use Rattle.root.proofs.at_most.normal_at_most.Tie as tie
-use Rattle.root.proofs.at_most.normal_at_most.Reads as reads
-use Rattle.root.proofs.at_most.normal_at_most.Lts as lts
-use Rattle.root.proofs.at_most.greatest.Reads as greatest-reads
-use Rattle.root.proofs.taken.Reads as taken-reads
 
 normals : (c : tie.Start) → Normals (c .args .x) (c .args .y)
 normals c = record { x-lo = c .pre .0 .0; x-hi = c .pre .0 .1; y-lo = c .pre .1 .0; y-hi = c .pre .1 .1 }

@@ -1,6 +1,7 @@
+-- `root::at_most::product` meets its contract. Assumes nothing.
 use mathlib.Core.Path.{refl}
 use native.Mathlib.Omega.{arith}
-use Rattle.rootguess.specs.Products.{mul-lt-pow}
+use Rattle.root_guess.specs.Products.{mul-lt-pow}
 use Rattle.root.proofs.at_most.product.Statement.{statement}
 use Rattle.root.proofs.at_most.product.Tie as tie
 

@@ -1,5 +1,5 @@
-use mathlib.Core.Path.{_≡_, sym, ap, _∙_, subst}
-use mathlib.Core.Bool.{Bool}
+-- `root::at_most::root_at_most` meets its contract. Assumes nothing.
+use mathlib.Core.Path.{sym, ap, _∙_, subst}
 use lib.Dec.{T}
 use lib.Ieee.{Float, binary64, fits, le, ofBits}
 use lib.Ieee.Bits.{ofBits-toBits}
@@ -8,12 +8,6 @@ use Rattle.root.proofs.Bound.{normal-is}
 use borrow.Author.Needs.{needs}
 use Rattle.root.proofs.at_most.root_at_most.Statement.{statement}
 use Rattle.root.proofs.at_most.root_at_most.Tie as tie
-use Rattle.root.proofs.at_most.root_at_most.Reads as reads
-use Rattle.root.proofs.at_most.root_at_most.Lts as lts
-use Rattle.floats.proofs.bits.Reads as bits-reads
-use Rattle.root.proofs.at_most.is_normal.Reads as is-normal-reads
-use Rattle.root.proofs.at_most.normal_at_most.Reads as normal-at-most-reads
-use Rattle.root.proofs.root.Reads as root-reads
 
 -- what owning an `f64` tells: the format holds it
 held-x : (c : tie.Start) → T (fits binary64 (c .args .x))
@@ -38,15 +32,19 @@ normal-at-most-requires : tie.Need-normal-at-most-requires
 normal-at-most-requires c κs =
     let second = c .before in
     let first = second .before .before in
-    (normal-is (first .before .before .bits .result) (sym (first .is-normal .ensures) ∙ second .before .if1 .taken), normal-is (first .before .bits2 .result) (sym (second .is-normal2 .ensures) ∙ c .if2 .taken))
+    let x = normal-is (first .before .before .bits .result) (sym (first .is-normal .ensures) ∙ second .before .if1 .taken) in
+    let y = normal-is (first .before .bits2 .result) (sym (second .is-normal2 .ensures) ∙ c .if2 .taken) in
+    (x, y)
 
 returns : tie.Need-returns
 returns c =
     let at = c .before .before .before .before .before in
     let start = at .before .before in
     c .normal-at-most .ensures
-    ∙ ap (λ (z : Float). le (sqrt binary64 z) (ofBits binary64 (at .bits2 .result))) (ap (ofBits binary64) (at .before .bits .ensures) ∙ ofBits-toBits binary64 (start .args .x) (held-x start))
-    ∙ ap (λ (z : Float). le (sqrt binary64 (start .args .x)) z) (ap (ofBits binary64) (at .bits2 .ensures) ∙ ofBits-toBits binary64 (start .args .y) (held-y start))
+    ∙ ap (λ (z : Float). le (sqrt binary64 z) (ofBits binary64 (at .bits2 .result)))
+    (ap (ofBits binary64) (at .before .bits .ensures) ∙ ofBits-toBits binary64 (start .args .x) (held-x start))
+    ∙ ap (λ (z : Float). le (sqrt binary64 (start .args .x)) z)
+    (ap (ofBits binary64) (at .bits2 .ensures) ∙ ofBits-toBits binary64 (start .args .y) (held-y start))
 
 root-requires : tie.Need-root-requires
 root-requires c κs = search needs

@@ -1,0 +1,4 @@
+pub mod Arc
+pub mod Plan
+pub mod ArcLaws
+pub mod PlanLaws

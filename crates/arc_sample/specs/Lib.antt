@@ -1,0 +1,5 @@
+pub mod Samples
+pub mod Rowing
+pub mod Draw
+pub mod Drawn
+pub mod Asks

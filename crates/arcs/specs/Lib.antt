@@ -1,3 +1,0 @@
-pub mod Arc
-pub mod Plan
-pub mod ArcLaws

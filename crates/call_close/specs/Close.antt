@@ -1,0 +1,39 @@
+-- DEFINITIONS. What a close answers and leaves: rules 2.20, 3.15. Assumes nothing.
+use Prim.Native.Nat.{ℕ, _/_}
+use mathlib.Core.Bool.{Bool, cond}
+use mathlib.Core.List.{List, []}
+use lib.ListN.{length}
+use lib.Dec.{leb, eqb}
+use Rattle.floats.specs.Lists.{flatten, spliced}
+use Rattle.layout.specs.Layout.{rowWords}
+use Rattle.saved_state.specs.State.{held, savedCheck}
+use Rattle.call_reply.specs.declared.Reply.{Reply}
+use Rattle.call_reply.specs.Replies.{plain, After, tooFew}
+use Rattle.call_close.specs.Held.{emission}
+use Rattle.push_state.specs.Pushed.{forgotten}
+
+-- 2.3: a refusal leaves every word
+unfoldable pub untouched : Reply → List ℕ → List ℕ → List ℕ → After
+untouched p st store rows = record { reply = p; state = st; store = store; rows = rows }
+
+abbrev pub fits : List (List ℕ) → List ℕ → Bool
+fits out rows = leb (length out) (length rows / rowWords)
+
+unfoldable pub closeRows : List ℕ → List ℕ → List (List ℕ)
+closeRows st store = cond (eqb (held st) 0) [] (emission st store)
+
+unfoldable pub closeState : List ℕ → List ℕ
+closeState st = cond (eqb (held st) 0) st (forgotten st)
+
+-- 2.20: the order of refusals
+unfoldable pub closeSpec : List ℕ → List ℕ → List ℕ → After
+closeSpec st store rows =
+    let out = closeRows st store in
+    let done : After = record {
+      reply = record { code = 0; count = length out; warning = 0; wanted = 0; held = 0 };
+      state = closeState st;
+      store = store;
+      rows = spliced rows 0 (flatten out);
+    } in
+    let room = cond (fits out rows) done (untouched (tooFew (length out)) st store rows) in
+    cond (eqb (savedCheck st store) 0) room (untouched (plain (savedCheck st store)) st store rows)

@@ -1,0 +1,53 @@
+-- Replies, and what a call answers and leaves, as its contract says it. Assumes nothing.
+use Prim.Native.Nat.{ℕ}
+use mathlib.Core.Path.{_≡_, sym, _∙_, ap}
+use mathlib.Core.List.{List}
+use Rattle.call_reply.specs.declared.Reply.{Reply}
+
+-- 2.4: a reply that has its number alone
+abbrev pub plain : ℕ → Reply
+plain n = record { code = n; count = 0; warning = 0; wanted = 0; held = 0 }
+
+-- 2.11: 7, with the rows that the call needs
+unfoldable pub tooFew : ℕ → Reply
+tooFew n = record { code = 7; count = n; warning = 0; wanted = 0; held = 0 }
+
+-- what a call that is done answers
+abbrev pub doneReply : ℕ → ℕ → ℕ → ℕ → Reply
+doneReply count warning wanted held = record { code = 0; count = count; warning = warning; wanted = wanted; held = held }
+
+-- ---- a call on the state alone: what it answers and leaves
+pub record AfterState : Type 0 where
+  pub reply : Reply
+  pub state : List ℕ
+
+-- its contract: the reply and the state are what p says
+pub record StateIs (p : AfterState) (r : Reply) (s : List ℕ) : Type 0 where
+  pub reply : r ≡ p .reply
+  pub state : s ≡ p .state
+
+pub state-is : {a b : AfterState} {r : Reply} {s : List ℕ} → a ≡ b → r ≡ b .reply → s ≡ b .state → StateIs a r s
+state-is e p q = record { reply = p ∙ sym (ap (λ (z : AfterState). z .reply) e); state = q ∙ sym (ap (λ (z : AfterState). z .state) e) }
+
+-- ---- a push or a close: what it answers, and what it leaves in each slice
+pub record After : Type 0 where
+  pub reply : Reply
+  pub state : List ℕ
+  pub store : List ℕ
+  pub rows : List ℕ
+
+-- its contract: the reply and each slice are what p says
+pub record PushIs (p : After) (r : Reply) (s t u : List ℕ) : Type 0 where
+  pub reply : r ≡ p .reply
+  pub state : s ≡ p .state
+  pub store : t ≡ p .store
+  pub rows : u ≡ p .rows
+
+pub answers : {a b : After} {r : Reply} {s t u : List ℕ} → a ≡ b → r ≡ b .reply → s ≡ b .state → t ≡ b .store → u ≡ b .rows → PushIs a r s t u
+answers e p q x y =
+    record {
+      reply = p ∙ sym (ap (λ (z : After). z .reply) e);
+      state = q ∙ sym (ap (λ (z : After). z .state) e);
+      store = x ∙ sym (ap (λ (z : After). z .store) e);
+      rows = y ∙ sym (ap (λ (z : After). z .rows) e);
+    }

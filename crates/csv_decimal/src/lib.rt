@@ -1,0 +1,151 @@
+// The numbers of the row text: a size in millionths, nearest with ties to even, and a whole number
+// over a power of ten.
+ghost use mathlib.Core.Path.{_≡_};
+ghost use Prim.Native.Nat.{_+_, _*_, _/_, _%_, _^_, _≤_, _<_};
+ghost use lib.Ieee as Ieee;
+ghost use lib.Ieee.{binary64};
+ghost use lib.Ieee.Nearest.{closest};
+ghost use Rattle.csv_decimal.specs.Decimal.{millionths, quotient, width, Sticky};
+
+// 10^9 in millionths: what is not below it is not written.
+const TOO_LARGE: u64 = 1000000000000000;
+
+// d / 2^(j + 1) to the nearest whole number, a tie to the even one.
+fn half_even(d: u64, j: u64) -> u64
+    requires { ⌜ j < 63 ⌝ }
+    ensures { λ r. ⌜ r ≡ closest d (2 ^ (j + 1)) ⌝ }
+{
+    let h = d >> j;
+    let q = h / 2;
+    if h % 2 == 0 {
+        return q;
+    }
+    if h << j == d {
+        return q + q % 2;
+    }
+    q + 1
+}
+
+// Twice m * 15625 / 1024, and one more where the division leaves a rest: m * 10^6 has up to 73 bits, and this
+// is enough of them to round by.
+fn sticky(m: u64) -> u64
+    requires { ⌜ m < 2 ^ 53 ⌝ }
+    ensures { λ r. ⌜ Sticky (m * 15625) r ⌝ }
+{
+    let p = m * 125;
+    let low = p % 1024 * 125;
+    let c = p / 1024 * 125 + low / 1024;
+    if low % 1024 == 0 {
+        return 2 * c;
+    }
+    2 * c + 1
+}
+
+// m / 2^s in millionths, to the nearest whole number, a tie to the even one.
+fn scaled(m: u64, s: u64) -> u64
+    requires { ⌜ (m < 2 ^ 53) × ((23 ≤ s) × (s ≤ 74)) ⌝ }
+    ensures { λ r. ⌜ r ≡ closest (m * 1000000) (2 ^ s) ⌝ }
+{
+    half_even(sticky(m), s - 16)
+}
+
+// The size in millionths of the number with the pattern b. Below the exponent field 1001 it is under half a
+// millionth, from 1053 on at least 2^30.
+fn size_of_bits(b: u64) -> u64
+    ensures { λ r. ⌜ r ≡ millionths (Ieee.ofBits binary64 b) ⌝ }
+{
+    let e = b / 0x10_0000_0000_0000 % 2048;
+    if e <= 1000 {
+        return 0;
+    }
+    if e >= 1053 {
+        return TOO_LARGE;
+    }
+    let r = scaled(b % 0x10_0000_0000_0000 + 0x10_0000_0000_0000, 1075 - e);
+    if r < TOO_LARGE {
+        return r;
+    }
+    TOO_LARGE
+}
+
+// The size of x in millionths; 10^15 stands for all that is not below it, a NaN too.
+pub fn in_millionths(x: f64) -> u64
+    ensures { λ r. ⌜ r ≡ millionths x ⌝ }
+{
+    size_of_bits(floats::bits(x))
+}
+
+// 10^k, for a k below 10.
+fn power(k: usize) -> u64
+    requires { ⌜ k < 10 ⌝ }
+    ensures { λ r. ⌜ r ≡ 10 ^ k ⌝ }
+{
+    match k {
+        0 => 1,
+        1 => 10,
+        2 => 100,
+        3 => 1000,
+        4 => 10000,
+        5 => 100000,
+        6 => 1000000,
+        7 => 10000000,
+        8 => 100000000,
+        _ => 1000000000,
+    }
+}
+
+// The last digit of v, as a byte.
+pub fn last_figure(v: u64) -> u8
+    ensures { λ r. ⌜ r ≡ 48 + v % 10 ⌝ }
+{
+    (48 + v % 10) as u8
+}
+
+// How many digits n has.
+pub fn digits(n: u64) -> usize
+    ensures { λ r. ⌜ r ≡ width n ⌝ }
+{
+    if n < 10 {
+        return 1;
+    }
+    if n < 100 {
+        return 2;
+    }
+    if n < 1000 {
+        return 3;
+    }
+    if n < 10000 {
+        return 4;
+    }
+    if n < 100000 {
+        return 5;
+    }
+    if n < 1000000 {
+        return 6;
+    }
+    if n < 10000000 {
+        return 7;
+    }
+    if n < 100000000 {
+        return 8;
+    }
+    if n < 1000000000 {
+        return 9;
+    }
+    10
+}
+
+// n / 10^k, with a minus sign if it is not zero.
+pub fn over_power(minus: bool, n: u64, k: usize) -> f64
+    requires { ⌜ k < 10 ⌝ }
+    ensures { λ r. ⌜ r ≡ quotient minus n k ⌝ }
+{
+    let q = std::num::nearest_u64_to_f64(n) / std::num::nearest_u64_to_f64(power(k));
+    if minus {
+        if n > 0 {
+            return -q;
+        }
+        return q;
+    }
+    q
+}

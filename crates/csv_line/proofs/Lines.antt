@@ -1,0 +1,126 @@
+-- What the functions on lines do. Assumes nothing.
+use Prim.Native.Nat.{ℕ, suc, _+_, _-_, _≤_, _<_}
+use mathlib.Core.Path.{_≡_, refl, sym, ap, _∙_}
+use mathlib.Core.Bool.{Bool, true, false, _&&_}
+use mathlib.Core.List.{List, [], _∷_}
+use native.Mathlib.Omega.{arith}
+use native.Mathlib.Numerals.{add-one}
+use lib.Dec.{eqb}
+use lib.ListN.{length, take, drop, getD, set, length-set}
+use lib.Seq.{sets, take-suc, take-length, drop-cons, drop-length, length-take-le}
+use borrow.Author.Tests.{lt-ltb, le-ltb, eq-eqb, ne-eqb}
+use Rattle.csv_fields.specs.Out.{Wrote, sets-append, wrote-then}
+use Rattle.csv_fields.specs.Write.{wholeText}
+use Rattle.csv_fields.specs.Writers.{whole-length, width-ten}
+use Rattle.csv_words.specs.Text.{bytes}
+use Rattle.csv_words.specs.Words.{same}
+use Rattle.csv_line.specs.declared.End.{End}
+use Rattle.csv_line.specs.declared.End.the-variants as End
+use Rattle.csv_line.specs.LineText.{comma, crlf, endOf}
+use Rattle.csv_line.specs.Notice.{noticeText}
+
+-- ---- `text_end`
+module _ (s : List ℕ) where
+  pub end-short : length s < 2 → End.Bad ≡ endOf s
+  unfolding endOf
+  end-short h = rw (lt-ltb (length s) 2 h)
+
+  module _ (h : 2 ≤ length s) where
+    pub end-no-cr : (getD s (length s - 2) 0 ≡ 13 → ⊥) → End.Bad ≡ endOf s
+    unfolding endOf
+    end-no-cr n = rw (le-ltb (length s) 2 h, ne-eqb (getD s (length s - 2) 0) 13 n)
+
+    pub end-no-lf : getD s (length s - 2) 0 ≡ 13 → (getD s (length s - 2 + 1) 0 ≡ 10 → ⊥) → End.Bad ≡ endOf s
+    unfolding endOf
+    end-no-lf e n = rw (le-ltb (length s) 2 h, eq-eqb (getD s (length s - 2) 0) 13 e, ne-eqb (getD s (length s - 2 + 1) 0) 10 n)
+
+    pub end-found : getD s (length s - 2) 0 ≡ 13 → getD s (length s - 2 + 1) 0 ≡ 10 → End.Upto (length s - 2) ≡ endOf s
+    unfolding endOf
+    end-found e f = rw (le-ltb (length s) 2 h, eq-eqb (getD s (length s - 2) 0) 13 e, eq-eqb (getD s (length s - 2 + 1) 0) 10 f)
+
+-- ---- `is_same`: what is left of both is to be compared
+pub record Comparing (a b : List ℕ) (i : ℕ) : Type 0 where
+  pub within : i ≤ length a
+  pub long : length a ≡ length b
+  pub left : same a b ≡ same (drop i a) (drop i b)
+
+pub same-long : (a b : List ℕ) → (length a ≡ length b → ⊥) → false ≡ same a b
+same-long [] [] n = absurd (n refl)
+same-long [] (d ∷ b) n = refl
+same-long (c ∷ a) [] n = refl
+same-long (c ∷ a) (d ∷ b) n = go (eqb c d) (same-long a b (λ (e : length a ≡ length b). n (ap suc e)))
+  where
+    go : (z : Bool) → false ≡ same a b → false ≡ (z && same a b)
+    go true h = h
+    go false h = refl
+
+module _ {a b : List ℕ} {i : ℕ} (c : Comparing a b i) where
+  parts : i < length a → same a b ≡ (eqb (getD a i 0) (getD b i 0) && same (drop (suc i) a) (drop (suc i) b))
+  parts h =
+      let k : i < length b = omega (arith, c .long) in
+      c .left ∙ ap (λ (l : List ℕ). same l (drop i b)) (drop-cons a i 0 h) ∙ ap (same (getD a i 0 ∷ drop (suc i) a)) (drop-cons b i 0 k)
+
+  pub same-on : i < length a → getD a i 0 ≡ getD b i 0 → Comparing a b (i + 1)
+  same-on h e =
+      record {
+        within = omega arith;
+        long = c .long;
+        left =
+            parts h
+            ∙ ap (λ (z : Bool). z && same (drop (suc i) a) (drop (suc i) b)) (eq-eqb (getD a i 0) (getD b i 0) e)
+            ∙ ap (λ (k : ℕ). same (drop k a) (drop k b)) (sym (add-one i));
+      }
+
+  pub same-not : i < length a → (getD a i 0 ≡ getD b i 0 → ⊥) → false ≡ same a b
+  same-not h n = sym (parts h ∙ ap (λ (z : Bool). z && same (drop (suc i) a) (drop (suc i) b)) (ne-eqb (getD a i 0) (getD b i 0) n))
+
+  pub same-all : length a ≤ i → true ≡ same a b
+  same-all h =
+      let e : i ≡ length a = omega (arith, c .within) in
+      let f : i ≡ length b = omega (arith, c .long) in
+      sym
+      (c .left
+      ∙ ap (λ (k : ℕ). same (drop k a) (drop i b)) e
+      ∙ ap (λ (k : ℕ). same (drop (length a) a) (drop k b)) f
+      ∙ ap (λ (l : List ℕ). same l (drop (length b) b)) (drop-length a)
+      ∙ ap (same []) (drop-length b))
+
+-- ---- `put_bytes`: the first i bytes of s are stored
+pub record Storing (s o : List ℕ) (n i : ℕ) (o′ : List ℕ) : Type 0 where
+  pub within : i ≤ length s
+  pub text : o′ ≡ sets o n (take i s)
+  pub long : length o′ ≡ length o
+
+pub stores-more : {s o o′ : List ℕ} {n i : ℕ} → Storing s o n i o′ → i < length s → Storing s o n (i + 1) (set o′ (n + i) (getD s i 0))
+stores-more {s} {o} {o′} {n} {i} c h =
+    let t = take i s in
+    let l : length t ≡ i = length-take-le i s (c .within) in
+    let v = getD s i 0 in
+    record {
+      within = omega arith;
+      text =
+          ap (λ (x : List ℕ). set x (n + i) v) (c .text)
+          ∙ ap (λ (k : ℕ). set (sets o n t) (n + k) v) (sym l)
+          ∙ sym (sets-append t (v ∷ []) o n)
+          ∙ ap (sets o n) (sym (take-suc s i 0 h) ∙ ap (λ (k : ℕ). take k s) (sym (add-one i)));
+      long = length-set o′ (n + i) v ∙ c .long;
+    }
+
+pub stored-all : {s o o′ : List ℕ} {n i : ℕ} → Storing s o n i o′ → length s ≤ i → Wrote o n s o′ (n + i)
+stored-all {s} {o} {o′} {n} {i} c h =
+    let e : i ≡ length s = omega (arith, c .within) in
+    record { next = ap (λ (k : ℕ). n + k) e; text = c .text ∙ ap (λ (k : ℕ). sets o n (take k s)) e ∙ ap (sets o n) (take-length s) }
+
+-- ---- a line of standard error
+module _ {o o₁ o₂ o₃ : List ℕ} {n a b c : ℕ} (line number : ℕ) (u : Wrote o n (wholeText line) o₁ a) (v : Wrote o₁ a (comma ∷ []) o₂ b)
+    (w : Wrote o₂ b (wholeText number) o₃ c) where
+  pub warned : {o′ : List ℕ} {r : ℕ} → Wrote o₃ c crlf o′ r → Wrote o n (noticeText line number false) o′ r
+  unfolding noticeText
+  warned z = wrote-then u (wrote-then (wrote-then v w) z)
+
+  pub refused : {o₄ o′ : List ℕ} {d r : ℕ} → Wrote o₃ c (bytes ",refused") o₄ d → Wrote o₄ d crlf o′ r → Wrote o n (noticeText line number true) o′ r
+  unfolding noticeText
+  refused y z = wrote-then u (wrote-then (wrote-then v w) (wrote-then y z))
+
+pub whole-short : {o o′ : List ℕ} {n r : ℕ} (v : ℕ) → Wrote o n (wholeText v) o′ r → (r ≤ n + 10) × (length o′ ≡ length o)
+whole-short {o} {o′} {n} {r} v w = (omega (arith, w .next, whole-length v, width-ten v), Rattle.csv_fields.specs.Out.wrote-length w)

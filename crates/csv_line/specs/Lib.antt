@@ -1,0 +1,4 @@
+pub mod LineText
+pub mod All
+pub mod Notice
+pub mod Planes

@@ -1,0 +1,61 @@
+-- DEFINITIONS. What the row text program says to a header, to what a call answered, and to text that it cannot read. Assumes nothing.
+use Prim.Native.Nat.{ℕ, _+_, _*_}
+use mathlib.Core.Bool.{Bool, true, false, cond}
+use mathlib.Core.List.{List, [], _++_}
+use lib.Dec.{ltb, eqb}
+use Rattle.csv_words.specs.Words.{same}
+use Rattle.csv_line.specs.LineText.{crlf, header, headerOut}
+use Rattle.csv_line.specs.Notice.{noticeText}
+use Rattle.csv_write.specs.Writer.{rowsText, rowsWritable}
+
+-- how many bytes the lines are never longer than: one of standard error, the header, a row
+abbrev pub noticeRoom : ℕ
+noticeRoom = 32
+
+abbrev pub headerRoom : ℕ
+headerRoom = 80
+
+abbrev pub rowRoom : ℕ
+rowRoom = 256
+
+-- how many rows a call is lent room for, and how many bytes they are never more than
+abbrev pub lentRows : ℕ
+lentRows = 256
+
+abbrev pub callRoom : ℕ
+callRoom = rowRoom * lentRows
+
+-- the refusal of text, and of a row whose numbers have none
+abbrev pub badText : ℕ
+badText = 10
+
+-- the lines of the input are counted from 1 up to this one
+abbrev pub lastLine : ℕ
+lastLine = 9999999999
+
+unfoldable pub nextLine : ℕ → ℕ
+nextLine n = cond (ltb n lastLine) (n + 1) n
+
+-- what is said: whether it is a refusal, the bytes for standard output, and those for standard error
+pub record Say : Type 0 where
+  pub refused : Bool
+  pub out : List ℕ
+  pub err : List ℕ
+
+-- a refusal writes no row
+unfoldable pub refusal : ℕ → ℕ → Say
+refusal line number = record { refused = true; out = []; err = noticeText line number true }
+
+-- the first line, at its number: the one header is read, and then the other is written
+unfoldable pub heading : ℕ → List ℕ → Say
+heading physical text = cond (same header text) (record { refused = false; out = headerOut ++ crlf; err = [] }) (refusal physical badText)
+
+-- 0 is no warning
+unfoldable pub warningText : ℕ → ℕ → List ℕ
+warningText source warning = cond (eqb warning 0) [] (noticeText source warning false)
+
+-- a call answered at a source line: all its rows and its warning, or its refusal, or that a number of them has no text
+unfoldable pub answer : ℕ → ℕ → ℕ → ℕ → List ℕ → Say
+answer source code count warning rows =
+    let done : Say = record { refused = false; out = rowsText rows count; err = warningText source warning } in
+    cond (eqb code 0) (cond (rowsWritable rows count) done (refusal source badText)) (refusal source code)

@@ -1,0 +1,205 @@
+-- LAWS. From what the writers of lines promise to the bytes that wait. Assumes nothing.
+use Prim.Native.Nat.{ℕ, zero, suc, _+_, _-_, _*_, _≤_, _<_, zero-le}
+use mathlib.Core.Path.{_≡_, refl, sym, ap, _∙_, subst}
+use mathlib.Core.Bool.{Bool, true, false, cond}
+use mathlib.Core.List.{List, [], _∷_, _++_, append-nil}
+use native.Mathlib.Omega.{arith}
+use native.Mathlib.Nat.{mul-suc, add-zero}
+use lib.ListN.{length, take, drop, length-append}
+use lib.Seq.{sets, sets-eq, length-sets, take-at, length-take-le}
+use borrow.Author.Tests.{eq-eqb, ne-eqb}
+use Rattle.floats.specs.Lists.{upto, flatten}
+use Rattle.csv_fields.specs.declared.Placed.{Placed}
+use Rattle.csv_fields.specs.declared.Placed.the-variants as Placed
+use Rattle.csv_fields.specs.Out.{Wrote}
+use Rattle.csv_fields.specs.Write.{wholeText}
+use Rattle.csv_fields.specs.Writers.{whole-length, width-ten}
+use Rattle.csv_words.specs.Text.{bytes}
+use Rattle.csv_words.specs.Words.{same}
+use Rattle.csv_line.specs.LineText.{crlf, header, headerOut}
+use Rattle.csv_line.specs.All.{all-at}
+use Rattle.csv_write.specs.Texts.{flatten-more, row-length}
+use Rattle.csv_line.specs.Notice.{noticeText}
+use Rattle.csv_write.specs.Writer.{rowText, rowAt, rowsText, writable, rowsWritable, Tried}
+use Rattle.csv_out.specs.declared.Run.{Run}
+use Rattle.csv_out.specs.Say.{Say, noticeRoom, headerRoom, rowRoom, badText, refusal, heading, warningText, answer}
+use Rattle.csv_out.specs.Said.{Adds, Noted, Said}
+
+-- ---- how long the lines are
+pub notice-short : (line number : ℕ) (refused : Bool) → length (noticeText line number refused) ≤ noticeRoom
+unfolding noticeText
+notice-short line number refused = go (cond refused (bytes ",refused") []) (short refused)
+  where
+    short : (b : Bool) → length (cond b (bytes ",refused") []) ≤ 8
+    short true = lib.Dec.lit≤ tt
+    short false = lib.Dec.lit≤ tt
+
+    go : (w : List ℕ) → length w ≤ 8 → length (wholeText line ++ ((44 ∷ wholeText number) ++ (w ++ crlf))) ≤ noticeRoom
+    go w h =
+        let a = length-append (wholeText line) ((44 ∷ wholeText number) ++ (w ++ crlf)) in
+        let b = length-append (44 ∷ wholeText number) (w ++ crlf) in
+        omega (arith, a, b, length-append w crlf, whole-length line, whole-length number, width-ten line, width-ten number)
+
+pub header-short : length (headerOut ++ crlf) ≤ headerRoom
+header-short = lib.Dec.lit≤ tt
+
+several : (f : ℕ → List ℕ) (n : ℕ) → ((i : ℕ) → i < n → length (f i) ≤ rowRoom) → length (flatten (upto f n)) ≤ rowRoom * n
+unfolding upto flatten
+several f zero h = zero-le
+several f (suc n) h =
+    let r = several f n (λ (i : ℕ) (l : i < n). h i (omega arith)) in
+    let e = ap length (flatten-more f n) ∙ length-append (flatten (upto f n)) (f n) in
+    omega (arith, e, h n (omega arith), mul-suc rowRoom n)
+
+pub rows-short : (rows : List ℕ) (k : ℕ) → rowsWritable rows k ≡ true → length (rowsText rows k) ≤ rowRoom * k
+unfolding rowsWritable rowsText
+rows-short rows k e =
+    let shown = all-at k (λ (i : ℕ). writable (rowAt rows i)) e in
+    several (λ (i : ℕ). rowText (rowAt rows i)) k (λ (i : ℕ) (l : i < k). row-length (rowAt rows i) (shown i l))
+
+-- ---- bytes that are added
+pub adds-none : (o : List ℕ) (n : ℕ) → Adds [] o n o n
+adds-none o n = record { count = sym (add-zero n); bytes = sym (append-nil (take n o)); same = refl }
+
+pub adds-text : (t o o′ : List ℕ) (n r : ℕ) → n + length t ≤ length o → r ≡ n + length t → o′ ≡ sets o n t → Adds t o n o′ r
+adds-text t o o′ n r h e w =
+    let long : length (take n o ++ t) ≡ r = length-append (take n o) t ∙ ap (λ (k : ℕ). k + length t) (length-take-le n o (omega arith)) ∙ sym e in
+    record {
+      count = e;
+      bytes = ap (λ (l : List ℕ). take r l) (w ∙ sets-eq t o n h) ∙ take-at (take n o ++ t) (drop (n + length t) o) r long;
+      same = ap length w ∙ length-sets o n t;
+    }
+
+pub adds-wrote : {t o o′ : List ℕ} {n r : ℕ} → n + length t ≤ length o → Wrote o n t o′ r → Adds t o n o′ r
+adds-wrote {t} {o} {o′} {n} {r} h w = adds-text t o o′ n r h (w .next) (w .text)
+
+pub adds-kept : (o o′ : List ℕ) (n : ℕ) → take n o′ ≡ take n o → length o′ ≡ length o → Adds [] o n o′ n
+adds-kept o o′ n e l = record { count = sym (add-zero n); bytes = e ∙ sym (append-nil (take n o)); same = l }
+
+-- ---- notices
+pub noted-said : {t e e′ : List ℕ} {run r : Run} (b : Bool) (o o′ : List ℕ) → take (run .out) o′ ≡ take (run .out) o → length o′ ≡ length o
+    → Noted b t run e r e′ → Said (record { refused = b; out = []; err = t }) run o e r o′ e′
+noted-said {t} {e} {e′} {run} {r} b o o′ k l n =
+    record {
+      physical = n .physical;
+      source = n .source;
+      refused = n .refused;
+      out = subst (λ (m : ℕ). Adds [] o (run .out) o′ m) (sym (n .out)) (adds-kept o o′ (run .out) k l);
+      err = n .err;
+    }
+
+-- ---- what is said, by cases
+abbrev pub says : Bool → List ℕ → List ℕ → Say
+says b o e = record { refused = b; out = o; err = e }
+
+pub heading-good : (physical : ℕ) (text : List ℕ) → same header text ≡ true → heading physical text ≡ says false (headerOut ++ crlf) []
+unfolding heading
+heading-good physical text e = rw e
+
+pub heading-bad : (physical : ℕ) (text : List ℕ) → same header text ≡ false → heading physical text ≡ says true [] (noticeText physical badText true)
+unfolding heading refusal
+heading-bad physical text e = rw e
+
+pub warning-none : (source warning : ℕ) → warning ≡ 0 → warningText source warning ≡ []
+unfolding warningText
+warning-none source warning e = rw (eq-eqb warning 0 e)
+
+pub warning-some : (source warning : ℕ) → (warning ≡ 0 → ⊥) → warningText source warning ≡ noticeText source warning false
+unfolding warningText
+warning-some source warning e = rw (ne-eqb warning 0 e)
+
+module _ (source code count warning : ℕ) (rows : List ℕ) where
+  pub answer-refused : (code ≡ 0 → ⊥) → answer source code count warning rows ≡ says true [] (noticeText source code true)
+  unfolding answer refusal
+  answer-refused e = rw (ne-eqb code 0 e)
+
+  pub answer-bad : code ≡ 0 → rowsWritable rows count ≡ false → answer source code count warning rows ≡ says true [] (noticeText source badText true)
+  unfolding answer refusal
+  answer-bad e f = rw (eq-eqb code 0 e, f)
+
+  pub answer-done : code ≡ 0 → rowsWritable rows count ≡ true
+      → answer source code count warning rows ≡ says false (rowsText rows count) (warningText source warning)
+  unfolding answer
+  answer-done e f = rw (eq-eqb code 0 e, f)
+
+-- ---- rows that were tried
+same-place : (a b : ℕ) → Placed.Upto a ≡ Placed.Upto b → a ≡ b
+same-place a b e = cc
+
+no-place : (a : ℕ) → Placed.Upto a ≡ Placed.Refused → ⊥
+no-place a e = let z : _≡_ {A = ℕ} 0 1 = cc in omega arith
+
+pub tried-bad : {ok : Bool} {t o o′ : List ℕ} {n : ℕ} {r : Placed} → Tried ok t o n o′ r → r ≡ Placed.Refused → ok ≡ false
+tried-bad {ok} {t} {o} {o′} {n} {r} w e = go ok (sym (w .answer) ∙ e)
+  where
+    go : (b : Bool) → cond b (Placed.Upto (n + length t)) Placed.Refused ≡ Placed.Refused → b ≡ false
+    go true q = absurd (no-place (n + length t) q)
+    go false q = refl
+
+pub tried-good : {ok : Bool} {t o o′ : List ℕ} {n m : ℕ} {r : Placed} → Tried ok t o n o′ r → r ≡ Placed.Upto m → (ok ≡ true) × (m ≡ n + length t)
+tried-good {ok} {t} {o} {o′} {n} {m} {r} w e = go ok (sym e ∙ w .answer)
+  where
+    go : (b : Bool) → Placed.Upto m ≡ cond b (Placed.Upto (n + length t)) Placed.Refused → (b ≡ true) × (m ≡ n + length t)
+    go true q = (refl, same-place m (n + length t) q)
+    go false q = absurd (no-place m q)
+
+-- ---- the answers of the proofs, in one step each
+-- the lines of a run stay, and so does what waits for standard error
+pub record SameRun (run mid : Run) : Type 0 where
+  pub err : mid .err ≡ run .err
+  pub physical : mid .physical ≡ run .physical
+  pub source : mid .source ≡ run .source
+
+-- a call's rows, and then its warning
+pub say-rows : {p : Say} (source warning count : ℕ) (rows : List ℕ) {o o′ e e′ : List ℕ} {run mid r : Run} {x : Placed}
+    → p ≡ says false (rowsText rows count) (warningText source warning)
+    → Tried (rowsWritable rows count) (rowsText rows count) o (run .out) o′ x → x ≡ Placed.Upto (mid .out)
+    → run .out + rowRoom * count ≤ length o → SameRun run mid → Noted false (warningText source warning) mid e r e′ → Said p run o e r o′ e′
+say-rows {p} source warning count rows {o} {o′} {e} {e′} {run} {mid} {r} {x} z w q room k n =
+    let g = tried-good w q in
+    let h : run .out + length (rowsText rows count) ≤ length o = omega (arith, rows-short rows count (g .0)) in
+    rw z
+    (record {
+      physical = n .physical ∙ k .physical;
+      source = n .source ∙ k .source;
+      refused = n .refused;
+      out = adds-text (rowsText rows count) o o′ (run .out) (r .out) h (n .out ∙ g .1) (w .text (g .0));
+      err = subst (λ (k : ℕ). Adds (warningText source warning) e k e′ (r .err)) (k .err) (n .err);
+    })
+
+pub note : {b : Bool} {s t e e′ : List ℕ} {run r : Run} → s ≡ t → r .out ≡ run .out → r .physical ≡ run .physical
+    → r .source ≡ run .source → r .refused ≡ b → length t ≤ noticeRoom
+    → run .err + noticeRoom ≤ length e → Wrote e (run .err) t e′ (r .err) → Noted b s run e r e′
+note {b} {s} {t} {e} {e′} {run} {r} z p q k f l h w =
+    rw z (record { out = p; physical = q; source = k; refused = f; err = adds-wrote (omega arith) w })
+
+pub no-note : {t e : List ℕ} {run : Run} → t ≡ [] → Noted (run .refused) t run e run e
+no-note {t} {e} {run} z = rw z (record { out = refl; physical = refl; source = refl; refused = refl; err = adds-none e (run .err) })
+
+pub say-noted : {p : Say} {t e e′ o o′ : List ℕ} {run r : Run} → p ≡ says true [] t
+    → take (run .out) o′ ≡ take (run .out) o → length o′ ≡ length o → Noted true t run e r e′ → Said p run o e r o′ e′
+say-noted {p} {t} {e} {e′} {o} {o′} {run} {r} z k l n = subst (λ (s : Say). Said s run o e r o′ e′) (sym z) (noted-said true o o′ k l n)
+
+pub say-header : {p : Say} {o o′ e : List ℕ} {run r : Run} → p ≡ says false (headerOut ++ crlf) [] → r .physical ≡ run .physical
+    → r .source ≡ run .source → r .refused ≡ false → r .err ≡ run .err → run .out + headerRoom ≤ length o
+    → Wrote o (run .out) (headerOut ++ crlf) o′ (r .out) → Said p run o e r o′ e
+say-header {p} {o} {o′} {e} {run} {r} z q s f d h w =
+    subst (λ (x : Say). Said x run o e r o′ e) (sym z)
+    (record {
+      physical = q;
+      source = s;
+      refused = f;
+      out = adds-wrote (omega (arith, header-short)) w;
+      err = subst (λ (m : ℕ). Adds [] e (run .err) e m) (sym d) (adds-none e (run .err));
+    })
+
+-- what waits stays within the buffer
+take-short : (n : ℕ) (l : List ℕ) → length (take n l) ≤ length l
+take-short zero l = zero-le
+take-short (suc n) [] = zero-le
+take-short (suc n) (c ∷ l) = let h = take-short n l in omega arith
+
+pub adds-within : {t o o′ : List ℕ} {n r : ℕ} → n ≤ length o → Adds t o n o′ r → r ≤ length o′
+adds-within {t} {o} {o′} {n} {r} h w =
+    let e = ap length (w .bytes) ∙ length-append (take n o) t ∙ ap (λ (k : ℕ). k + length t) (length-take-le n o h) in
+    omega (arith, e, take-short r o′, w .count)

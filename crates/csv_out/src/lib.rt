@@ -1,0 +1,139 @@
+// What the row text program says to a line: bytes that are added to what waits for standard output, and bytes that are
+// added to what waits for standard error. Nothing is written to a descriptor here.
+use csv_fields::Placed;
+ghost use mathlib.Core.Bool.{true, false};
+ghost use Prim.Native.Nat.{_+_, _*_, _≤_};
+ghost use lib.ListN.{length};
+ghost use Rattle.csv_line.specs.Notice.{noticeText};
+ghost use Rattle.csv_out.specs.Say.{noticeRoom, headerRoom, heading, warningText, answer};
+ghost use Rattle.csv_out.specs.Said.{Noted, Said, NextIs, AnswerFits};
+
+// How long the lines of standard error and those of rows never are longer than, and how many rows a call is lent room for.
+pub const NOTICE_ROOM: usize = 32;
+
+const ROW_ROOM: usize = 256;
+
+pub const LENT_ROWS: usize = 256;
+
+pub const CALL_ROOM: usize = ROW_ROOM * LENT_ROWS;
+
+// The refusal of text, and of a row whose numbers have none.
+pub const BAD_TEXT: u64 = 10;
+
+// Physical lines are counted up to this one.
+const LAST_LINE: u64 = 9999999999;
+
+// What the lines so far have left: `out` and `err` bytes wait to be written; `physical` is the number of the line read
+// next, and `source` the source line of the last block.
+pub struct Run {
+    pub out: usize,
+    pub err: usize,
+    pub physical: u64,
+    pub source: u64,
+    pub refused: bool,
+}
+
+// A refusal.
+pub fn refuse(run: Run, err: &mut [u8], line: u64, number: u64) -> Run
+    requires { ⌜ run .err + noticeRoom ≤ length (now err) ⌝ }
+    ensures { λ r. ⌜ Noted true (noticeText line number true) run (now (err .entry)) r (now (err .exit)) ⌝ }
+{
+    let n = csv_line::put_notice(err, run.err, line, number, true);
+    Run {
+        out: run.out,
+        err: n,
+        physical: run.physical,
+        source: run.source,
+        refused: true,
+    }
+}
+
+// A call's warning, where it has one.
+fn warned(run: Run, err: &mut [u8], warning: u64) -> Run
+    requires { ⌜ run .err + noticeRoom ≤ length (now err) ⌝ }
+    ensures { λ r. ⌜ Noted (run .refused) (warningText (run .source) warning) run (now (err .entry)) r (now (err .exit)) ⌝ }
+{
+    if warning == 0 {
+        return run;
+    }
+    let n = csv_line::put_notice(err, run.err, run.source, warning, false);
+    Run {
+        out: run.out,
+        err: n,
+        physical: run.physical,
+        source: run.source,
+        refused: run.refused,
+    }
+}
+
+// The first line: the header, which is answered by the second, or not.
+pub fn headed(run: Run, text: &[u8], out: &mut [u8], err: &mut [u8]) -> Run
+    requires { ⌜ (run .out + headerRoom ≤ length (now out)) × (run .err + noticeRoom ≤ length (now err)) ⌝ }
+    ensures { λ r.
+        let p = heading (run .physical) (now (text .entry)) in
+        ⌜ Said p run (now (out .entry)) (now (err .entry)) r (now (out .exit)) (now (err .exit)) ⌝ }
+{
+    if csv_line::is_header(text) {
+        let n = csv_line::put_header(out, run.out);
+        return Run {
+            out: n,
+            err: run.err,
+            physical: run.physical,
+            source: run.source,
+            refused: false,
+        };
+    }
+    refuse(run, err, run.physical, BAD_TEXT)
+}
+
+// What a call answered: its rows, and its warning or its refusal. A refused call writes no row, and neither does one
+// with a number that has no text.
+pub fn answered(
+    run: Run,
+    code: u64,
+    count: u64,
+    warning: u64,
+    rows: &[u64],
+    out: &mut [u8],
+    err: &mut [u8],
+) -> Run
+    requires { ⌜ AnswerFits code count (length (now rows)) (length (now out)) (length (now err)) run ⌝ }
+    ensures { λ r.
+        let p = answer (run .source) code count warning (now (rows .entry)) in
+        ⌜ Said p run (now (out .entry)) (now (err .entry)) r (now (out .exit)) (now (err .exit)) ⌝ }
+{
+    if code != 0 {
+        return refuse(run, err, run.source, code);
+    }
+    let Placed::Upto(n) = csv_write::write_rows(rows, count as usize, out, run.out) else {
+        return refuse(run, err, run.source, BAD_TEXT);
+    };
+    warned(
+        Run {
+            out: n,
+            err: run.err,
+            physical: run.physical,
+            source: run.source,
+            refused: false,
+        },
+        err,
+        warning,
+    )
+}
+
+// The next line: one more, up to the last that is counted.
+pub fn next_line(run: Run) -> Run
+    ensures { λ r. ⌜ NextIs run r ⌝ }
+{
+    let mut physical = run.physical;
+    if physical < LAST_LINE {
+        physical += 1;
+    }
+    Run {
+        out: run.out,
+        err: run.err,
+        physical,
+        source: run.source,
+        refused: run.refused,
+    }
+}

@@ -1,0 +1,45 @@
+-- `csv_step::close_run` meets its contract. Assumes nothing.
+use mathlib.Core.Path.{refl}
+use Rattle.csv_step.specs.LineLaws.{answer-room, close-fits, close-step}
+use borrow.Author.Needs.{needs}
+use Rattle.csv_step.proofs.close_run.Statement.{statement}
+use Rattle.csv_step.proofs.close_run.Tie as tie
+
+flat-close-requires : tie.Need-flat-close-requires
+flat-close-requires c κs = search needs
+
+answered-requires : tie.Need-answered-requires
+answered-requires c κs =
+    let closed = c .before .before .before .before .before .before .before in
+    let start = closed .before .before .before .before .before .before .before .before in
+    answer-room (start .pre) (closed .flat-close .ensures .reply) (close-fits _ _ _) (search needs) refl refl
+
+same-length : tie.Need-same-length
+same-length c = search needs
+
+same-length-2 : tie.Need-same-length-2
+same-length-2 c = search needs
+
+same-length-3 : tie.Need-same-length-3
+same-length-3 c = search needs
+
+same-length-4 : tie.Need-same-length-4
+same-length-4 c = search needs
+
+returns : tie.Need-returns
+returns c =
+    let said = c .before .before .before .before in
+    let closed = said .before .before .before .before .before .before .before .before in
+    close-step (closed .flat-close .ensures) (said .answered .ensures)
+
+pub close-run-spec : {M : Type 1} → statement M
+close-run-spec =
+    tie.close
+    (tie.spec
+    flat-close-requires
+    answered-requires
+    same-length
+    same-length-2
+    same-length-3
+    same-length-4
+    returns)

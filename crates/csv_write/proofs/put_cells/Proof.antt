@@ -1,0 +1,79 @@
+-- `csv_write::put_cells` meets its contract. Assumes nothing.
+use mathlib.Core.Path.{_≡_, _∙_}
+use Prim.Native.Nat.{ℕ, _-_, _≤_}
+use mathlib.Core.List.{_∷_}
+use native.Mathlib.Omega.{arith}
+use Rattle.csv_write.specs.Writer.{cellText, cellShown}
+use Rattle.csv_line.specs.LineText.{comma}
+use Rattle.csv_write.specs.Texts.{cell-length}
+use Rattle.csv_write.proofs.Writing.{Putting, puts-none, puts-on, puts-off, puts-all, cells-tried}
+use borrow.Author.Needs.{needs}
+use Rattle.csv_write.proofs.put_cells.Statement.{statement}
+use Rattle.csv_write.proofs.put_cells.Tie as tie
+
+abbrev Inv-loop : tie.InvT-loop
+Inv-loop row out₀ n at₀ i₀ out at i = (i ≤ 11) × Putting (cellShown row) (λ (k : ℕ). comma ∷ cellText row k) 18 out₀ n i out at
+
+abbrev μ-loop : tie.MeasureT-loop
+μ-loop row out₀ n at₀ i₀ out at i = 11 - i
+
+loop-holds : tie.Need-loop-holds Inv-loop μ-loop
+loop-holds c = (omega arith, puts-none _ _ _ _ _)
+
+put-cell-requires : tie.Need-put-cell-requires Inv-loop μ-loop
+put-cell-requires c κs =
+    let b2 = c .before .before in
+    let b5 = b2 .before .before .before in
+    ((b5 .pre .0), ((c .before .loop-test .taken), omega (arith, (b2 .loop .inv .1 .room), (b2 .loop .inv .1 .same))))
+
+enum-known-next : tie.Need-enum-known-next Inv-loop μ-loop
+enum-known-next c = search needs
+
+enum-told : tie.Need-enum-told Inv-loop μ-loop
+enum-told c = search needs
+
+same-length : tie.Need-same-length Inv-loop μ-loop
+same-length c = (c .before .before .before .before .put-cell .ensures .same) ∙ (c .before .before .before .before .before .before .before .loop .inv .1 .same)
+
+returns : tie.Need-returns Inv-loop μ-loop
+returns c =
+    let b4 = c .before .before .before .before in
+    let b6 = b4 .before .before in
+    let b7 = b6 .before in
+    cells-tried _ (puts-off _ _ _ 11 (b7 .loop .inv .1) (b6 .loop-test .taken) (c .enum-told .given .1) (b4 .put-cell .ensures))
+
+add-i : tie.Need-add-i Inv-loop μ-loop
+add-i c = search needs
+
+loop-less : tie.Need-loop-less Inv-loop μ-loop
+loop-less c = search needs
+
+loop-again : tie.Need-loop-again Inv-loop μ-loop
+loop-again c =
+    let b5 = c .before .before .before .before .before in
+    let b8 = b5 .before .before .before in
+    (omega arith, puts-on _ _ _ _ (b8 .loop .inv .1) (c .before .next .given .1) (b5 .put-cell .ensures) (cell-length _ _))
+
+same-length-2 : tie.Need-same-length-2 Inv-loop μ-loop
+same-length-2 c = (c .before .loop .inv .1 .same)
+
+returns-2 : tie.Need-returns-2 Inv-loop μ-loop
+returns-2 c = let e : (c .before .loop .i) ≡ 11 = omega (arith, (c .before .loop .inv .0)) in cells-tried _ (puts-all _ _ _ 11 (c .before .loop .inv .1) e)
+
+pub put-cells-spec : {M : Type 1} → statement M
+put-cells-spec =
+    tie.close
+    (tie.spec
+    Inv-loop
+    μ-loop
+    loop-holds
+    put-cell-requires
+    enum-known-next
+    enum-told
+    same-length
+    returns
+    add-i
+    loop-less
+    loop-again
+    same-length-2
+    returns-2)

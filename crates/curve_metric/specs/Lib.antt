@@ -1,0 +1,9 @@
+pub mod Below
+pub mod Ends
+pub mod Gaps
+pub mod Metric
+pub mod Points
+pub mod Walk
+pub mod WalkLaws
+pub mod Widest
+pub mod Written

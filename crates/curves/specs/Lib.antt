@@ -1,4 +1,0 @@
-pub mod Ready
-pub mod Runs
-pub mod Stretches
-pub mod Lefts

@@ -1,0 +1,10 @@
+pub mod Blocks
+pub mod Fit
+pub mod FitLaws
+pub mod Kept
+pub mod Memory
+pub mod Order
+pub mod Prepare
+pub mod KeptLaws
+pub mod PrepareLaws
+pub mod MemoryLaws

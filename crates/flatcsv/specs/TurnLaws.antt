@@ -1,0 +1,189 @@
+-- LAWS. From what the parts of a turn promise to what the turn does. Assumes nothing.
+use Prim.Native.Nat.{ℕ, _+_, _-_, _≤_, _<_}
+use mathlib.Core.Logic.{_⊎_, inl, inr}
+use mathlib.Core.Path.{_≡_, refl, sym, ap, _∙_, subst}
+use mathlib.Core.Bool.{Bool, true, false}
+use mathlib.Core.List.{List, [], _++_, append-nil, append-assoc}
+use native.Mathlib.Omega.{arith}
+use lib.ListN.{length, take, drop, take-append-drop}
+use Rattle.text_lines.specs.declared.Found.{Found}
+use Rattle.text_lines.specs.declared.Found.the-variants as Found
+use Rattle.text_lines.specs.declared.Turn.{Turn}
+use Rattle.text_lines.specs.Cut.{cut, between}
+use Rattle.text_lines.specs.CutLaws.{first-whole}
+use Rattle.text_lines.specs.Turns.{NoLine, Told, Turned}
+use Rattle.text_lines.specs.TurnLaws.{between-length}
+use Rattle.csv_out.specs.declared.Run.{Run}
+use Rattle.csv_out.specs.SayLaws.{adds-none, adds-within}
+use Rattle.csv_io.specs.declared.Left.{Left}
+use Rattle.csv_io.specs.Flush.{outRoom, errRoom, SameLines, Emptied}
+use Rattle.csv_io.specs.Status.{goesOn, ended}
+use Rattle.csv_step.specs.Line.{Stand, Step, csvLine, csvEnd}
+use Rattle.csv_step.specs.Csv.{still}
+use Rattle.csv_step.specs.Steps.{Slices, standing, Stepped}
+use Rattle.flatcsv.specs.declared.Reading.{Reading}
+use Rattle.flatcsv.specs.Reading.{inRoom, goingOf, unread, behind}
+use Rattle.flatcsv.specs.Turns.{Deed, Done, Within, Spoke, Went, Closed, TurnIs}
+
+-- a run with the same lines stands the same
+same-standing : (m : Slices) {run r : Run} → SameLines run r → standing r m ≡ standing run m
+same-standing m {run} {r} w =
+    ap (λ (x : ℕ). put x (r .source) (r .refused)) (w .physical)
+    ∙ ap (λ (x : ℕ). put (run .physical) x (r .refused)) (w .source)
+    ∙ ap (λ (x : Bool). put (run .physical) (run .source) x) (w .refused)
+  where
+    put : ℕ → ℕ → Bool → Stand
+    put p s f = record { state = m .state; store = m .store; rows = m .rows; physical = p; source = s; refused = f }
+
+-- g was handed over of b, a still waited, and x is added to it
+chain : (g a b c x : List ℕ) → g ++ a ≡ b → c ≡ a ++ x → g ++ c ≡ b ++ x
+chain g a b c x p q = ap (λ (l : List ℕ). g ++ l) q ∙ sym (append-assoc g a x) ∙ ap (λ (l : List ℕ). l ++ x) p
+
+spoke : {d : Step} {s r : Reading} {left : Left} {m m′ : Slices} → Emptied (s .run) (m .out) (m .err) left
+    → Stepped d (left .run) m (r .run) m′ → Spoke d (take (left .rows) (m .out)) (take (left .notices) (m .err)) s m r m′
+spoke {d} {s} {r} {left} {m} {m′} f w =
+    record {
+      stand = w .stand;
+      out = chain (take (left .rows) (m .out)) (take (left .run .out) (m .out)) _ _ (d .out) (f .rows) (w .out .bytes);
+      err = chain (take (left .notices) (m .err)) (take (left .run .err) (m .err)) _ _ (d .err) (f .notices) (w .err .bytes);
+    }
+
+on-refused : (b : Bool) → goingOf b ≡ goesOn → b ≡ false
+on-refused true e = absurd (omega arith)
+on-refused false e = refl
+
+-- ---- what was found is done
+pub done-by : {f : Found} {t : Turn} {run then : Run} {b : List ℕ} {m m′ : Slices} {r : Reading} (over : ℕ) → r ≡ behind t then over
+    → Deed f t run b m (behind t then over) m′ → Done f t run b m r m′
+done-by {f} {t} {run} {then} {b} {m} {m′} {r} over e d =
+    subst (λ (x : Reading). Done f t run b m x m′) (sym e) (record { from = refl; upto = refl; deed = d })
+
+pub nothing-done : (run : Run) (m : Slices) → Stepped (still (standing run m)) run m run m
+nothing-done run m = record { stand = refl; out = adds-none (m .out) (run .out); err = adds-none (m .err) (run .err) }
+
+-- a buffer that no line fits in is done as the end is
+pub full-done : {t : Turn} {run : Run} {b : List ℕ} {m m′ : Slices} {r : Reading} → Done Found.Ended t run b m r m′ → Done Found.Full t run b m r m′
+full-done d = record { from = d .from; upto = d .upto; deed = d .deed }
+
+pub done-as : {f g : Found} {t : Turn} {run : Run} {b : List ℕ} {m m′ : Slices} {r : Reading} → g ≡ f → Done f t run b m r m′ → Done g t run b m r m′
+done-as {f} {g} {t} {run} {b} {m} {m′} {r} e d = subst (λ (x : Found). Done x t run b m r m′) (sym e) d
+
+-- ---- a turn, from its parts
+module _ (s : Reading) (b : List ℕ) (m : Slices) (left : Left) (t : Turn) (b′ : List ℕ) (r : Reading) (m′ : Slices)
+    (emptied : Emptied (s .run) (m .out) (m .err) left) (turned : Turned b (s .at) (s .end) b′ t) (done : Done (t .found) t (left .run) b′ m r m′)
+    (clear : s .run .refused ≡ false) where
+  here : unread r b′ ≡ between b′ (t .at) (t .end)
+  here = ap (λ (j : ℕ). between b′ j (r .end)) (done .from) ∙ ap (λ (j : ℕ). between b′ (t .at) j) (done .upto)
+
+  same : standing (left .run) m ≡ standing (s .run) m
+  same = same-standing m (emptied .lines)
+
+  -- where nothing was done the run has no refusal
+  still-open : Stepped (still (standing (left .run) m)) (left .run) m (r .run) m′ → r .run .refused ≡ false
+  still-open w = ap (λ (x : Stand). x .refused) (w .stand) ∙ emptied .lines .refused ∙ clear
+
+  abbrev ends : Stand → ℕ → Type 0
+  ends x k = Stepped (csvEnd x k) (left .run) m (r .run) m′
+
+  closed : NoLine (unread s b) (between b′ (t .at) (t .end)) → r .over ≡ ended
+      → ends (standing (left .run) m) (t .end - t .at) → Closed s b m r m′
+  closed n o w =
+      let inside : t .end ≤ length b′ = omega (arith, turned .inside, turned .same) in
+      let long : t .end - t .at ≡ length (unread s b) = sym (between-length b′ (t .at) (t .end) (turned .window) inside) ∙ ap length (n .stays) in
+      record {
+        outs = take (left .rows) (m .out);
+        errs = take (left .notices) (m .err);
+        none = n .none;
+        told = spoke emptied (subst (λ (k : ℕ). ends (standing (s .run) m) k) long (subst (λ (x : Stand). ends x (t .end - t .at)) same w));
+        over = o;
+      }
+
+  deed-of : (f : Found) → Told f (length b) (unread s b) (between b′ (t .from) (t .at)) (between b′ (t .at) (t .end))
+      → Deed f t (left .run) b′ m r m′ → Went s b m r b′ m′ ⊎ (Closed s b m r m′ ⊎ (ended < r .over))
+  deed-of Found.Line w d =
+      let u = unread s b in
+      let l = between b′ (t .from) (t .at) in
+      let rest : unread r b′ ≡ drop (cut u) u = here ∙ w .rest in
+      let first : l ++ unread r b′ ≡ take (cut u) u ++ unread r b′ = ap (λ (x : List ℕ). x ++ unread r b′) (w .line) in
+      let parts : l ++ unread r b′ ≡ u = first ∙ ap (λ (x : List ℕ). take (cut u) u ++ x) rest ∙ take-append-drop (cut u) u in
+      inl
+      (record {
+        came = [];
+        line = l;
+        outs = take (left .rows) (m .out);
+        errs = take (left .notices) (m .err);
+        step = csvLine (standing (s .run) m) l;
+        bytes = append-nil u ∙ sym parts;
+        did = inr (ap cut (w .line) ∙ first-whole u (w .whole) ∙ ap length (sym (w .line)), refl);
+        told = spoke emptied (subst (λ (x : Stand). Stepped (csvLine x l) (left .run) m (r .run) m′) same (d .1));
+        over = d .0;
+      })
+  deed-of Found.More w d =
+      let u = unread s b in
+      let v = between b′ (t .at) (t .end) in
+      inl
+      (record {
+        came = drop (length u) v;
+        line = [];
+        outs = take (left .rows) (m .out);
+        errs = take (left .notices) (m .err);
+        step = still (standing (s .run) m);
+        bytes = ap (λ (x : List ℕ). x ++ drop (length u) v) (sym (w .begins)) ∙ take-append-drop (length u) v ∙ sym here;
+        did = inl (refl, refl);
+        told = spoke emptied (subst (λ (x : Stand). Stepped (still x) (left .run) m (r .run) m′) same (d .1));
+        over = d .0 ∙ ap goingOf (sym (still-open (d .1)));
+      })
+  deed-of Found.Ended w d = inr (inl (closed w (d .0) (d .1)))
+  deed-of Found.Full w d = inr (inl (closed (w .0) (d .0) (d .1)))
+  deed-of Found.Failed w d = inr (inr (d .0))
+
+  -- what waits then fits, and a run that goes on has no refusal
+  fits : {d : Step} → length (m .out) ≡ outRoom → length (m .err) ≡ errRoom → Stepped d (left .run) m (r .run) m′
+      → (r .run .out ≤ outRoom) × (r .run .err ≤ errRoom)
+  fits p q w = (
+    omega (arith, adds-within {n = left .run .out} (omega (arith, emptied .outs)) (w .out), w .out .same),
+    omega (arith, adds-within {n = left .run .err} (omega (arith, emptied .errs)) (w .err), w .err .same),
+  )
+
+  bounds : length (m .out) ≡ outRoom → length (m .err) ≡ errRoom → (f : Found) → Deed f t (left .run) b′ m r m′
+      → ((r .run .out ≤ outRoom) × (r .run .err ≤ errRoom)) × (r .over ≡ goesOn → r .run .refused ≡ false)
+  bounds p q Found.Line d = (fits p q (d .1), λ (e : r .over ≡ goesOn). on-refused (r .run .refused) (sym (d .0) ∙ e))
+  bounds p q Found.More d = (fits p q (d .1), λ (e : r .over ≡ goesOn). still-open (d .1))
+  bounds p q Found.Ended d = (fits p q (d .1), λ (e : r .over ≡ goesOn). absurd (omega (arith, d .0)))
+  bounds p q Found.Full d = (fits p q (d .1), λ (e : r .over ≡ goesOn). absurd (omega (arith, d .0)))
+  bounds p q Found.Failed d = (fits p q (d .1), λ (e : r .over ≡ goesOn). absurd (omega (arith, d .0)))
+
+  pub turn-is : length b ≡ inRoom → length (m .out) ≡ outRoom → length (m .err) ≡ errRoom → TurnIs s b m r b′ m′
+  turn-is n p q =
+      let w = bounds p q (t .found) (done .deed) in
+      record {
+        within =
+            record {
+              window = omega (arith, turned .window, done .from, done .upto);
+              inside = omega (arith, turned .inside, done .upto);
+              outs = w .0 .0;
+              errs = w .0 .1;
+              clear = w .1;
+            };
+        deed = deed-of (t .found) (turned .told) (done .deed);
+      }
+
+-- ---- what waited could not be written
+pub failed-turn : (s : Reading) (b : List ℕ) (m : Slices) (left : Left) → Within s → Emptied (s .run) (m .out) (m .err) left
+    → (left .over ≡ goesOn → ⊥) → TurnIs s b m (record { at = s .at; end = s .end; run = left .run; over = left .over }) b m
+failed-turn s b m left w f h =
+    let n : ended < left .over = over-failed (left .over) h (f .going) in
+    record {
+      within =
+          record {
+            window = w .window;
+            inside = w .inside;
+            outs = omega (arith, f .outs);
+            errs = omega (arith, f .errs);
+            clear = λ (e : left .over ≡ goesOn). absurd (h e);
+          };
+      deed = inr (inr n);
+    }
+  where
+    over-failed : (n : ℕ) → (n ≡ goesOn → ⊥) → (n ≡ ended → ⊥) → ended < n
+    over-failed n a c = omega arith

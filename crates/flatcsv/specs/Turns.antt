@@ -1,0 +1,97 @@
+-- CONTRACTS. What a turn of the row text program does, and all of them together. Assumes nothing.
+use Prim.Native.Nat.{ℕ, _+_, _-_, _≤_, _<_}
+use mathlib.Core.Logic.{_⊎_}
+use mathlib.Core.Path.{_≡_}
+use mathlib.Core.Bool.{false}
+use mathlib.Core.List.{List, [], _++_}
+use lib.ListN.{length, take}
+use Rattle.text_lines.specs.declared.Found.{Found}
+use Rattle.text_lines.specs.declared.Found.the-variants as Found
+use Rattle.text_lines.specs.declared.Turn.{Turn}
+use Rattle.text_lines.specs.Cut.{cut, between}
+use Rattle.csv_out.specs.declared.Run.{Run}
+use Rattle.csv_io.specs.Flush.{outRoom, errRoom}
+use Rattle.csv_io.specs.Status.{goesOn, ended}
+use Rattle.csv_step.specs.Line.{Step, csvLine, csvEnd}
+use Rattle.csv_step.specs.Csv.{still, csvSpec}
+use Rattle.csv_step.specs.Steps.{Slices, standing, Stepped}
+use Rattle.flatcsv.specs.declared.Reading.{Reading}
+use Rattle.flatcsv.specs.Reading.{inRoom, goingOf, unread}
+
+-- a turn's places lie in a buffer of n bytes
+pub record FoundIn (t : Turn) (n : ℕ) : Type 0 where
+  pub start : t .from ≤ t .at
+  pub window : t .at ≤ t .end
+  pub inside : t .end ≤ n
+
+-- ---- what was found is done
+abbrev pub Deed : Found → Turn → Run → List ℕ → Slices → Reading → Slices → Type 0
+Deed Found.Line t run b m r m′ =
+    (r .over ≡ goingOf (r .run .refused)) × Stepped (csvLine (standing run m) (between b (t .from) (t .at))) run m (r .run) m′
+Deed Found.More t run b m r m′ = (r .over ≡ goesOn) × Stepped (still (standing run m)) run m (r .run) m′
+Deed Found.Ended t run b m r m′ = (r .over ≡ ended) × Stepped (csvEnd (standing run m) (t .end - t .at)) run m (r .run) m′
+Deed Found.Full t run b m r m′ = (r .over ≡ ended) × Stepped (csvEnd (standing run m) (t .end - t .at)) run m (r .run) m′
+Deed Found.Failed t run b m r m′ = (ended < r .over) × Stepped (still (standing run m)) run m (r .run) m′
+
+pub record Done (f : Found) (t : Turn) (run : Run) (b : List ℕ) (m : Slices) (r : Reading) (m′ : Slices) : Type 0 where
+  pub from : r .at ≡ t .at
+  pub upto : r .end ≡ t .end
+  pub deed : Deed f t run b m r m′
+
+abbrev pub LineDone : Turn → Run → List ℕ → Slices → Reading → Slices → Type 0
+LineDone t run b m r m′ = Done Found.Line t run b m r m′
+
+-- for the end of the input, and for a buffer that no line fits in
+abbrev pub EndDone : Turn → Run → Slices → Reading → Slices → Type 0
+EndDone t run m r m′ = (b : List ℕ) → Done Found.Ended t run b m r m′
+
+-- ---- a turn
+-- the unread bytes lie in the buffer, what waits fits, and a run that goes on has no refusal
+pub record Within (s : Reading) : Type 0 where
+  pub window : s .at ≤ s .end
+  pub inside : s .end ≤ inRoom
+  pub outs : s .run .out ≤ outRoom
+  pub errs : s .run .err ≤ errRoom
+  pub clear : s .over ≡ goesOn → s .run .refused ≡ false
+
+-- the step d was done: of the bytes that waited and those that it said, `outs` and `errs` were handed over, and the others wait
+pub record Spoke (d : Step) (outs errs : List ℕ) (s : Reading) (m : Slices) (r : Reading) (m′ : Slices) : Type 0 where
+  pub stand : standing (r .run) m′ ≡ d .stand
+  pub out : outs ++ take (r .run .out) (m′ .out) ≡ take (s .run .out) (m .out) ++ d .out
+  pub err : errs ++ take (r .run .err) (m′ .err) ≡ take (s .run .err) (m .err) ++ d .err
+
+-- one whole line was handed on, or none: what was unread, and behind it what came, is that line, and behind it what is unread then
+pub record Went (s : Reading) (b : List ℕ) (m : Slices) (r : Reading) (b′ : List ℕ) (m′ : Slices) : Type 0 where
+  pub came : List ℕ
+  pub line : List ℕ
+  pub outs : List ℕ
+  pub errs : List ℕ
+  pub step : Step
+  pub bytes : unread s b ++ came ≡ line ++ unread r b′
+  pub did : ((line ≡ []) × (step ≡ still (standing (s .run) m))) ⊎ ((cut line ≡ length line) × (step ≡ csvLine (standing (s .run) m) line))
+  pub told : Spoke step outs errs s m r m′
+  pub over : r .over ≡ goingOf (r .run .refused)
+
+-- the input has ended, and no line stands in what is unread
+pub record Closed (s : Reading) (b : List ℕ) (m : Slices) (r : Reading) (m′ : Slices) : Type 0 where
+  pub outs : List ℕ
+  pub errs : List ℕ
+  pub none : length (unread s b) < cut (unread s b)
+  pub told : Spoke (csvEnd (standing (s .run) m) (length (unread s b))) outs errs s m r m′
+  pub over : r .over ≡ ended
+
+pub record TurnIs (s : Reading) (b : List ℕ) (m : Slices) (r : Reading) (b′ : List ℕ) (m′ : Slices) : Type 0 where
+  pub within : Within r
+  pub deed : Went s b m r b′ m′ ⊎ (Closed s b m r m′ ⊎ (ended < r .over))
+
+-- ---- all turns
+-- `got` was read, and all of what the definition says to it was handed over or waits
+pub record All (r : Reading) (m : Slices) : Type 0 where
+  pub got : List ℕ
+  pub outs : List ℕ
+  pub errs : List ℕ
+  pub is : csvSpec got ≡ record { out = outs ++ take (r .run .out) (m .out); err = errs ++ take (r .run .err) (m .err); refused = r .run .refused }
+
+pub record Finished (r : Reading) (m : Slices) : Type 0 where
+  pub within : Within r
+  pub all : r .over ≡ ended → All r m

@@ -1,3 +1,0 @@
-pub mod Push
-pub mod Before
-pub mod Keeps

@@ -1,0 +1,102 @@
+// What a motion word says: the one place that judges its number.
+ghost use mathlib.Core.Path.{_≡_};
+ghost use Rattle.motion.specs.Motion.{kindOf, splineKind, otherKind, basisKind, cubicKind};
+
+// The word of a straight move at feed.
+pub const G1: u64 = 2;
+
+pub const LAST_MOTION: u64 = 31;
+
+pub enum Kind {
+    Same,
+    Linear,
+    Clockwise,
+    Counter,
+    Akima,
+    Basis,
+    Cubic,
+    Other,
+    Refused,
+}
+
+pub fn kind_of(motion: u64) -> Kind
+    ensures { λ r. ⌜ r ≡ kindOf motion ⌝ }
+{
+    match motion {
+        0 => Kind::Same,
+        1..=2 => Kind::Linear,
+        3 => Kind::Clockwise,
+        4 => Kind::Counter,
+        5 => Kind::Akima,
+        6 => Kind::Basis,
+        7 => Kind::Cubic,
+        8..=31 => Kind::Other,
+        _ => Kind::Refused,
+    }
+}
+
+// Whether a block of this kind is buffered.
+pub fn is_spline(kind: Kind) -> bool
+    ensures { λ r. ⌜ r ≡ splineKind kind ⌝ }
+{
+    match kind {
+        Kind::Same => false,
+        Kind::Linear => false,
+        Kind::Clockwise => false,
+        Kind::Counter => false,
+        Kind::Akima => true,
+        Kind::Basis => true,
+        Kind::Cubic => true,
+        Kind::Other => false,
+        Kind::Refused => false,
+    }
+}
+
+// Whether the word is a curve's that goes out unchanged.
+pub fn is_other(kind: Kind) -> bool
+    ensures { λ r. ⌜ r ≡ otherKind kind ⌝ }
+{
+    match kind {
+        Kind::Same => false,
+        Kind::Linear => false,
+        Kind::Clockwise => false,
+        Kind::Counter => false,
+        Kind::Akima => false,
+        Kind::Basis => false,
+        Kind::Cubic => false,
+        Kind::Other => true,
+        Kind::Refused => false,
+    }
+}
+
+pub fn is_basis(kind: Kind) -> bool
+    ensures { λ r. ⌜ r ≡ basisKind kind ⌝ }
+{
+    match kind {
+        Kind::Same => false,
+        Kind::Linear => false,
+        Kind::Clockwise => false,
+        Kind::Counter => false,
+        Kind::Akima => false,
+        Kind::Basis => true,
+        Kind::Cubic => false,
+        Kind::Other => false,
+        Kind::Refused => false,
+    }
+}
+
+pub fn is_cubic(kind: Kind) -> bool
+    ensures { λ r. ⌜ r ≡ cubicKind kind ⌝ }
+{
+    match kind {
+        Kind::Same => false,
+        Kind::Linear => false,
+        Kind::Clockwise => false,
+        Kind::Counter => false,
+        Kind::Akima => false,
+        Kind::Basis => false,
+        Kind::Cubic => true,
+        Kind::Other => false,
+        Kind::Refused => false,
+    }
+}

@@ -1,3 +1,0 @@
-// Where the samples of a curve and the rows of an emission lie: channels in a sample, samples and rows before a block.
-pub mod layout;
-pub mod place;

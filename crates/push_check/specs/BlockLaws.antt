@@ -1,0 +1,131 @@
+-- What the steps of a push ask of the state and the row, and the room of a block that is buffered. Assumes nothing.
+use Prim.Native.Nat.{ℕ, _+_, _*_, _/_, _%_, _<_, _≤_, min}
+use mathlib.Core.Path.{_≡_, sym, _∙_, ap}
+use mathlib.Core.Bool.{Bool, true, false, cond, not, _&&_, true≢false, false≢true}
+use mathlib.Core.List.{List}
+use native.Mathlib.Omega.{arith}
+use native.Mathlib.Nat.{div-add-mod'}
+use lib.Dec.{leb, eqb}
+use lib.ListN.{length, getD}
+use borrow.Author.Tests.{leb-false, eq-eqb, ne-eqb, eqb-true, eqb-false}
+use Rattle.layout.specs.Layout.{rowWords, stateWords, listCodes, mostHeld, wWarned}
+use Rattle.motion.specs.Motion.{kindOf, splineKind, isSpline, isOther, lastMotion}
+use Rattle.row_cells.specs.Bits.{has}
+use Rattle.row_check.specs.Check.{rowCheck}
+use Rattle.row_cells.specs.Row.{motionOf}
+use Rattle.row_check.specs.CheckLaws.{check-length, check-motion}
+use Rattle.floats.specs.Truth.{by-bit, and-t, cond-t, cond-f}
+use Rattle.saved_state.specs.State.{axisCount, held, motionNow, stateOk, savedCheck, geometricMask}
+use Rattle.saved_state.specs.Asks.{Listed}
+use Rattle.saved_state.specs.StateLaws.{Good, good, axes-few}
+use Rattle.push_check.specs.Blocks.{motionThen, planeThen, emits, kept, news, isFull, pushCheck}
+use Rattle.push_check.specs.Resolved.{resolved, due}
+use Rattle.push_check.specs.declared.Resolved.{Resolved}
+use Rattle.push_check.specs.declared.Due.{Due}
+use Rattle.push_check.specs.declared.Due.the-variants.{Refused, Push}
+
+-- what the steps of a push ask of the state and the row
+pub record Block (st r : List ℕ) : Type 0 where
+  pub long : length st ≡ stateWords
+  pub few : axisCount st ≤ listCodes
+  pub wide : length r ≡ rowWords
+  pub word : motionOf r ≤ lastMotion
+
+pub block : (st r : List ℕ) → stateOk st ≡ true → rowCheck r ≡ 0 → Block st r
+block st r p q =
+    let g : Good st = good st p in
+    record { long = g .long; few = axes-few st (g .axes); wide = check-length r q; word = check-motion r q }
+
+pub block-listed : {st r : List ℕ} → Block st r → Listed st
+block-listed b = record { long = b .long; few = b .few }
+
+-- ---- a block that is buffered has room
+pub full-room : (st store r : List ℕ) → isSpline (motionThen st r) ≡ true → isFull st store r ≡ false
+    → (kept st r < mostHeld) × (kept st r * rowWords + rowWords ≤ length store)
+unfolding isFull
+full-room st store r a b =
+    let l : kept st r < min mostHeld (length store / rowWords) = leb-false (min mostHeld (length store / rowWords)) (kept st r) (sym (and-t _ a) ∙ b) in
+    let d : length store / rowWords * rowWords + length store % rowWords ≡ length store = div-add-mod' (length store) rowWords in
+    (omega arith, omega arith)
+
+-- ---- what the code learns of a block one by one is the block resolved
+pub resolved-is : (st r : List ℕ) (b : Resolved)
+    → b .motion ≡ motionThen st r → b .plane ≡ planeThen st r → b .kind ≡ kindOf (b .motion)
+    → b .emits ≡ (not (eqb (held st) 0) && not (eqb (b .motion) (motionNow st))) → b .kept ≡ cond (b .emits) 0 (held st)
+    → b .news ≡ (isOther (motionOf r) && not (has (getD st wWarned 0) (motionOf r))) → b .axes ≡ geometricMask st
+    → b ≡ resolved st r
+unfolding emits kept news
+resolved-is st r b m p k e h n a =
+    let ek = k ∙ ap kindOf m in
+    let ee = e ∙ ap (λ (x : ℕ). not (eqb (held st) 0) && not (eqb x (motionNow st))) m in
+    let eh = h ∙ ap (λ (x : Bool). cond x 0 (held st)) ee in
+    λ i. record { kind = ek i; motion = m i; plane = p i; emits = ee i; kept = eh i; news = n i; axes = a i }
+
+-- ---- what a push is due, told apart
+abbrev isPush : Due → Bool
+isPush (Refused n) = false
+isPush (Push b) = true
+
+abbrev numberOf : Due → ℕ
+numberOf (Refused n) = n
+numberOf (Push b) = 0
+
+abbrev blockOr : Resolved → Due → Resolved
+blockOr d (Refused n) = d
+blockOr d (Push b) = b
+
+pub due-refused : (st store r : List ℕ) (n : ℕ) → due st store r ≡ Refused n → (pushCheck st store r ≡ n) × (pushCheck st store r ≡ 0 → ⊥)
+unfolding due
+due-refused st store r n e =
+    by-bit (eqb (pushCheck st store r) 0)
+    (λ b. absurd (true≢false (ap isPush (sym (cond-t _ _ b) ∙ e))))
+    (λ b. (ap numberOf (sym (cond-f _ _ b) ∙ e), eqb-false (pushCheck st store r) 0 b))
+
+pub due-push : (st store r : List ℕ) (b : Resolved) → due st store r ≡ Push b → (pushCheck st store r ≡ 0) × (b ≡ resolved st r)
+unfolding due
+due-push st store r x e =
+    by-bit (eqb (pushCheck st store r) 0)
+    (λ b. (eqb-true (pushCheck st store r) 0 b, sym (ap (blockOr x) (sym (cond-t _ _ b) ∙ e))))
+    (λ b. absurd (false≢true (ap isPush (sym (cond-f _ _ b) ∙ e))))
+
+-- ---- the cases of a push's check
+module _ (st store r : List ℕ) where
+  pub due-saved : (n : ℕ) → n ≡ savedCheck st store → (n ≡ 0 → ⊥) → Refused n ≡ due st store r
+  unfolding due pushCheck
+  due-saved n e d =
+      let z : eqb (savedCheck st store) 0 ≡ false = ap (λ (k : ℕ). eqb k 0) (sym e) ∙ ne-eqb n 0 d in
+      let c : pushCheck st store r ≡ n = cond-f _ _ z ∙ sym e in
+      ap Refused (sym c) ∙ sym (cond-f _ _ (ap (λ (k : ℕ). eqb k 0) c ∙ ne-eqb n 0 d))
+
+  module _ (s : savedCheck st store ≡ 0) where
+    saved-done : eqb (savedCheck st store) 0 ≡ true
+    saved-done = eq-eqb (savedCheck st store) 0 s
+
+    pub due-row : (n : ℕ) → n ≡ rowCheck r → (n ≡ 0 → ⊥) → Refused n ≡ due st store r
+    unfolding due pushCheck
+    due-row n e d =
+        let z : eqb (rowCheck r) 0 ≡ false = ap (λ (k : ℕ). eqb k 0) (sym e) ∙ ne-eqb n 0 d in
+        let c : pushCheck st store r ≡ n = cond-t _ _ saved-done ∙ cond-f _ _ z ∙ sym e in
+        ap Refused (sym c) ∙ sym (cond-f _ _ (ap (λ (k : ℕ). eqb k 0) c ∙ ne-eqb n 0 d))
+
+    module _ (p : rowCheck r ≡ 0) (b : Resolved) (e : b ≡ resolved st r) (full : Bool)
+        (f : full ≡ (splineKind (b .kind) && leb (min mostHeld (length store / rowWords)) (b .kept))) where
+      full-is : full ≡ isFull st store r
+      unfolding isFull isSpline
+      full-is = f ∙ ap (λ (x : Resolved). splineKind (x .kind) && leb (min mostHeld (length store / rowWords)) (x .kept)) e
+
+      checked : pushCheck st store r ≡ cond full 6 0
+      unfolding pushCheck
+      checked = cond-t _ _ saved-done ∙ cond-t _ _ (eq-eqb (rowCheck r) 0 p) ∙ ap (λ (x : Bool). cond x 6 0) (sym full-is)
+
+      pub due-full : full ≡ true → Refused 6 ≡ due st store r
+      unfolding due
+      due-full t =
+          let c : pushCheck st store r ≡ 6 = checked ∙ cond-t _ _ t in
+          ap Refused (sym c) ∙ sym (cond-f _ _ (ap (λ (k : ℕ). eqb k 0) c))
+
+      pub due-block : full ≡ false → Push b ≡ due st store r
+      unfolding due
+      due-block t =
+          let c : pushCheck st store r ≡ 0 = checked ∙ cond-f _ _ t in
+          ap Push e ∙ sym (cond-t _ _ (eq-eqb (pushCheck st store r) 0 c))

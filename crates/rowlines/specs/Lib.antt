@@ -1,4 +1,0 @@
-pub mod Layout
-pub mod All
-pub mod Notice
-pub mod Planes

@@ -1,8 +1,0 @@
-pub mod Codes
-pub mod Row
-pub mod KindCase
-pub mod Truth
-pub mod Masks
-pub mod BitWalk
-pub mod FirstCells
-pub mod RowLaws

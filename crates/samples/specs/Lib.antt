@@ -1,3 +1,0 @@
-pub mod Samples
-pub mod Rowing
-pub mod Draw

@@ -1,0 +1,110 @@
+-- LAWS. Masks of codes: those seen in a list so far, and the axes of a list; a point by its mask. Assumes nothing.
+use Prim.Native.Nat.{ℕ, _+_, _<_, _≤_}
+use mathlib.Core.Path.{_≡_, refl, sym, _∙_, ap}
+use mathlib.Core.Bool.{Bool, true, false, _&&_, _||_, not, cond, or-false, or-true, and-false, and-true}
+use mathlib.Core.List.{List}
+use native.Mathlib.Omega.{arith}
+use native.Mathlib.Numerals.{add-one}
+use lib.ListN.{length, getD, take, drop}
+use lib.Dec.{leb, ltb, eqb}
+use borrow.Author.Tests.{eqb-true, eqb-false, ne-eqb, ltb-true, ltb-false, lt-ltb, leb-true}
+use Rattle.floats.specs.Lists.{member, all}
+use Rattle.layout.specs.Layout.{axisCodes, axisMasks, lastCode, listCodes, listMasks, wAxes}
+use Rattle.row_cells.specs.Bits.{has, maskSum, withBit}
+use Rattle.row_check.specs.Check.{within}
+use Rattle.floats.specs.Truth.{by-bit, and-t, and-i, and-left, or-t, or-f, all-intro}
+use Rattle.row_cells.specs.Masks.{mask-same, mask-of, has-none, with-same, with-other, with-lt}
+use Rattle.saved_state.specs.State.{axisCount, codeOk, pointAtOk, pointOk, geometricMask}
+use Rattle.saved_state.specs.StateLaws.{member-geometric}
+use Rattle.saved_state.specs.Asks.{PointOf}
+use Rattle.saved_state.specs.Axes.{mask-has-axis}
+use Rattle.saved_state.specs.Walk.{from-here, member-end}
+
+-- ---- the codes of a list's first i
+abbrev unlike : List ℕ → ℕ → ℕ → Bool
+unlike axes k j = not (eqb (getD axes j 0) k)
+
+pub record Seen (axes : List ℕ) (i seen : ℕ) : Type 0 where
+  pub small : seen < listMasks
+  pub marks : (k : ℕ) → has seen k ≡ not (all i (unlike axes k))
+  pub ok : all i (codeOk axes) ≡ true
+
+pub seen-none : (axes : List ℕ) → Seen axes 0 0
+unfolding all
+seen-none axes = record { small = omega arith; marks = λ k. has-none k; ok = refl }
+
+not-not : (b : Bool) → not (not b) ≡ b
+not-not true = refl
+not-not false = refl
+
+module _ (axes : List ℕ) (i seen : ℕ) (s : Seen axes i seen) where
+  -- a code is in order where it is one, and not seen
+  pub new-ok : (leb (getD axes i 0) lastCode && not (has seen (getD axes i 0))) ≡ codeOk axes i
+  unfolding codeOk
+  new-ok = ap (λ (b : Bool). leb (getD axes i 0) lastCode && b) (ap not (s .marks (getD axes i 0)) ∙ not-not (all i (unlike axes (getD axes i 0))))
+
+  pub seen-more : {next : ℕ} → next ≡ withBit seen (getD axes i 0) → codeOk axes i ≡ true → getD axes i 0 ≤ lastCode → Seen axes (i + 1) next
+  unfolding all
+  seen-more f q l = rw f (record {
+    small = with-lt seen (getD axes i 0) listCodes (s .small) (omega arith);
+    marks = λ k. by-bit (eqb (getD axes i 0) k)
+        (λ b. let e : getD axes i 0 ≡ k = eqb-true _ _ b in
+        ap (λ (j : ℕ). has (withBit seen (getD axes i 0)) j) (sym e) ∙ with-same seen (getD axes i 0) ∙ rw (add-one, b, and-false (all i (unlike axes k))))
+        (λ b. with-other seen (getD axes i 0) k (λ e. eqb-false _ _ b (sym e)) ∙ s .marks k ∙ rw (add-one, b, and-true (all i (unlike axes k))));
+    ok = rw (add-one, s .ok, q);
+  })
+
+pub new-small : (seen code : ℕ) (b : Bool) → b ≡ (leb code lastCode && not (has seen code)) → b ≡ true → code ≤ lastCode
+new-small seen code b e t = leb-true code lastCode (and-left (leb code lastCode) (not (has seen code)) (sym e ∙ t))
+
+-- ---- the axes of a list, from its front on
+pub record Marking (codes : List ℕ) (i m : ℕ) : Type 0 where
+  pub small : m < axisMasks
+  pub marks : (k : ℕ) → k < axisCodes → (has m k || member k (drop i codes)) ≡ member k codes
+
+pub marking-none : (codes : List ℕ) → Marking codes 0 0
+marking-none codes = record { small = omega arith; marks = λ k l. rw (has-none k) }
+
+module _ (codes : List ℕ) (i m : ℕ) (s : Marking codes i m) where
+  pub marking-more : {next : ℕ} → next ≡ cond (ltb (getD codes i 0) axisCodes) (withBit m (getD codes i 0)) m → i < length codes → Marking codes (i + 1) next
+  marking-more f h = rw f (by-bit (ltb (getD codes i 0) axisCodes)
+      (λ b. rw b (record {
+        small = with-lt m (getD codes i 0) axisCodes (s .small) (ltb-true (getD codes i 0) axisCodes b);
+        marks = λ k l. by-bit (eqb (getD codes i 0) k)
+            (λ t. let e : getD codes i 0 ≡ k = eqb-true _ _ t in
+            rw (ap (λ (j : ℕ). has (withBit m (getD codes i 0)) j) (sym e) ∙ with-same m (getD codes i 0))
+            (sym (or-true (has m k)) ∙ ap (λ (b : Bool). has m k || (b || member k (drop (i + 1) codes))) (sym t) ∙ before k l))
+            (λ t. rw (with-other m (getD codes i 0) k (λ e. eqb-false _ _ t (sym e)))
+            (ap (λ (b : Bool). has m k || (b || member k (drop (i + 1) codes))) (sym t) ∙ before k l));
+      }))
+      (λ b. rw b (record {
+        small = s .small;
+        marks = λ k l. let d : (getD codes i 0 ≡ k → ⊥) = λ e. omega (arith, ltb-false (getD codes i 0) axisCodes b) in
+            ap (λ (b : Bool). has m k || (b || member k (drop (i + 1) codes))) (sym (ne-eqb (getD codes i 0) k d)) ∙ before k l;
+      })))
+    where
+      before : (k : ℕ) → k < axisCodes → (has m k || (eqb (getD codes i 0) k || member k (drop (i + 1) codes))) ≡ member k codes
+      before k l = ap (λ (b : Bool). has m k || b) (sym (from-here k codes i h)) ∙ s .marks k l
+
+  pub marked : length codes ≤ i → m ≡ maskSum (λ (k : ℕ). member k codes) axisCodes
+  marked h = mask-of m axisCodes (λ (k : ℕ). member k codes) (s .small) (λ k l.
+      sym (or-false (has m k)) ∙ ap (λ (b : Bool). has m k || b) (sym (member-end k codes i h)) ∙ s .marks k l)
+
+pub mask-of-codes : (st codes : List ℕ) → codes ≡ take (axisCount st) (drop wAxes st) → maskSum (λ (k : ℕ). member k codes) axisCodes ≡ geometricMask st
+mask-of-codes st codes e = mask-same _ _ axisCodes (λ k l. rw e (sym (member-geometric st k ∙ and-t _ (lt-ltb k axisCodes l))))
+
+-- ---- a point of the state
+pub point-absent : (st : List ℕ) (w k : ℕ) → has (getD st w 0) k ≡ false → pointAtOk st w k ≡ true
+unfolding pointAtOk
+point-absent st w k h = or-t _ (ap not h)
+
+pub point-none : (st : List ℕ) (w : ℕ) → getD st w 0 ≡ 0 → pointOk st w ≡ true
+unfolding pointOk
+point-none st w e =
+    and-i (lt-ltb (getD st w 0) axisMasks (omega (arith, e)))
+    (all-intro axisCodes (pointAtOk st w) (λ k h. point-absent st w k (rw e (has-none k))))
+
+pub point-there : (st : List ℕ) (w gs k : ℕ) → PointOf st w gs → has (getD st w 0) k ≡ true → pointAtOk st w k ≡ (has gs k && within (getD st (w + 1 + k) 0))
+unfolding pointAtOk
+point-there st w gs k p h =
+    or-f _ (ap not h) ∙ ap (λ (b : Bool). b && within (getD st (w + 1 + k) 0)) (sym (ap (λ (m : ℕ). has m k) (p .axes) ∙ mask-has-axis st k))

@@ -1,0 +1,2 @@
+// The saved state: its words and its check.
+pub mod state;

@@ -1,3 +1,0 @@
-pub mod Akima
-pub mod Slopes
-pub mod Filled

@@ -1,0 +1,4 @@
+pub mod Groups
+pub mod Sizes
+pub mod Places
+pub mod SizeLaws

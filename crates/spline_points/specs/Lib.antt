@@ -1,0 +1,7 @@
+pub mod Points
+pub mod Gathers
+pub mod Keeps
+pub mod Append
+pub mod Flat
+pub mod Channels
+pub mod Curve

@@ -1,0 +1,4 @@
+pub mod Leaves
+pub mod Made
+pub mod Backward
+pub mod Spreading

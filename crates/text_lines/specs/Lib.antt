@@ -1,0 +1,4 @@
+pub mod Cut
+pub mod Turns
+pub mod CutLaws
+pub mod TurnLaws

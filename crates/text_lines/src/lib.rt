@@ -1,0 +1,121 @@
+// Lines of standard input, in a buffer of a fixed size: each turn of a program's reading loop is `next_turn`.
+use libc::STDIN_FILENO;
+ghost use Prim.Native.Nat.{_+_, _-_, _<_, _≤_};
+ghost use lib.ListN.{length};
+ghost use mathlib.Core.Path.{_≡_};
+ghost use Rattle.text_lines.specs.Cut.{cut, between};
+ghost use Rattle.text_lines.specs.Turns.{More, AtFront, Turned};
+
+// The place behind the first LF of buf from `at` on and below `end`, or `end` + 1 where there is none.
+fn line_end(buf: &[u8], at: usize, end: usize) -> usize
+    requires { ⌜ (at ≤ end) × (end ≤ length (now buf)) ⌝ }
+    ensures { λ r. ⌜ r ≡ at + cut (between (now (buf .entry)) at end) ⌝ }
+{
+    let mut i = at;
+    while i < end {
+        if buf[i] == b'\n' {
+            return i + 1;
+        }
+        i += 1;
+    }
+    end + 1
+}
+
+// Moves the bytes from `at` up to `end` to the front of buf, and answers how many there are.
+fn to_front(buf: &mut [u8], at: usize, end: usize) -> usize
+    requires { ⌜ (at ≤ end) × (end ≤ length (now buf)) ⌝ }
+    ensures { λ r. ⌜ AtFront (now (buf .entry)) at end (now (buf .exit)) r ⌝ }
+{
+    let n = end - at;
+    let mut i = 0;
+    while i < n {
+        buf[i] = buf[at + i];
+        i += 1;
+    }
+    n
+}
+
+// How many bytes the buffer has, and whether the reading went well.
+struct Came {
+    n: usize,
+    ok: bool,
+}
+
+// Reads into buf behind its first n bytes, and answers how many it has then.
+fn read_more(buf: &mut [u8], n: usize) -> Came
+    requires { ⌜ n ≤ length (now buf) ⌝ }
+    ensures { λ r. ⌜ More (now (buf .entry)) n (now (buf .exit)) r ⌝ }
+{
+    let part = &mut buf[n..];
+    let got = libc::read(STDIN_FILENO, part);
+    Came {
+        n: n + io::count(got, part),
+        ok: got >= 0,
+    }
+}
+
+// What a turn found: a line that stands whole, more bytes, the end of the input, a buffer that no line fits in, or that
+// the input cannot be read.
+pub enum Found {
+    Line,
+    More,
+    Ended,
+    Full,
+    Failed,
+}
+
+// The unread bytes of the buffer are then from `at` up to `end`; a line that was found is from `from` up to `at`.
+pub struct Turn {
+    pub from: usize,
+    pub at: usize,
+    pub end: usize,
+    pub found: Found,
+}
+
+fn at_front(end: usize, found: Found) -> Turn
+    ensures { λ r. ⌜ r ≡ record { from = 0; at = 0; end = end; found = found } ⌝ }
+{
+    Turn {
+        from: 0,
+        at: 0,
+        end,
+        found,
+    }
+}
+
+// No line stands whole: the unread bytes go to the front, and more are read behind them.
+fn read_on(buf: &mut [u8], at: usize, end: usize) -> Turn
+    requires { ⌜ (at ≤ end) × (end ≤ length (now buf)) ⌝ }
+    requires { ⌜ end < at + cut (between (now buf) at end) ⌝ }
+    ensures { λ r. ⌜ Turned (now (buf .entry)) at end (now (buf .exit)) r ⌝ }
+{
+    let n = to_front(buf, at, end);
+    if n == buf.len() {
+        return at_front(n, Found::Full);
+    }
+    let came = read_more(buf, n);
+    if came.n > n {
+        return at_front(came.n, Found::More);
+    }
+    if came.ok {
+        return at_front(n, Found::Ended);
+    }
+    at_front(n, Found::Failed)
+}
+
+// One turn of the reading loop: a line that stands whole in the buffer, or a reading.
+pub fn next_turn(buf: &mut [u8], at: usize, end: usize) -> Turn
+    requires { ⌜ (at ≤ end) × (end ≤ length (now buf)) ⌝ }
+    ensures { λ r. ⌜ Turned (now (buf .entry)) at end (now (buf .exit)) r ⌝ }
+{
+    let e = line_end(buf, at, end);
+    if e <= end {
+        return Turn {
+            from: at,
+            at: e,
+            end,
+            found: Found::Line,
+        };
+    }
+    read_on(buf, at, end)
+}

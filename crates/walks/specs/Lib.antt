@@ -1,6 +1,0 @@
-pub mod Walks
-pub mod Lefts
-pub mod Points
-pub mod Counting
-pub mod Writing
-pub mod Remembering
