@@ -24,7 +24,7 @@ pub extern "C" fn arith_root(x: f64) -> f64
 pub extern "C" fn arith_root_at_most(x: f64, y: f64) -> bool
     ensures { λ r. ⌜ r ≡ Ieee.le (sqrt binary64 x) y ⌝ }
 {
-    root::at_most::root_at_most(x, y)
+    root_bound::root_at_most(x, y)
 }
 
 #[no_mangle]
