@@ -2,7 +2,7 @@
 use arc_rows::Plan;
 use arc_rows::Way;
 use arc_rows::plan_arc;
-use arc_rows::write_arc;
+use arc_write::write_arc;
 use floats::of_bits;
 use layout::AXIS_CODES;
 use layout::W_KNOWN;
