@@ -79,7 +79,13 @@ pub fn held_axes(row: &[u64], gs: u64, known: u64, u: usize, v: usize) -> u64
 }
 
 // The centre of an arc block, by its offsets or CR.
-pub fn seek_centre(row: &[u64], cw: bool, e: arc_centre::Ends, u: usize, v: usize) -> arc_centre::Centre
+pub fn seek_centre(
+    row: &[u64],
+    cw: bool,
+    e: arc_centre::Ends,
+    u: usize,
+    v: usize,
+) -> arc_centre::Centre
     requires { ⌜ (length (now row) ≡ rowWords) × ((u < 3) × (v < 3)) ⌝ }
     ensures { λ r. ⌜ centreIs r ≡ centreAt cw (endsIs e) u v (now (row .entry)) ⌝ }
 {

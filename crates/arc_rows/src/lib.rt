@@ -1,11 +1,10 @@
-// What an arc block comes to at the positions before it: the number of its rows, a warning, and how they come about.
+// What an arc block comes to by its centre: the number of its rows, a warning, and how they come about.
 ghost use mathlib.Core.Path.{_≡_};
 ghost use Prim.Native.Nat.{_<_};
 ghost use lib.ListN.{length};
 ghost use Rattle.layout.specs.Layout.{axisMasks, rowWords};
-ghost use Rattle.row_cells.specs.Row.{shown, axesOf};
 ghost use Rattle.arc_centre.specs.Types.{centreIs, endsIs};
-ghost use Rattle.arc_rows.specs.Plan.{BlockOf, passPlan, alongPlan, PlannedFrom, PlanOf};
+ghost use Rattle.arc_rows.specs.Plan.{passPlan, alongPlan, PlannedFrom};
 
 // How a block's rows come about: it passes unchanged, or it goes along an arc.
 pub enum Way {
@@ -22,7 +21,7 @@ pub struct Plan {
     pub way: Way,
 }
 
-fn passing(warning: u64) -> Plan
+pub fn passing(warning: u64) -> Plan
     ensures { λ p. ⌜ p ≡ passPlan warning ⌝ }
 {
     Plan {
@@ -59,7 +58,7 @@ fn along(e: arc_centre::Ends, c: arc_numbers::Arc, held: u64) -> Plan
 }
 
 // What an arc block from e's start to its end comes to by its centre.
-fn from_centre(
+pub fn from_centre(
     row: &[u64],
     f: arc_sample::Setting,
     cw: bool,
@@ -83,33 +82,4 @@ fn from_centre(
         arc_centre::Centre::Missing => passing(4),
         arc_centre::Centre::Small => passing(5),
     }
-}
-
-// What an arc block comes to. gs is the mask of the geometric axes, known that of the positions at hand.
-pub fn plan_arc(
-    row: &[u64],
-    gs: u64,
-    plane: u64,
-    cw: bool,
-    known: u64,
-    at: &[u64],
-    tol: f64,
-) -> Plan
-    requires { ⌜ BlockOf (now row) gs (now at) ⌝ }
-    ensures { λ p. ⌜ PlanOf tol (axesOf gs) plane cw (shown known (now (at .entry))) (now (row .entry)) p ⌝ }
-{
-    let u = arc_words::plane_u(plane);
-    let v = arc_words::plane_v(plane);
-    if arc_block::is_silent(row, gs, u, v) {
-        return passing(0);
-    }
-    if !row_cells::has_bit(known, u as u64) {
-        return passing(1);
-    }
-    if !row_cells::has_bit(known, v as u64) {
-        return passing(1);
-    }
-    let e = arc_block::ends(row, at, u, v);
-    let f = arc_sample::Setting { gs, plane, known };
-    from_centre(row, f, cw, tol, e, arc_block::seek_centre(row, cw, e, u, v))
 }

@@ -1,11 +1,11 @@
--- `arc_rows::plan_arc` meets its contract. Assumes nothing.
+-- `arc_group::plan_arc` meets its contract. Assumes nothing.
 use mathlib.Core.Path.{sym, _∙_}
 use borrow.Author.Tests.{not-true, not-false}
 use Rattle.arc_rows.specs.Plan.{PlannedFrom}
 use Rattle.arc_rows.specs.PlanLaws.{answer-silent, answer-no-u, answer-no-v, answer-found, pass-planned, planned-as}
 use borrow.Author.Needs.{needs}
-use Rattle.arc_rows.proofs.plan_arc.Statement.{statement}
-use Rattle.arc_rows.proofs.plan_arc.Tie as tie
+use Rattle.arc_group.proofs.plan_arc.Statement.{statement}
+use Rattle.arc_group.proofs.plan_arc.Tie as tie
 
 plane-u-requires : tie.Need-plane-u-requires
 plane-u-requires c κs = search needs

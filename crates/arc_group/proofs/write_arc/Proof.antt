@@ -1,9 +1,9 @@
--- `arc_write::write_arc` meets its contract. Assumes nothing.
+-- `arc_group::write_arc` meets its contract. Assumes nothing.
 use Rattle.arc_sample.specs.Rowing.{flatten-one}
 use Rattle.arc_rows.specs.Plan.{wayRows}
 use borrow.Author.Needs.{needs}
-use Rattle.arc_write.proofs.write_arc.Statement.{statement}
-use Rattle.arc_write.proofs.write_arc.Tie as tie
+use Rattle.arc_group.proofs.write_arc.Statement.{statement}
+use Rattle.arc_group.proofs.write_arc.Tie as tie
 
 enum-told : tie.Need-enum-told
 enum-told c = search needs
