@@ -1,6 +1,6 @@
 // Distances and chord lengths over the metric's channels `ms`.
 use layout::AXIS_CODES;
-use root::at_most::root_at_most;
+use root_bound::root_at_most;
 ghost use mathlib.Core.Path.{_≡_};
 ghost use Prim.Native.Nat.{_≤_, _<_, _*_};
 ghost use lib.ListN.{length};
