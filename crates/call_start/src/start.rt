@@ -8,7 +8,6 @@ use layout::W_DEGREE;
 use layout::W_MOTION;
 use layout::W_PLANE;
 use layout::W_TOLERANCE;
-use layout::is_state;
 use motion::G1;
 use row_cells::PLANE_XY;
 use saved_state::state::PLAIN_DEGREE;
@@ -69,7 +68,7 @@ fn write_fresh(state: &mut [u64], tolerance: u64, axes: &[u64])
 pub fn start(state: &mut [u64], tolerance: u64, axes: &[u64]) -> Reply
     ensures { λ r. ⌜ StateIs (startSpec (now (state .entry)) tolerance (now (axes .entry))) r (now (state .exit)) ⌝ }
 {
-    if !is_state(state) {
+    if state.len() != STATE_WORDS {
         return plain_reply(9);
     }
     if !tol_ok(tolerance) {

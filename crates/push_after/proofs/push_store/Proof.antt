@@ -1,10 +1,10 @@
--- `push_state::push_store` meets its contract. Assumes nothing.
+-- `push_after::push_store` meets its contract. Assumes nothing.
 use mathlib.Core.Path.{sym, _∙_}
 use native.Mathlib.Omega.{arith}
 use Rattle.floats.specs.Truth.{cond-t, cond-f}
 use borrow.Author.Needs.{needs}
-use Rattle.push_state.proofs.push_store.Statement.{statement}
-use Rattle.push_state.proofs.push_store.Tie as tie
+use Rattle.push_after.proofs.push_store.Statement.{statement}
+use Rattle.push_after.proofs.push_store.Tie as tie
 
 is-spline-requires : tie.Need-is-spline-requires
 is-spline-requires c κs = search needs

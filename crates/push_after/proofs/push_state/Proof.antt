@@ -1,9 +1,9 @@
--- `push_state::push_state` meets its contract. Assumes nothing.
+-- `push_after::push_state` meets its contract. Assumes nothing.
 use native.Mathlib.Omega.{arith}
-use Rattle.push_state.proofs.Steps.{step-1, block-2, held-2, long-3, block-4, axes-4, state-done}
+use Rattle.push_after.proofs.Steps.{step-1, block-2, held-2, long-3, block-4, axes-4, state-done}
 use borrow.Author.Needs.{needs}
-use Rattle.push_state.proofs.push_state.Statement.{statement}
-use Rattle.push_state.proofs.push_state.Tie as tie
+use Rattle.push_after.proofs.push_state.Statement.{statement}
+use Rattle.push_after.proofs.push_state.Tie as tie
 
 forget-if-requires : tie.Need-forget-if-requires
 forget-if-requires c κs = search needs

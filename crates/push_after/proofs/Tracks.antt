@@ -1,4 +1,4 @@
--- Tracking by the bits of a mask, the lowest first. Assumes nothing.
+-- LAWS. Tracking by the bits of a mask, the lowest first. Assumes nothing.
 use Prim.Native.Nat.{ℕ, zero, suc, _+_, _-_, _^_, _<_, _≤_}
 use mathlib.Core.Path.{_≡_, refl, sym, _∙_, ap, subst}
 use mathlib.Core.Bool.{Bool, true, false, _&&_, false≢true}
