@@ -14,7 +14,7 @@ use layout::W_MOTION;
 use layout::W_START;
 use layout::W_TOLERANCE;
 use push_state::forget;
-use saved_state::state::saved_check;
+use saved_check::saved_check;
 use spline_emission::Job;
 use spline_emission::emit_within;
 ghost use mathlib.Core.Path.{_≡_};

@@ -42,13 +42,13 @@ pub fn within_range(x: u64) -> bool
     x % SIGN_BIT <= MOST_NUMBER
 }
 
-pub fn is_above_1000(x: u64) -> bool
+fn is_above_1000(x: u64) -> bool
     ensures { λ r. ⌜ r ≡ above1000 x ⌝ }
 {
     x < SIGN_BIT && MOST_TURNS < x
 }
 
-pub fn plane_ok(p: u64) -> bool
+fn plane_ok(p: u64) -> bool
     ensures { λ r. ⌜ r ≡ planeOk p ⌝ }
 {
     p == 0 || (PLANE_XY <= p && p <= PLANE_YZ)
