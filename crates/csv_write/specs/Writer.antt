@@ -12,9 +12,9 @@ use Rattle.layout.specs.Layout.{rCells, rowWords, lineNumbers}
 use Rattle.row_cells.specs.Codes.{planeOk}
 use Rattle.row_cells.specs.Bits.{has}
 use Rattle.row_cells.specs.Row.{lineOf, motionOf, planeOf, markOf, presentOf}
-use Rattle.csv_fields.specs.Write.{wholeText, numberText, shown}
-use Rattle.csv_fields.specs.declared.Placed.{Placed}
-use Rattle.csv_fields.specs.declared.Placed.the-variants as Placed
+use Rattle.csv_figures.specs.Write.{wholeText, numberText, shown}
+use Rattle.csv_figures.specs.declared.Placed.{Placed}
+use Rattle.csv_figures.specs.declared.Placed.the-variants as Placed
 use Rattle.csv_words.specs.Words.{wordAt, planeText}
 use Rattle.csv_line.specs.LineText.{crlf, columnCount, codeAt, joined}
 

@@ -1,6 +1,6 @@
 // A row out: from the words of a row to the text of its line.
-use csv_fields::Placed;
-use csv_fields::put_byte;
+use csv_figures::Placed;
+use csv_figures::put_byte;
 use csv_line::COLUMNS;
 use csv_line::code_at;
 use csv_line::put_crlf;
@@ -19,7 +19,7 @@ ghost use lib.ListN.{length};
 ghost use Rattle.layout.specs.Layout.{rowWords};
 ghost use Rattle.floats.specs.Lists.{all};
 ghost use Rattle.row_cells.specs.Row.{motionOf, planeOf};
-ghost use Rattle.csv_fields.specs.Out.{Wrote};
+ghost use Rattle.csv_figures.specs.Out.{Wrote};
 ghost use Rattle.csv_line.specs.LineText.{comma, crlf, tailed, joined};
 ghost use Rattle.csv_write.specs.Writer.{cellText, cellShown, cellTexts, headFields, markText, rowText, writable, rowsText, rowsWritable, Tried};
 
@@ -33,7 +33,7 @@ fn put_cell(row: &[u64], out: &mut [u8], n: usize, i: usize) -> Placed
     let at = put_byte(out, n, b',');
     let code = code_at(i);
     if row_cells::has_bit(row[R_PRESENT], code as u64) {
-        return csv_fields::put_number(out, at, floats::of_bits(row[R_CELLS + code]));
+        return csv_figures::put_number(out, at, floats::of_bits(row[R_CELLS + code]));
     }
     Placed::Upto(at)
 }
@@ -59,7 +59,7 @@ fn put_head(row: &[u64], out: &mut [u8], n: usize) -> usize
     requires { ⌜ (length (now row) ≡ rowWords) × ((motionOf (now row) < 16) × ((planeOf (now row) < 20) × (n + 26 ≤ length (now out)))) ⌝ }
     ensures { λ r. ⌜ Wrote (now (out .entry)) n (joined (headFields (now (row .entry)))) (now (out .exit)) r ⌝ }
 {
-    let a = csv_fields::put_whole(out, n, row[R_LINE]);
+    let a = csv_figures::put_whole(out, n, row[R_LINE]);
     let b = put_byte(out, a, b',');
     let c = csv_words::put_motion(out, b, row[R_MOTION] as usize);
     let d = put_byte(out, c, b',');
