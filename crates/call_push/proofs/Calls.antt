@@ -28,7 +28,7 @@ use Rattle.call_close.specs.Close.{untouched}
 use Rattle.saved_state.specs.Checked.{saved-ok}
 use Rattle.saved_state.specs.StateLaws.{good, good-few}
 use Rattle.push_rows.specs.Own.{Ready, ready, OwnPlanned, ownRows}
-use Rattle.spline_emission.specs.Emission.{putWithin}
+use Rattle.spline_plan.specs.Emission.{putWithin}
 use Rattle.call_push.specs.Before.{before, before-words}
 use Rattle.call_close.specs.Emitted.{Put, room-left, room-short, put-refused, put-written}
 use Rattle.push_rows.specs.Few.{few-own}

@@ -16,7 +16,7 @@ use push_rows::write_own;
 ghost use mathlib.Core.Path.{_≡_};
 ghost use mathlib.Core.Bool.{cond};
 ghost use Prim.Native.Nat.{_≤_};
-ghost use Rattle.spline_emission.specs.Emits.{mostOwn};
+ghost use Rattle.spline_write.specs.Emits.{mostOwn};
 ghost use Rattle.saved_state.specs.State.{savedCheck};
 ghost use Rattle.call_reply.specs.Replies.{PushIs};
 ghost use Rattle.call_close.specs.Emitted.{Put};
