@@ -1,4 +1,4 @@
--- What the code plans for a block's own rows, and that it is the definition's answer. Assumes nothing.
+-- CONTRACTS. What the code plans for a block's own rows, with the laws that it is the definition's answer. Assumes nothing.
 use Prim.Native.Nat.{ℕ, _+_, _*_, _^_, _<_, _≤_}
 use mathlib.Core.Path.{_≡_, sym, _∙_, ap, subst, fun-ext}
 use mathlib.Core.Bool.{Bool, true, false, cond}
