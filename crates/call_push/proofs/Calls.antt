@@ -16,7 +16,8 @@ use Rattle.floats.specs.Truth.{by-bit, cond-t, cond-f}
 use Rattle.arc_rows.specs.declared.Plan.{Plan}
 use Rattle.saved_state.specs.State.{held, savedCheck}
 use Rattle.call_reply.specs.declared.Reply.{Reply}
-use Rattle.call_reply.specs.Replies.{plain, After, tooFew, doneReply, PushIs, answers}
+use Rattle.call_reply.specs.Replies.{plain, After, tooFew, doneReply, PushIs}
+use Rattle.call_reply.specs.ReplyLaws.{answers}
 use Rattle.push_check.specs.Blocks.{emits, isFull, news, pushCheck}
 use Rattle.push_check.specs.declared.Resolved.{Resolved}
 use Rattle.push_check.specs.Resolved.{resolved, due}

@@ -22,7 +22,7 @@ ghost use lib.ListN.{length, set, getD};
 ghost use Rattle.layout.specs.Layout.{axisCodes, wMotion, wPlane, wWarned, stateWords, mostHeld};
 ghost use Rattle.saved_state.specs.State.{held, geometricMask};
 ghost use Rattle.row_cells.specs.Bits.{withBit};
-ghost use Rattle.push_check.specs.BlockLaws.{Block};
+ghost use Rattle.push_check.specs.Asks.{Block};
 ghost use Rattle.push_check.specs.Resolved.{resolved};
 ghost use Rattle.push_state.specs.Pushed.{forgotten, buffered, pushState, trackTo};
 ghost use Rattle.push_state.specs.Stored.{Stores, storeWith};

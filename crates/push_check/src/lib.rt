@@ -24,7 +24,7 @@ ghost use Rattle.layout.specs.Layout.{rowWords, mostHeld};
 ghost use Rattle.motion.specs.Motion.{splineKind, isOther, lastMotion};
 ghost use Rattle.row_cells.specs.Bits.{has};
 ghost use Rattle.push_check.specs.Blocks.{orNow};
-ghost use Rattle.push_check.specs.BlockLaws.{Block};
+ghost use Rattle.push_check.specs.Asks.{Block};
 ghost use Rattle.push_check.specs.Resolved.{resolved, due};
 
 // What a block comes to at a state: the motion then in force, its kind, the plane; whether the held spline goes out first

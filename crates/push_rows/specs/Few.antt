@@ -1,4 +1,4 @@
--- A block's own rows are not too many. Assumes nothing.
+-- LAWS. A block's own rows are not too many. Assumes nothing.
 use Prim.Native.Nat.{ℕ, _≤_}
 use mathlib.Core.Bool.{Bool, true, false}
 use mathlib.Core.List.{List}

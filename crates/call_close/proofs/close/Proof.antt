@@ -6,7 +6,8 @@ use lib.ListN.{length}
 use borrow.Author.Tests.{eq-eqb, ne-eqb}
 use Rattle.floats.specs.Truth.{cond-t, cond-f}
 use Rattle.layout.specs.Layout.{rowWords}
-use Rattle.call_reply.specs.Replies.{plain, tooFew, answers, doneReply}
+use Rattle.call_reply.specs.Replies.{plain, tooFew, doneReply}
+use Rattle.call_reply.specs.ReplyLaws.{answers}
 use Rattle.saved_state.specs.StateLaws.{good}
 use Rattle.call_close.specs.Close.{untouched, closeState}
 use Rattle.saved_state.specs.Checked.{saved-ok}
