@@ -10,7 +10,8 @@ use lib.ListN.{length, getD, take, drop, length-append}
 use lib.Dec.{eqb}
 use borrow.Author.Tests.{eqb-true, eqb-false, eq-eqb}
 use Rattle.floats.specs.Lists.{upto, member, spliced}
-use Rattle.layout.specs.Layout.{axisCodes, cSD, rowWords, wAxes, wKnown, wStart, wMotion, wPlane, wDegree, wHeld, stateWords, listCodes, wTolerance}
+use Rattle.layout.specs.Layout.{wAxisCount, axisCodes, cSD, rowWords, wAxes, wKnown, wStart, wMotion, wPlane, wDegree, wHeld, stateWords, listCodes}
+use Rattle.layout.specs.Layout.{wTolerance}
 use Rattle.motion.specs.Motion.{isSpline}
 use Rattle.row_cells.specs.Codes.{geometricOf}
 use Rattle.row_cells.specs.Bits.{has}
@@ -266,7 +267,7 @@ module _ {tol : ℕ} {gs : List ℕ} {s : Standing} {st store : List ℕ} (r : L
       by-bit (isSpline (motionThen st r))
       (λ y. let c : withBlock gs s r .curve ≡ goesOn s r ++ (r ∷ []) = open-curve y in
       record {
-        tolerance = push-low st r words 0 (omega arith) ∙ t .tolerance;
+        tolerance = push-low st r words wTolerance (omega arith) ∙ t .tolerance;
         axes = same-axes st (pushState st r) words (pushState-length st r words) (few-axes st (p .saved .state)) (push-low st r words) ∙ t .axes;
         motion = push-motion st r words ∙ motion-now;
         plane = push-plane st r words ∙ plane-is;
@@ -280,7 +281,7 @@ module _ {tol : ℕ} {gs : List ℕ} {s : Standing} {st store : List ℕ} (r : L
       (λ f. let c : withBlock gs s r .curve ≡ [] = closed-curve f in
       let e : length (withBlock gs s r .curve) ≡ 0 = ap length c in
       record {
-        tolerance = push-low st r words 0 (omega arith) ∙ t .tolerance;
+        tolerance = push-low st r words wTolerance (omega arith) ∙ t .tolerance;
         axes = same-axes st (pushState st r) words (pushState-length st r words) (few-axes st (p .saved .state)) (push-low st r words) ∙ t .axes;
         motion = push-motion st r words ∙ motion-now;
         plane = push-plane st r words ∙ plane-is;
@@ -331,7 +332,7 @@ module _ {tol : ℕ} {gs : List ℕ} {s : Standing} {st store : List ℕ} (c x :
     placed-stands : Stands tol gs (withSeed gs s c x) (placed st c x) store
     unfolding withSeed
     placed-stands = record {
-      tolerance = else-word 0 (λ a b. omega arith) ∙ t .tolerance;
+      tolerance = else-word wTolerance (λ a b. omega arith) ∙ t .tolerance;
       axes = same-axes st (placed st c x) n (placed-length st c x ∙ n) few (λ j h. else-word j (λ a b. omega arith)) ∙ t .axes;
       motion = else-word wMotion (λ a b. omega arith) ∙ t .motion;
       plane = else-word wPlane (λ a b. omega arith) ∙ t .plane;
@@ -384,7 +385,7 @@ module _ {tol : ℕ} {gs : List ℕ} {s : Standing} {st store : List ℕ} (t : S
   pub emptied-stands : Stands tol gs (withClose s) (forgotten st) store
   unfolding withClose
   emptied-stands = record {
-    tolerance = forgotten-keeps st 0 n (omega arith) ∙ t .tolerance;
+    tolerance = forgotten-keeps st wTolerance n (omega arith) ∙ t .tolerance;
     axes = same-axes st (forgotten st) n (forgotten-length st n) few (λ j h. forgotten-keeps st j n (omega arith)) ∙ t .axes;
     motion = forgotten-keeps st wMotion n (omega arith) ∙ t .motion;
     plane = forgotten-keeps st wPlane n (omega arith) ∙ t .plane;
@@ -416,7 +417,7 @@ module _ (tol : ℕ) (axes : List ℕ) (ok : codesOk axes ≡ true) where
   fresh-axes : geometric (fresh tol axes) ≡ geometricOf axes
   unfolding geometric freshWord
   fresh-axes =
-      ap (λ (k : ℕ). geometricOf (take k (drop wAxes (fresh tol axes)))) (fresh-at tol axes ok 1 (omega arith))
+      ap (λ (k : ℕ). geometricOf (take k (drop wAxes (fresh tol axes)))) (fresh-at tol axes ok wAxisCount (omega arith))
       ∙ ap geometricOf (fresh-list tol axes ok)
 
   nothing : (w : ℕ) → getD (fresh tol axes) w 0 ≡ 0 → (k : ℕ) → pointWord (fresh tol axes) w k ≡ none
@@ -426,7 +427,7 @@ module _ (tol : ℕ) (axes : List ℕ) (ok : codesOk axes ≡ true) where
   pub fresh-stands : (store : List ℕ) → Stands tol (geometricOf axes) atFirst (fresh tol axes) store
   unfolding atFirst freshWord
   fresh-stands store = record {
-    tolerance = fresh-at tol axes ok 0 (omega arith);
+    tolerance = fresh-at tol axes ok wTolerance (omega arith);
     axes = fresh-axes;
     motion = fresh-at tol axes ok wMotion (omega arith);
     plane = fresh-at tol axes ok wPlane (omega arith);

@@ -11,7 +11,8 @@ use Rattle.motion.specs.Motion.{lastMotion}
 use Rattle.floats.specs.Lists.{member, all}
 use Rattle.floats.specs.Fill.{length-upto}
 use Rattle.floats.specs.Truth.{by-bit, cond-t, cond-f, and-i, all-ext}
-use Rattle.layout.specs.Layout.{rowWords, wAxes, wMotion, wPlane, wKnown, wStart, wDegree, wHeld, stateWords, mostDegree, axisCodes, listCodes}
+use Rattle.layout.specs.Layout.{wTolerance, wAxisCount, rowWords, wAxes, wMotion, wPlane, wKnown, wStart, wDegree, wHeld, stateWords, mostDegree, axisCodes}
+use Rattle.layout.specs.Layout.{listCodes}
 use Rattle.row_cells.specs.Codes.{planeXY, planeYZ}
 use Rattle.row_check.specs.Check.{within, rowCheck}
 use Rattle.row_cells.specs.Row.{motionOf}
@@ -29,7 +30,7 @@ module _ (tol : ℕ) (axes : List ℕ) (t : tolOk tol ≡ true) (ok : codesOk ax
   fresh-codes : axesOk (fresh tol axes) ≡ true
   unfolding axesOk freshWord
   fresh-codes =
-      let n : axisCount (fresh tol axes) ≡ length axes = fresh-at tol axes ok 1 (omega arith) in
+      let n : axisCount (fresh tol axes) ≡ length axes = fresh-at tol axes ok wAxisCount (omega arith) in
       and-i (ap (λ (k : ℕ). leb k listCodes) n ∙ le-leb (length axes) listCodes (few-codes tol axes ok))
       (ap (λ (k : ℕ). codesOk (take k (drop wAxes (fresh tol axes)))) n ∙ ap codesOk (fresh-list tol axes ok) ∙ ok)
 
@@ -39,7 +40,7 @@ module _ (tol : ℕ) (axes : List ℕ) (t : tolOk tol ≡ true) (ok : codesOk ax
       let w : (i : ℕ) → i < stateWords → getD (fresh tol axes) i 0 ≡ freshWord tol axes i = fresh-at tol axes ok in
       record {
         long = length-upto (freshWord tol axes) stateWords;
-        tolerance = ap tolOk (w 0 (omega arith)) ∙ t;
+        tolerance = ap tolOk (w wTolerance (omega arith)) ∙ t;
         axes = fresh-codes;
         motion = ap (λ (m : ℕ). leb 1 m && leb m lastMotion) (w wMotion (omega arith));
         plane = ap (λ (m : ℕ). leb planeXY m && leb m planeYZ) (w wPlane (omega arith));

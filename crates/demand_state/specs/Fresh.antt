@@ -11,7 +11,7 @@ use borrow.Author.Tests.{ne-eqb, leb-true, lt-ltb, ltb-true}
 use Rattle.floats.specs.Lists.{member, all}
 use Rattle.floats.specs.Fill.{length-upto, at-upto}
 use Rattle.floats.specs.Truth.{cond-t, cond-f, and-left}
-use Rattle.layout.specs.Layout.{axisCodes, wAxes, wMotion, stateWords, listCodes}
+use Rattle.layout.specs.Layout.{wTolerance, wAxisCount, axisCodes, wAxes, wMotion, stateWords, listCodes}
 use Rattle.row_cells.specs.Codes.{geometricOf}
 use Rattle.row_cells.specs.Masks.{member-keep}
 use Rattle.saved_state.specs.State.{codeOk, codesOk}
@@ -40,8 +40,8 @@ module _ (tol : ℕ) (axes : List ℕ) (ok : codesOk axes ≡ true) where
       let few : length axes ≤ listCodes = few-codes in
       let e : wAxes + i - wAxes ≡ i = omega arith in
       fresh-at (wAxes + i) (omega arith)
-      ∙ cond-f _ _ (ne-eqb (wAxes + i) 0 (λ z. omega arith))
-      ∙ cond-f _ _ (ne-eqb (wAxes + i) 1 (λ z. omega arith))
+      ∙ cond-f _ _ (ne-eqb (wAxes + i) wTolerance (λ z. omega arith))
+      ∙ cond-f _ _ (ne-eqb (wAxes + i) wAxisCount (λ z. omega arith))
       ∙ cond-t _ _ (lt-ltb (wAxes + i) wMotion (omega arith))
       ∙ ap (λ (j : ℕ). getD axes j 0) e
 
@@ -50,7 +50,7 @@ module _ (tol : ℕ) (axes : List ℕ) (ok : codesOk axes ≡ true) where
   fresh-list =
       let few : length axes ≤ listCodes = few-codes in
       let n : length (fresh tol axes) ≡ stateWords = length-upto (freshWord tol axes) stateWords in
-      let d : length (drop wAxes (fresh tol axes)) ≡ length (fresh tol axes) - 2 = length-drop wAxes (fresh tol axes) in
+      let d : length (drop wAxes (fresh tol axes)) ≡ length (fresh tol axes) - wAxes = length-drop wAxes (fresh tol axes) in
       let m : length (take (length axes) (drop wAxes (fresh tol axes))) ≡ length axes =
       length-take-le (length axes) (drop wAxes (fresh tol axes)) (omega arith) in
       ext-getD 0 (take (length axes) (drop wAxes (fresh tol axes))) axes m (λ i h.

@@ -13,7 +13,8 @@ use Rattle.floats.specs.Lists.{member, spliced, all}
 use Rattle.floats.specs.Fill.{length-upto, at-upto}
 use Rattle.floats.specs.Splice.{length-spliced}
 use Rattle.whole.specs.Whole.{truncCount}
-use Rattle.layout.specs.Layout.{axisCodes, rowWords, rCells, wMotion, wPlane, wKnown, wWarned, wStart, wDegree, wHeld, stateWords, mostHeld, mostDegree}
+use Rattle.layout.specs.Layout.{wTolerance, wAxisCount, axisCodes, rowWords, rCells, wMotion, wPlane, wKnown, wWarned, wStart, wDegree, wHeld, stateWords}
+use Rattle.layout.specs.Layout.{mostHeld, mostDegree}
 use Rattle.layout.specs.Layout.{cSD, listCodes}
 use Rattle.motion.specs.Motion.{isSpline, lastMotion}
 use Rattle.row_cells.specs.Codes.{planeXY, planeYZ, planeOk}
@@ -44,7 +45,7 @@ use Rattle.demand_state.specs.StoreRows.{held-new, held-old}
 module _ (st st′ : List ℕ) (s : SameAxes st st′) (few : axisCount st ≤ listCodes) (long : length st ≡ stateWords) where
   axes-same : axesOk st′ ≡ axesOk st
   unfolding axesOk
-  axes-same = ap₂ (λ (n : ℕ) (l : List ℕ). leb n listCodes && codesOk l) (s .low 1 (omega arith)) (same-codes st st′ s few long)
+  axes-same = ap₂ (λ (n : ℕ) (l : List ℕ). leb n listCodes && codesOk l) (s .low wAxisCount (omega arith)) (same-codes st st′ s few long)
 
   -- a point whose mask and present numbers are another's
   point-from : (w w′ : ℕ) → getD st′ w′ 0 ≡ getD st w 0
@@ -82,7 +83,7 @@ good-from : (st st′ : List ℕ) → Good st → SameAxes st st′ → Rest st�
 good-from st st′ g s r =
     record {
       long = s .long ∙ g .long;
-      tolerance = ap tolOk (s .low 0 (omega arith)) ∙ g .tolerance;
+      tolerance = ap tolOk (s .low wTolerance (omega arith)) ∙ g .tolerance;
       axes = axes-same st st′ s (axes-few st (g .axes)) (g .long) ∙ g .axes;
       motion = r .motion;
       plane = r .plane;

@@ -2,7 +2,7 @@
 use Prim.Native.Nat.{ℕ, _+_, _≤_, _<_}
 use mathlib.Core.Path.{_≡_, refl, sym, _∙_, ap, subst}
 use mathlib.Core.Bool.{Bool, true, false, _&&_}
-use mathlib.Core.List.{List, [], _∷_, _++_, map}
+use mathlib.Core.List.{List, [], _∷_, _++_, map, map-append}
 use mathlib.Core.Option.{Option, none, some}
 use native.Mathlib.Omega.{arith}
 use lib.ListN.{length, getD, length-append, length-map}
@@ -19,7 +19,6 @@ use Rattle.row_check.specs.Check.{within}
 use Rattle.floats.specs.Truth.{by-bit, and-left, cond-t, cond-f}
 use Rattle.row_check.specs.CheckLaws.{check-shape, out-check, check-cell-within}
 use Rattle.spline_emission.specs.Emission.{Spline, splineGroups, heldGroup, runsOf}
-use Rattle.bspline_tables.specs.Joins.{map-append}
 use Rattle.demand_calls.specs.Every.{Every, nil, more}
 use Rattle.demand_calls.specs.Laws.{some-same, none-some, cond-both, every-append}
 use Rattle.demand_calls.specs.Runs.{Event}

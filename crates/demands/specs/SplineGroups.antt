@@ -2,7 +2,7 @@
 use Prim.Native.Nat.{ℕ, suc, _+_, _-_, _*_, _≤_, _<_}
 use mathlib.Core.Path.{_≡_, refl, sym, _∙_, ap, subst}
 use mathlib.Core.Bool.{Bool, true, false, cond, _&&_, _||_, not, false≢true}
-use mathlib.Core.List.{List, [], _∷_, _++_, map}
+use mathlib.Core.List.{List, [], _∷_, _++_, map, map-append}
 use mathlib.Core.Option.{none, some}
 use mathlib.Core.Logic.{⊎-elim}
 use native.Mathlib.Omega.{arith}
@@ -28,7 +28,7 @@ use Rattle.curve_metric.specs.Metric.{pointOf}
 use Rattle.curve_metric.specs.Ends.{EndsWith, ends-last}
 use Rattle.fit_knots.specs.Fit.{fitRuns}
 use Rattle.bspline_tables.specs.Basis.{basisRuns, basisOf, spansOf, evalBasis}
-use Rattle.bspline_tables.specs.Joins.{map-append, keep-append, keep-here}
+use Rattle.bspline_tables.specs.Joins.{keep-append, keep-here}
 use Rattle.bspline_tables.specs.BasisLaws.{runs-length}
 use Rattle.bspline_tables.specs.LastRun.{last-run}
 use Rattle.bspline_tables.specs.EndPoint.{end-point}
