@@ -1,30 +1,24 @@
--- LAWS. When a push or a close is done or refused, the needed count, and that a contract allows one answer. Assumes nothing.
-use Prim.Native.Nat.{ℕ, _/_, _≤_, _<_}
-use mathlib.Core.Path.{_≡_, sym, _∙_, ap}
+-- LAWS. 8.5, 8.6: when a push or a close is done or refused, and the needed count. Assumes nothing.
+use Prim.Native.Nat.{ℕ, _≤_, _<_}
+use mathlib.Core.Path.{_≡_, refl, sym, _∙_, ap}
+use mathlib.Core.Bool.{true, false≢true}
 use mathlib.Core.List.{List}
 use native.Mathlib.Omega.{arith}
 use lib.ListN.{length}
 use lib.Dec.{leb, eqb}
 use borrow.Author.Tests.{eqb-true, eqb-false, eq-eqb, ne-eqb, leb-true, leb-false, le-leb, lt-leb}
 use Rattle.floats.specs.Truth.{by-bit, cond-t, cond-f}
-use Rattle.call_reply.specs.declared.Reply.{Reply}
 use Rattle.floats.specs.Lists.{flatten, spliced, all}
-use Rattle.layout.specs.Layout.{rowWords}
-use Rattle.row_check.specs.Check.{shapeOk, numbersOk, turnOk, rowCheck}
+use Rattle.layout.specs.Layout.{lastCode}
+use Rattle.row_check.specs.Check.{shapeOk, numbersOk, turnOk, rowCheck, within}
 use Rattle.saved_state.specs.State.{stateOk, storeOk, held, heldRowOk, savedCheck}
-use Rattle.call_reply.specs.Replies.{plain, After, AfterState, StateIs, tooFew, PushIs}
+use Rattle.call_reply.specs.Replies.{plain, After, tooFew}
+use Rattle.call_start.specs.Seed.{seeded, seedSpec}
 use Rattle.push_check.specs.Blocks.{isFull, pushCheck}
 use Rattle.call_push.specs.Push.{pushRows, pushDone, pushSpec}
 use Rattle.call_close.specs.Close.{untouched, closeRows, closeState, closeSpec}
-use Rattle.demands.specs.Laws.{cond-both}
-
--- ---- 8.4: two answers that are allowed for one call are one
-pub one-answer : {p : After} {r r′ : Reply} {s s′ t t′ u u′ : List ℕ} → PushIs p r s t u → PushIs p r′ s′ t′ u′
-    → (r ≡ r′) × (s ≡ s′) × (t ≡ t′) × (u ≡ u′)
-one-answer a b = (a .reply ∙ sym (b .reply), a .state ∙ sym (b .state), a .store ∙ sym (b .store), a .rows ∙ sym (b .rows))
-
-pub one-state : {p : AfterState} {r r′ : Reply} {s s′ : List ℕ} → StateIs p r s → StateIs p r′ s′ → (r ≡ r′) × (s ≡ s′)
-one-state a b = (a .reply ∙ sym (b .reply), a .state ∙ sym (b .state))
+use Rattle.demand_calls.specs.Laws.{cond-both}
+use Rattle.demand_calls.specs.Places.{places}
 
 -- ---- no check answers 7
 not-seven-saved : (st store : List ℕ) → savedCheck st store ≡ 7 → ⊥
@@ -51,12 +45,12 @@ not-seven st store r =
     (not-seven-saved st store)
 
 -- ---- how a push answers, and then a close: done, too few places, or refused by a check
-pub data Outcome (check n places : ℕ) : Type 0 where
+data Outcome (check n places : ℕ) : Type 0 where
   done : check ≡ 0 → n ≤ places → Outcome check n places
   few : check ≡ 0 → places < n → Outcome check n places
   turned : (check ≡ 0 → ⊥) → Outcome check n places
 
-pub outcome : (check n places : ℕ) → Outcome check n places
+outcome : (check n places : ℕ) → Outcome check n places
 outcome check n places =
     by-bit (eqb check 0)
     (λ a. by-bit (leb n places)
@@ -74,11 +68,8 @@ closeDone st store rows out =
       rows = spliced rows 0 (flatten out);
     }
 
-abbrev pub places : List ℕ → ℕ
-places rows = length rows / rowWords
-
 module _ (st store r : List ℕ) where
-  -- "when, and only then": a push with no refusal due and with room is done; with too few places it answers 7; else the check's number
+  -- 8.5: a push with no refusal due and with room is done; with too few places it answers 7; else it is refused by the number of the check
   pub push-done : (rows : List ℕ) → pushCheck st store r ≡ 0 → length (pushRows st store r) ≤ places rows
       → pushSpec st store rows r ≡ pushDone st store rows r (pushRows st store r)
   unfolding pushSpec
@@ -132,12 +123,12 @@ module _ (st store : List ℕ) where
   unfolding closeSpec closeDone
   close-done rows e f = cond-t _ _ (eq-eqb _ 0 e) ∙ cond-t _ _ (le-leb _ _ f)
 
-  pub close-few : (rows : List ℕ) → savedCheck st store ≡ 0 → places rows < length (closeRows st store)
+  close-few : (rows : List ℕ) → savedCheck st store ≡ 0 → places rows < length (closeRows st store)
       → closeSpec st store rows ≡ untouched (tooFew (length (closeRows st store))) st store rows
   unfolding closeSpec
   close-few rows e f = cond-t _ _ (eq-eqb _ 0 e) ∙ cond-f _ _ (lt-leb _ _ f)
 
-  pub close-turned : (rows : List ℕ) → (savedCheck st store ≡ 0 → ⊥) → closeSpec st store rows ≡ untouched (plain (savedCheck st store)) st store rows
+  close-turned : (rows : List ℕ) → (savedCheck st store ≡ 0 → ⊥) → closeSpec st store rows ≡ untouched (plain (savedCheck st store)) st store rows
   unfolding closeSpec
   close-turned rows d = cond-f _ _ (ne-eqb _ 0 d)
 
@@ -158,7 +149,7 @@ module _ (st store : List ℕ) where
   close-seven rows (few e f) z = (e, ap (λ (a : After). a .reply .count) (close-few rows e f))
   close-seven rows (turned d) z = absurd (not-seven-saved st store (sym (ap (λ (a : After). a .reply .code) (close-turned rows d)) ∙ z))
 
-  pub close-count : (rows : List ℕ) → closeSpec st store rows .reply .code ≡ 7
+  close-count : (rows : List ℕ) → closeSpec st store rows .reply .code ≡ 7
       → (savedCheck st store ≡ 0) × (closeSpec st store rows .reply .count ≡ length (closeRows st store))
   close-count rows = close-seven rows (outcome _ _ _)
 
@@ -169,3 +160,17 @@ module _ (st store : List ℕ) where
       let s : (savedCheck st store ≡ 0) × (closeSpec st store rows .reply .count ≡ length (closeRows st store)) = close-count rows z in
       let d : closeSpec st store lent ≡ closeDone st store lent (closeRows st store) = close-done lent (s .0) (omega (arith, s .1)) in
       (ap (λ (a : After). a .reply .code) d, ap (λ (a : After). a .reply .count) d ∙ sym (s .1))
+
+-- ---- a seed
+-- what an accepted seed leaves
+pub seed-left : (st : List ℕ) (c x : ℕ) → eqb (seedSpec st c x .reply .code) 0 ≡ true
+    → (stateOk st ≡ true) × (seedSpec st c x ≡ record { reply = plain 0; state = seeded st c x }) × (within x ≡ true)
+unfolding seedSpec
+seed-left st c x =
+    by-bit (stateOk st)
+    (λ a. by-bit (leb c lastCode)
+    (λ b. by-bit (within x)
+    (λ d. rw (a, b, d) (λ y. (refl, refl, refl)))
+    (λ d. rw (a, b, d) (λ y. absurd (false≢true y))))
+    (λ b. rw (a, b) (λ y. absurd (false≢true y))))
+    (λ a. rw a (λ y. absurd (false≢true y)))

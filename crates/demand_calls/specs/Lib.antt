@@ -1,0 +1,9 @@
+pub mod Every
+pub mod OneAnswer
+pub mod Places
+pub mod Runs
+pub mod Safe
+pub mod Laws
+pub mod RunLaws
+pub mod SafeLaws
+pub mod PlaceLaws

@@ -1,0 +1,7 @@
+pub mod Accepted
+pub mod Fresh
+pub mod StoreRows
+pub mod Lengths
+pub mod StateWords
+pub mod Keeps
+pub mod Begun
