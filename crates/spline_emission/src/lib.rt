@@ -41,7 +41,7 @@ ghost use Rattle.spline_rows.specs.Puts.{Spreads};
 ghost use Rattle.spline_rows.specs.Raw.{heldWords};
 ghost use Rattle.curve_walk.specs.Walks.{encode};
 ghost use Rattle.curve_runs.specs.Runs.{drawnRuns};
-ghost use Rattle.curve_runs.specs.Asks.{smallPoints};
+ghost use Rattle.fit_slopes.specs.Sizes.{smallPoints};
 ghost use Rattle.spline_emission.specs.Emits.{middlePoints, mostOwn, placesOf, frameOf, drawingOf};
 ghost use Rattle.spline_emission.specs.Emits.{Holds, Gathered, Curved, Drawn, Recalled, Rooms, Planned, Plans, Emitted, EmittedAs};
 

@@ -1,6 +1,6 @@
 -- `spline_emission::emit_small` meets its contract. Assumes nothing.
 use native.Mathlib.Omega.{arith}
-use Rattle.curve_runs.specs.Asks.{smallPoints}
+use Rattle.fit_slopes.specs.Sizes.{smallPoints}
 use Rattle.spline_emission.specs.Curves.{few-zeros}
 use Rattle.spline_emission.specs.Emitting.{plans-of, emitted-by}
 use borrow.Author.Needs.{needs}
