@@ -14,7 +14,7 @@ use Rattle.floats.specs.Numbers.{ofNat}
 use Rattle.floats.specs.Lists.{upto, keep, flatten}
 use Rattle.floats.specs.Fill.{length-upto, at-upto, lt-or-le}
 use Rattle.curve_metric.specs.Metric.{pointOf}
-use Rattle.curve_metric.specs.Walk.{Sample}
+use Rattle.curve_metric.specs.Walk.{Sample, depth}
 use Rattle.curve_metric.specs.WalkLaws.{Wide, samples-wide}
 use Rattle.curve_metric.specs.Ends.{Every, every-upto, every-flatten, every-map}
 use Rattle.bspline_tables.specs.Joins.{flatten-snoc, map-append, keep-here, keep-not}
@@ -133,7 +133,7 @@ unfolding basisSamples
 samples-width b ms tol =
     let ch = length (pointOf (b .points) 0) in
     every-flatten (Wide ch) _ (every-upto (Every (Wide ch)) _ (spansOf b) (λ j h.
-    samples-wide (evalBasis b) ms tol ch (eval-width b) 20 (ofNat j) (evalBasis b (ofNat j)) (ofNat (j + 1)) (evalBasis b (ofNat (j + 1)))
+    samples-wide (evalBasis b) ms tol ch (eval-width b) depth (ofNat j) (evalBasis b (ofNat j)) (ofNat (j + 1)) (evalBasis b (ofNat (j + 1)))
     (eval-width b (ofNat (j + 1)))))
 
 keep-every : {A : Type 0} (P : A → Type 0) (p : A → Bool) (xs : List A) → Every P xs → Every P (keep p xs)

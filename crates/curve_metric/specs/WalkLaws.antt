@@ -9,7 +9,7 @@ use lib.ListN.{length, length-append}
 use lib.Pow.{pow-mono, pow-pos}
 use lib.Ieee.{Float}
 use Rattle.curve_metric.specs.Ends.{EndsWith, Every, ends-one, ends-append, ends-some, every-one, every-append}
-use Rattle.curve_metric.specs.Walk.{Sample, samples, flat, middle}
+use Rattle.curve_metric.specs.Walk.{Sample, depth, samples, flat, middle}
 
 -- all channels of a sample are there
 abbrev pub Wide : ℕ → Sample → Type 0
@@ -70,10 +70,10 @@ module _ (eval : Float → List Float) (ms : List ℕ) (tol : Float) where
       (λ left t1 p0 p1. pow-pos left)
       (λ left tm t1 p0 p1 us vs a b. rw (length-append, pow-suc) (omega arith))
 
-  -- 2 ^ 20
+  -- 2 ^ depth
   pub samples-few : (left : ℕ) (t0 : Float) (p0 : List Float) (t1 : Float) (p1 : List Float)
-      → left ≤ 20 → length (samples eval ms tol left t0 p0 t1 p1) ≤ 0x100000
-  samples-few left t0 p0 t1 p1 h = le-trans (samples-le left t0 p0 t1 p1) (pow-mono {i = left} {j = 20} h)
+      → left ≤ depth → length (samples eval ms tol left t0 p0 t1 p1) ≤ 0x100000
+  samples-few left t0 p0 t1 p1 h = le-trans (samples-le left t0 p0 t1 p1) (pow-mono {i = left} {j = depth} h)
 
   pub samples-wide : (ch : ℕ) → ((t : Float) → length (eval t) ≡ ch) → (left : ℕ) (t0 : Float) (p0 : List Float) (t1 : Float) (p1 : List Float)
       → length p1 ≡ ch → Every (Wide ch) (samples eval ms tol left t0 p0 t1 p1)

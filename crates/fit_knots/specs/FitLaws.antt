@@ -15,7 +15,7 @@ use Rattle.floats.specs.Fill.{length-upto, at-upto}
 use Rattle.curve_metric.specs.Ends.{EndsWith, Every, ends-one, ends-some, ends-map, every-none, every-one, every-map, every-upto}
 use Rattle.curve_metric.specs.Metric.{pointOf, chordTo, chords}
 use Rattle.curve_metric.specs.Points.{length-rows}
-use Rattle.curve_metric.specs.Walk.{Sample, samples}
+use Rattle.curve_metric.specs.Walk.{Sample, depth, samples}
 use Rattle.curve_metric.specs.WalkLaws.{samples-end, samples-few, samples-wide}
 use Rattle.fit_knots.specs.Fit.{Fit, pieceOf, keptTo, fitOf, evalFit, fitRun, fitRuns}
 use Rattle.fit_knots.specs.KeptLaws.{kept-in}
@@ -47,7 +47,7 @@ flatten-none f = refl
 module _ (fit : Fit) (ms : List ℕ) (tol : Float) (pts : List (List Float)) (ts : List Float) (i : ℕ) where
   -- the walk over the stretch
   abbrev pub stretch : (Float → List Float) → List Sample
-  stretch eval = samples eval ms tol 20 (at ts i) (pointOf pts i) (at ts (i + 1)) (pointOf pts (i + 1))
+  stretch eval = samples eval ms tol depth (at ts i) (pointOf pts i) (at ts (i + 1)) (pointOf pts (i + 1))
 
   pub run-one : le (at ts (i + 1) ⊖ at ts i) 1e-12 ≡ true → fitRun fit ms tol pts ts i ≡ pointOf pts (i + 1) ∷ []
   unfolding fitRun
@@ -69,18 +69,18 @@ module _ (fit : Fit) (ms : List ℕ) (tol : Float) (pts : List (List Float)) (ts
       go : (b : Bool) → le (at ts (i + 1) ⊖ at ts i) 1e-12 ≡ b → EndsWith (fitRun fit ms tol pts ts i) (pointOf pts (i + 1))
       go true e = rw (run-one e) (ends-one (pointOf pts (i + 1)))
       go false e = rw (run-walk e) (ends-map (λ (s : Sample). s .point)
-          (samples-end (evalFit fit) ms tol 20 (at ts i) (pointOf pts i) (at ts (i + 1)) (pointOf pts (i + 1))))
+          (samples-end (evalFit fit) ms tol depth (at ts i) (pointOf pts i) (at ts (i + 1)) (pointOf pts (i + 1))))
 
   pub run-some : 1 ≤ length (fitRun fit ms tol pts ts i)
   run-some = ends-some run-end
 
-  -- 2 ^ 20
+  -- 2 ^ depth
   pub run-few : length (fitRun fit ms tol pts ts i) ≤ 0x100000
   run-few = go (le (at ts (i + 1) ⊖ at ts i) 1e-12) refl
     where
       go : (b : Bool) → le (at ts (i + 1) ⊖ at ts i) 1e-12 ≡ b → length (fitRun fit ms tol pts ts i) ≤ 0x100000
       go true e = rw (run-one e) (omega arith)
-      go false e = rw (run-walk e, length-map) (samples-few (evalFit fit) ms tol 20 (at ts i) (pointOf pts i) (at ts (i + 1)) (pointOf pts (i + 1))
+      go false e = rw (run-walk e, length-map) (samples-few (evalFit fit) ms tol depth (at ts i) (pointOf pts i) (at ts (i + 1)) (pointOf pts (i + 1))
           (omega arith))
 
   pub run-wide : (ch : ℕ) → ((t : Float) → length (evalFit fit t) ≡ ch) → length (pointOf pts (i + 1)) ≡ ch → Every (OfWidth ch) (fitRun fit ms tol pts ts i)
@@ -89,7 +89,7 @@ module _ (fit : Fit) (ms : List ℕ) (tol : Float) (pts : List (List Float)) (ts
       go : (b : Bool) → le (at ts (i + 1) ⊖ at ts i) 1e-12 ≡ b → Every (OfWidth ch) (fitRun fit ms tol pts ts i)
       go true e = rw (run-one e) (every-one (OfWidth ch) (pointOf pts (i + 1)) h)
       go false e = rw (run-walk e) (every-map (OfWidth ch) (λ (s : Sample). s .point) (stretch (evalFit fit))
-          (samples-wide (evalFit fit) ms tol ch w 20 (at ts i) (pointOf pts i) (at ts (i + 1)) (pointOf pts (i + 1)) h))
+          (samples-wide (evalFit fit) ms tol ch w depth (at ts i) (pointOf pts i) (at ts (i + 1)) (pointOf pts (i + 1)) h))
 
 -- a point of the curve has as many numbers as the points
 pub eval-wide : (cubic : Bool) (pts : List (List Float)) (ts : List Float) (ks : List ℕ) (ch : ℕ)

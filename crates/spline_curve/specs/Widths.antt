@@ -17,13 +17,12 @@ use Rattle.floats.specs.Fill.{length-upto, at-upto, lt-or-le}
 use Rattle.spline_channels.specs.Flat.{Sized, sized-append, flatten-append}
 use Rattle.spline_channels.specs.Keeps.{keep-most}
 use Rattle.curve_metric.specs.Metric.{pointOf, chords}
-use Rattle.curve_metric.specs.Walk.{Sample, middle, samples, flat}
+use Rattle.curve_metric.specs.Walk.{Sample, depth, middle, samples, flat}
 use Rattle.curve_metric.specs.WalkLaws.{samples-le}
 use Rattle.fit_knots.specs.Fit.{Fit, keptTo, fitOf, pieceFrom, pieceOf, evalFit, fitRun, fitRuns}
 use Rattle.bspline_tables.specs.Basis.{Bspline, basisOf, spansOf, evalBasis, basisSamples, Owned, owned, ownerFrom, runOf, basisRuns}
 use Rattle.layout.specs.Layout.{mostPoints}
 use Rattle.motion.specs.Motion.{isBasis, isCubic}
-use Rattle.curve_walk.specs.Lefts.{depth}
 use Rattle.curve_runs.specs.Runs.{runsBy, curveRuns}
 
 -- ---- lists of rows of one length

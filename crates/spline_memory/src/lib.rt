@@ -14,7 +14,7 @@ use spline_curve::Job;
 use spline_plan::plan_emission;
 use spline_write::write_emission;
 ghost use Prim.Native.Nat.{_*_, _≤_, _<_};
-ghost use Rattle.curve_runs.specs.Asks.{smallPoints};
+ghost use Rattle.fit_slopes.specs.Sizes.{smallPoints};
 ghost use Rattle.spline_memory.specs.Sizes.{middlePoints};
 ghost use Rattle.spline_write.specs.Emits.{mostOwn, Emitted};
 ghost use Rattle.spline_curve.specs.Asks.{Holds};

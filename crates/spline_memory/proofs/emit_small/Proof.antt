@@ -1,6 +1,6 @@
 -- `spline_memory::emit_small` meets its contract. Assumes nothing.
 use native.Mathlib.Omega.{arith}
-use Rattle.curve_runs.specs.Asks.{smallPoints}
+use Rattle.fit_slopes.specs.Sizes.{smallPoints}
 use Rattle.spline_curve.specs.Curves.{few-zeros}
 use borrow.Author.Needs.{needs}
 use Rattle.spline_memory.proofs.emit_small.Statement.{statement}
