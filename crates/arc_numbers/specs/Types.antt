@@ -1,4 +1,4 @@
--- DEFINITIONS. What a value of the code's types means to the definitions. Assumes nothing.
+-- CONTRACTS. What a value of the code's types means to the definitions. Assumes nothing.
 use Rattle.arc_numbers.specs.Arc as Spec
 use Rattle.arc_numbers.specs.declared.Arc.{Arc}
 

@@ -1,5 +1,6 @@
 -- DEFINITIONS. The square root of IEEE 754 over `lib.Ieee`: the exact root to the format's nearest value, ties to the even one. Assumes nothing.
--- There are no real numbers here: a root is compared by squares of whole numbers.
+-- There are no real numbers here: a root is compared by squares of whole numbers. What the steps below come to is said without them in two laws
+-- of modules beside this one: Floor, `floor-root`; Closest, `sqrt-is-closest`.
 use Prim.Native.Nat.{ℕ, zero, suc, _-_, _*_, _/_, _^_, compare}
 use mathlib.Core.Bool.{false, cond}
 use lib.Dec.{leb}
