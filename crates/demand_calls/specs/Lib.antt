@@ -3,6 +3,7 @@ pub mod OneAnswer
 pub mod Places
 pub mod Runs
 pub mod Safe
+pub mod Judged
 pub mod Laws
 pub mod RunLaws
 pub mod SafeLaws

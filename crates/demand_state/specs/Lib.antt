@@ -1,5 +1,6 @@
 pub mod Accepted
 pub mod Fresh
+pub mod Refusals
 pub mod StoreRows
 pub mod Lengths
 pub mod StateWords

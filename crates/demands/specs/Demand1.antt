@@ -8,15 +8,15 @@ use lib.Dec.{leb, eqb}
 use borrow.Author.Tests.{eqb-true, leb-true}
 use Rattle.floats.specs.Truth.{by-bit}
 use Rattle.call_reply.specs.declared.Reply.{Reply}
-use Rattle.floats.specs.Lists.{member, all}
+use Rattle.floats.specs.Lists.{member}
 use Rattle.floats.specs.Fill.{length-upto}
 use Rattle.layout.specs.Layout.{stateWords, lastCode}
-use Rattle.row_check.specs.Check.{within, shapeOk, numbersOk, turnOk, rowCheck}
-use Rattle.saved_state.specs.State.{stateOk, storeOk, tolOk, codesOk, geometric, held, heldRowOk, savedCheck}
+use Rattle.row_check.specs.Check.{within}
+use Rattle.saved_state.specs.State.{stateOk, tolOk, codesOk, geometric, held, savedCheck}
 use Rattle.call_reply.specs.Replies.{plain, AfterState, tooFew}
 use Rattle.call_start.specs.Start.{freshWord, fresh, startSpec}
 use Rattle.call_start.specs.Seed.{seeded, seedSpec}
-use Rattle.push_check.specs.Blocks.{isFull, pushCheck}
+use Rattle.push_check.specs.Blocks.{pushCheck}
 use Rattle.call_push.specs.Push.{pushRows, pushDone, pushSpec}
 use Rattle.call_close.specs.Close.{untouched, fits, closeRows, closeState, closeSpec}
 use Rattle.demand_calls.specs.Laws.{cond-both}
@@ -25,32 +25,10 @@ use Rattle.demand_calls.specs.Safe.{Turned, Safe, SafeState}
 use Rattle.demand_state.specs.Accepted.{Saved, saved, Pushed, pushed}
 use Rattle.demand_state.specs.Lengths.{placed-length, forgotten-length, pushState-length, pushStore-length}
 use Rattle.demands.specs.Demands.{Demand1}
+use Rattle.demand_state.specs.Refusals.{saved-number, push-number}
 use Rattle.demands.specs.RowLengths.{pushRows-long, closeRows-long}
 use Rattle.demand_calls.specs.Places.{places}
 use Rattle.demand_calls.specs.SafeLaws.{done-safe, few-turned, kept-safe, kept-state, new-state, plain-turned}
-
--- ---- the numbers
-saved-nine : (st store : List ℕ) → savedCheck st store ≤ 9
-unfolding savedCheck
-saved-nine st store =
-    cond-both (λ (n : ℕ). n ≤ 9) (stateOk st)
-    (cond-both (λ (n : ℕ). n ≤ 9) (storeOk st store) (cond-both (λ (n : ℕ). n ≤ 9) (all (held st) (heldRowOk st store)) (omega arith) (omega arith))
-    (omega arith))
-    (omega arith)
-
-row-nine : (r : List ℕ) → rowCheck r ≤ 9
-unfolding rowCheck
-row-nine r =
-    cond-both (λ (n : ℕ). n ≤ 9) (shapeOk r)
-    (cond-both (λ (n : ℕ). n ≤ 9) (numbersOk r) (cond-both (λ (n : ℕ). n ≤ 9) (turnOk r) (omega arith) (omega arith)) (omega arith))
-    (omega arith)
-
-push-nine : (st store r : List ℕ) → pushCheck st store r ≤ 9
-unfolding pushCheck
-push-nine st store r =
-    cond-both (λ (n : ℕ). n ≤ 9) (eqb (savedCheck st store) 0)
-    (cond-both (λ (n : ℕ). n ≤ 9) (eqb (rowCheck r) 0) (cond-both (λ (n : ℕ). n ≤ 9) (isFull st store r) (omega arith) (omega arith)) (row-nine r))
-    (saved-nine st store)
 
 -- ---- start and seed
 start-safe : (st : List ℕ) (tol : ℕ) (axes : List ℕ) → SafeState (startSpec st tol axes) st
@@ -100,7 +78,7 @@ push-safe st store rows r =
     (λ a. by-bit (fits (pushRows st store r) rows)
     (λ b. rw (a, b) (push-done st store rows r (eqb-true _ 0 a) (leb-true _ _ b)))
     (λ b. rw (a, b) (untouched-safe (tooFew _) st store rows (few-turned _))))
-    (λ a. rw a (untouched-safe (plain _) st store rows (plain-turned _ (push-nine st store r))))
+    (λ a. rw a (untouched-safe (plain _) st store rows (plain-turned _ (push-number st store r .low))))
 
 closeState-length : (st : List ℕ) → length st ≡ stateWords → length (closeState st) ≡ stateWords
 unfolding closeState
@@ -115,7 +93,7 @@ close-safe st store rows =
     rw (a, b) (done-safe _ st store rows refl
     (closeState-length st (s .words) ∙ sym (s .words)) refl (spliced-rows (closeRows st store) rows (closeRows-long st store) (leb-true _ _ b))))
     (λ b. rw (a, b) (untouched-safe (tooFew _) st store rows (few-turned _))))
-    (λ a. rw a (untouched-safe (plain _) st store rows (plain-turned _ (saved-nine st store))))
+    (λ a. rw a (untouched-safe (plain _) st store rows (plain-turned _ (saved-number st store .low))))
 
 pub demand1 : Demand1
 demand1 = record { start = start-safe; seeds = seed-safe; push = push-safe; close = close-safe }

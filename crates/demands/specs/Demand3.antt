@@ -18,7 +18,7 @@ use Rattle.demand_state.specs.Fresh.{small-axes}
 use Rattle.demand_standing.specs.Standing.{Standing, atFirst, withBlock, withSeed, withClose}
 use Rattle.demand_standing.specs.Stands.{Stands, fresh-stands}
 use Rattle.demands.specs.Demands.{Demand3, answer}
-use Rattle.demands.specs.Each.{keeps-first, each-group}
+use Rattle.demands.specs.Each.{ranged-first, each-group}
 use Rattle.demands.specs.Pending.{toCome, come-empty}
 use Rattle.demands.specs.Pieces.{pieceOf, piecesFrom, pieces}
 use Rattle.demands.specs.Sound.{sound-run}
@@ -63,5 +63,5 @@ demand3 old tol axes store cs rows z =
     (λ d. record {
       groups = run-groups cs rows t d ∙ ap words (at-first tol axes (run answer (fresh tol axes) store cs .events));
       order = in-order tol (geometricOf axes) atFirst (run answer (fresh tol axes) store cs .events);
-      each = each-group tol (geometricOf axes) (small-axes axes) (keeps-first (geometricOf axes)) (sound-run cs rows t d);
+      each = each-group tol (geometricOf axes) (small-axes axes) (ranged-first (geometricOf axes)) (sound-run cs rows t d);
     })

@@ -34,20 +34,20 @@ use Rattle.demand_groups.specs.Written.{Grouped}
 use Rattle.demand_standing.specs.Together.{last-point}
 
 -- ---- what stands, of rows and numbers that no refusal is due for
-pub record Keeps (gs : List ℕ) (s : Standing) : Type 0 where
+pub record Ranged (gs : List ℕ) (s : Standing) : Type 0 where
   pub off : (k : ℕ) → member k gs ≡ false → s .place k ≡ none
   pub place : (k x : ℕ) → s .place k ≡ some x → within x ≡ true
   pub start : (k x : ℕ) → s .start k ≡ some x → within x ≡ true
   pub curve : Every Fine (s .curve)
 
-pub keeps-first : (gs : List ℕ) → Keeps gs atFirst
+pub ranged-first : (gs : List ℕ) → Ranged gs atFirst
 unfolding atFirst
-keeps-first gs = record { off = λ k m. refl; place = λ k x e. absurd (none-some e); start = λ k x e. absurd (none-some e); curve = nil }
+ranged-first gs = record { off = λ k m. refl; place = λ k x e. absurd (none-some e); start = λ k x e. absurd (none-some e); curve = nil }
 
 module _ (gs : List ℕ) (small : (k : ℕ) → member k gs ≡ true → k < axisCodes) where
-  keeps-block : (s : Standing) (r : List ℕ) → Fine r → Keeps gs s → Keeps gs (withBlock gs s r)
+  ranged-block : (s : Standing) (r : List ℕ) → Fine r → Ranged gs s → Ranged gs (withBlock gs s r)
   unfolding withBlock movedByBlock goesOn
-  keeps-block s r f q = record {
+  ranged-block s r f q = record {
     off = λ k m. cond-f _ (s .place k) (ap (λ (b : Bool). b && has (presentOf r) k) m) ∙ q .off k m;
     place = λ k x e. by-bit (member k gs && has (presentOf r) k)
         (λ b. let h : k < axisCodes = small k (and-left (member k gs) (has (presentOf r) k) b) in
@@ -58,9 +58,9 @@ module _ (gs : List ℕ) (small : (k : ℕ) → member k gs ≡ true → k < axi
         (every-append (cond-both (Every Fine) (eqb (motionWith s r) (s .motion)) (q .curve) nil) (more f nil)) nil;
   }
 
-  keeps-seed : (s : Standing) (c x : ℕ) → within x ≡ true → Keeps gs s → Keeps gs (withSeed gs s c x)
+  ranged-seed : (s : Standing) (c x : ℕ) → within x ≡ true → Ranged gs s → Ranged gs (withSeed gs s c x)
   unfolding withSeed movedBySeed
-  keeps-seed s c x w q = record {
+  ranged-seed s c x w q = record {
     off = λ k m. cond-f _ (s .place k) (ap (λ (b : Bool). b && eqb c k) m) ∙ q .off k m;
     place = λ k v e. by-bit (member k gs && eqb c k)
         (λ b. subst (λ (i : ℕ). within i ≡ true) (some-same (sym (cond-t (some x) (s .place k) b) ∙ e)) w)
@@ -69,9 +69,9 @@ module _ (gs : List ℕ) (small : (k : ℕ) → member k gs ≡ true → k < axi
     curve = q .curve;
   }
 
-  keeps-close : (s : Standing) → Keeps gs s → Keeps gs (withClose s)
+  ranged-close : (s : Standing) → Ranged gs s → Ranged gs (withClose s)
   unfolding withClose
-  keeps-close s q = record { off = q .off; place = q .place; start = q .start; curve = nil }
+  ranged-close s q = record { off = q .off; place = q .place; start = q .start; curve = nil }
 
 -- ---- a row as the store holds it
 out-fine : (r : List ℕ) → Fine r → Fine (outRow r)
@@ -83,7 +83,7 @@ outs-fine (r ∷ rs) (more f fs) = more (out-fine r f) (outs-fine rs fs)
 
 -- ---- one piece
 module _ (tol : ℕ) (gs : List ℕ) (small : (k : ℕ) → member k gs ≡ true → k < axisCodes) where
-  module _ (s : Standing) (r : List ℕ) (es : List Event) (q : Keeps gs s) (f : Fine r) where
+  module _ (s : Standing) (r : List ℕ) (es : List Event) (q : Ranged gs s) (f : Fine r) where
     own-group : isSpline (withBlock gs s r .motion) ≡ false → Grouped gs (pieceOf tol gs s r es)
     unfolding pieceOf
     own-group n =
@@ -114,7 +114,7 @@ module _ (tol : ℕ) (gs : List ℕ) (small : (k : ℕ) → member k gs ≡ true
 
       all-fine : Every Fine (whole .blocks)
       unfolding whole splineWith now later
-      all-fine = outs-fine (now .curve ++ later) (every-append (keeps-block gs small s r f q .curve) rest)
+      all-fine = outs-fine (now .curve ++ later) (every-append (ranged-block gs small s r f q .curve) rest)
 
       few-blocks : length (whole .blocks) ≤ mostHeld
       unfolding whole splineWith now later
@@ -132,18 +132,18 @@ module _ (tol : ℕ) (gs : List ℕ) (small : (k : ℕ) → member k gs ≡ true
       spline-group =
           subst (Group gs r _) (sym (cond-t _ _ y ∙ group-is))
           (came-shaped gs r
-          (held-shaped whole (map outRow (goesOn s r)) (outRow r) (map outRow later) blocks-are all-fine (keeps-block gs small s r f q .start) small few-blocks
+          (held-shaped whole (map outRow (goesOn s r)) (outRow r) (map outRow later) blocks-are all-fine (ranged-block gs small s r f q .start) small few-blocks
           (last-point gs (withBlock gs s r .motion) r (together (withBlock gs s r .motion) es) f rest)))
 
   -- every piece
-  pub each-group : {s : Standing} {es : List Event} → Keeps gs s → Sound gs s es → Every (Grouped gs) (piecesFrom tol gs s es)
+  pub each-group : {s : Standing} {es : List Event} → Ranged gs s → Sound gs s es → Every (Grouped gs) (piecesFrom tol gs s es)
   unfolding piecesFrom
   each-group q over = nil
-  each-group {s} q (by-seed c x w rest) = each-group (keeps-seed gs small s c x w q) rest
+  each-group {s} q (by-seed c x w rest) = each-group (ranged-seed gs small s c x w q) rest
   each-group {s} q (by-block {es = es} r f few rest) =
       more
       (by-bit (isSpline (withBlock gs s r .motion))
       (λ y. spline-group s r es q f y (together-fine (withBlock gs s r .motion) rest) (few y))
       (λ n. own-group s r es q f n))
-      (each-group (keeps-block gs small s r f q) rest)
-  each-group {s} q (by-close rest) = each-group (keeps-close gs small s q) rest
+      (each-group (ranged-block gs small s r f q) rest)
+  each-group {s} q (by-close rest) = each-group (ranged-close gs small s q) rest
