@@ -5,7 +5,6 @@ use mathlib.Core.Bool.{Bool, true, false, cond, _&&_}
 use mathlib.Core.List.{List, [], _∷_, _++_, append-nil}
 use mathlib.Core.Option.{Option, none, some}
 use native.Mathlib.Omega.{arith}
-use native.Mathlib.Nat.{mod-lt}
 use lib.Dec.{T, ltb, eqb, lit<}
 use lib.ListN.{length, getD, length-append}
 use lib.Ieee.{Float, binary64, div, neg, ofInt, ofBits, lt, fits}
@@ -28,9 +27,8 @@ use Rattle.csv_fields.specs.Read.{isDigit, number}
 use Rattle.csv_numbers.specs.Grammar.{allDigits}
 use Rattle.csv_figures.specs.Write.{figures, wholeText, millionthsText, numberText, shown}
 use Rattle.csv_numbers.specs.Forms.{no-value, form-read, line-read-form}
-use Rattle.csv_fields.specs.Scans.{digit-in}
 use Rattle.csv_fields.specs.Readers.{nothing}
-use Rattle.csv_numbers.specs.Again.{read-again}
+use Rattle.csv_numbers.specs.Again.{figure-in, read-again}
 use Rattle.csv_numbers.specs.Lines.{line-again}
 use Rattle.csv_words.specs.Words.{wordAt, planeText}
 use Rattle.csv_line.specs.LineText.{comma, crlf, columns, columnCount, codeAt, parted, joined, tailed}
@@ -183,13 +181,10 @@ row-line r =
     ∙ ap (λ (l : List ℕ). joined (headFields r ++ cellTexts r columnCount) ++ (comma ∷ l)) (append-nil (markText r)))
 
 -- ---- what is written has no quote, no comma, CR or LF in a field, and as many fields as the header
-figure-digit : (v k : ℕ) → T (isDigit (48 + v / 10 ^ k % 10))
-figure-digit v k = let h = mod-lt (v / 10 ^ k) (lit< {m = 0} {n = 10} tt) in subst T (sym (digit-in (48 + v / 10 ^ k % 10) (omega arith) (omega arith))) tt
-
 figures-digits : (k v : ℕ) → T (allDigits (figures k v))
 unfolding figures
 figures-digits zero v = tt
-figures-digits (suc k) v = and-i (isDigit (48 + v / 10 ^ k % 10)) (allDigits (figures k v)) (figure-digit v k) (figures-digits k v)
+figures-digits (suc k) v = and-i (isDigit (48 + v / 10 ^ k % 10)) (allDigits (figures k v)) (subst T (sym (figure-in v k)) tt) (figures-digits k v)
 
 number-clean : (x : Float) → T (clean (numberText x))
 unfolding numberText millionthsText

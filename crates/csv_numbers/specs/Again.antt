@@ -28,7 +28,7 @@ use Rattle.csv_figures.specs.Figures.{figures-length}
 use Rattle.csv_fields.specs.Readers.{frac-some, uns-point, minus-in, no-minus, tail-is}
 
 -- ---- digits are read back
-figure-in : (v k : ℕ) → isDigit (48 + v / 10 ^ k % 10) ≡ true
+pub figure-in : (v k : ℕ) → isDigit (48 + v / 10 ^ k % 10) ≡ true
 figure-in v k = let h = mod-lt (v / 10 ^ k) (lit< {m = 0} {n = 10} tt) in digit-in (48 + v / 10 ^ k % 10) (omega arith) (omega arith)
 
 pub run-figures : (m k v : ℕ) (r : List ℕ) → k ≤ m → ((i : ℕ) → run i r ≡ 0) → run m (figures k v ++ r) ≡ k

@@ -80,7 +80,7 @@ fn put_end(row: &[u64], out: &mut [u8], n: usize) -> usize
 }
 
 // The line of a row from n on, where it has one. None is longer than 224 bytes.
-pub fn write_row(row: &[u64], out: &mut [u8], n: usize) -> Placed
+fn write_row(row: &[u64], out: &mut [u8], n: usize) -> Placed
     requires { ⌜ (length (now row) ≡ rowWords) × (n + 256 ≤ length (now out)) ⌝ }
     ensures { λ r. ⌜ Tried (writable (now (row .entry))) (rowText (now (row .entry))) (now (out .entry)) n (now (out .exit)) r ⌝ }
 {
