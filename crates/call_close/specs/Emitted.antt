@@ -27,7 +27,8 @@ use Rattle.spline_points.specs.Curve.{points-length}
 use Rattle.spline_channels.specs.Keeps.{keep-most}
 use Rattle.spline_places.specs.Groups.{pointGroup, heldGroup}
 use Rattle.spline_curve.specs.Runs.{runsOf}
-use Rattle.spline_plan.specs.Emission.{splineGroups, putWithin}
+use Rattle.spline_plan.specs.Emission.{splineGroups}
+use Rattle.spline_write.specs.Room.{putWithin}
 use Rattle.spline_curve.specs.Asks.{Holds}
 use Rattle.saved_state.specs.State.{axisCount, motionNow, degree, held, tolerance, geometric, pointWord, curveStart, heldRows, codeOk, codesOk}
 use Rattle.saved_state.specs.State.{axesOk, stateOk, savedCheck}

@@ -13,6 +13,7 @@ use push_check::Resolved;
 use push_check::check_push;
 use push_rows::plan_own;
 use push_rows::write_own;
+use spline_write::has_room;
 ghost use mathlib.Core.Path.{_≡_};
 ghost use mathlib.Core.Bool.{cond};
 ghost use Prim.Native.Nat.{_≤_};
@@ -80,7 +81,7 @@ fn push_block(
     let plan = plan_own(state, row, b);
     let first = put_before(state, store, rows, b.emits, plan.count);
     let needed = first + plan.count;
-    if rows.len() / ROW_WORDS < needed {
+    if !has_room(rows, needed) {
         return too_few(needed as u64);
     }
     settle(state, store, rows, row, b, first, plan)

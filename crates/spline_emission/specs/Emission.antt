@@ -6,4 +6,4 @@ unfoldable pub use Rattle.spline_metric.specs.Metric.{metricOf}
 unfoldable pub use Rattle.spline_points.specs.Points.{firstCell, startPoint, nextPoint, pointsFrom, weightOf}
 unfoldable pub use Rattle.spline_curve.specs.Runs.{runsOf}
 unfoldable pub use Rattle.spline_places.specs.Groups.{sampleCell, ownCell, isMarked, pointGroup, heldGroup}
-unfoldable pub use Rattle.spline_plan.specs.Emission.{splineGroups, putWithin}
+unfoldable pub use Rattle.spline_plan.specs.Emission.{splineGroups}

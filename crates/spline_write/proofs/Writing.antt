@@ -33,7 +33,8 @@ use Rattle.spline_rows.specs.RawLaws.{block-long}
 use Rattle.spline_plan.specs.declared.Emission.{Emission}
 use Rattle.spline_curve.specs.declared.Job.{Job}
 use Rattle.spline_curve.specs.Runs.{runsOf}
-use Rattle.spline_plan.specs.Emission.{splineGroups, putWithin}
+use Rattle.spline_plan.specs.Emission.{splineGroups}
+use Rattle.spline_write.specs.Room.{putWithin}
 use Rattle.spline_curve.specs.Widths.{getD-map}
 use Rattle.spline_plan.specs.Words.{Lies, same-words, place-sum}
 use Rattle.spline_curve.specs.Asks.{splineIn, Holds}
