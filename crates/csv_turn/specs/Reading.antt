@@ -1,12 +1,12 @@
 -- DEFINITIONS. Where the reading of the row text program stands. Assumes nothing.
 use Prim.Native.Nat.{ℕ}
-use mathlib.Core.Bool.{Bool, false, cond}
+use mathlib.Core.Bool.{Bool, cond}
 use mathlib.Core.List.{List}
 use Rattle.text_lines.specs.declared.Turn.{Turn}
 use Rattle.text_lines.specs.Cut.{between}
 use Rattle.csv_out.specs.declared.Run.{Run}
 use Rattle.csv_io.specs.Status.{goesOn, ended}
-use Rattle.flatcsv.specs.declared.Reading.{Reading}
+use Rattle.csv_turn.specs.declared.Reading.{Reading}
 
 -- the bytes that the input buffer has room for
 abbrev pub inRoom : ℕ
@@ -23,7 +23,3 @@ unread s b = between b (s .at) (s .end)
 -- the reading behind a turn
 abbrev pub behind : Turn → Run → ℕ → Reading
 behind t run over = record { at = t .at; end = t .end; run = run; over = over }
-
--- before the first line
-abbrev pub firstReading : Reading
-firstReading = record { at = 0; end = 0; run = record { out = 0; err = 0; physical = 1; source = 0; refused = false }; over = goesOn }

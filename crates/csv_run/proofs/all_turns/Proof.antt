@@ -1,10 +1,10 @@
--- `flatcsv::all_turns` meets its contract. Assumes nothing.
+-- `csv_run::all_turns` meets its contract. Assumes nothing.
 use native.Mathlib.Omega.{arith}
 use Rattle.csv_step.specs.Steps.{slices}
-use Rattle.flatcsv.specs.LoopLaws.{Stands, first-stands, stands-on}
+use Rattle.csv_run.specs.RunLaws.{Stands, first-stands, stands-on}
 use borrow.Author.Needs.{needs}
-use Rattle.flatcsv.proofs.all_turns.Statement.{statement}
-use Rattle.flatcsv.proofs.all_turns.Tie as tie
+use Rattle.csv_run.proofs.all_turns.Statement.{statement}
+use Rattle.csv_run.proofs.all_turns.Tie as tie
 
 abbrev Inv-loop : tie.InvT-loop
 Inv-loop buf₀ state₀ store₀ rows₀ out₀ err₀ s₀ turns₀ buf state store rows out err s turns = Stands s turns buf (slices state store rows out err)
@@ -21,7 +21,7 @@ loop-holds c = first-stands _ _ _ _ (c .first .ensures) (c .before .pre)
 step-requires : tie.Need-step-requires Inv-loop μ-loop
 step-requires c κs =
     let turn = c .before .before .before .before .before .before .before in
-    ((turn .loop .inv .within), (turn .loop .inv .going) (omega arith))
+    ((turn .loop .inv .all .within), (turn .loop .inv .going) (omega arith))
 
 turns-left-requires : tie.Need-turns-left-requires Inv-loop μ-loop
 turns-left-requires c κs = search needs
@@ -35,7 +35,7 @@ loop-again c =
     stands-on _ _ _ _ _ _ _ _ (turn .loop .inv) (omega arith) (c .before .step .ensures) (c .turns-left .ensures .1)
 
 returns : tie.Need-returns Inv-loop μ-loop
-returns c = record { within = (c .before .loop .inv .within); all = (c .before .loop .inv .all) }
+returns c = c .before .loop .inv .all
 
 pub all-turns-spec : {M : Type 1} → statement M
 all-turns-spec =

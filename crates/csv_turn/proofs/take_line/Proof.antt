@@ -1,8 +1,8 @@
--- `flatcsv::take_line` meets its contract. Assumes nothing.
-use Rattle.flatcsv.specs.TurnLaws.{done-by}
+-- `csv_turn::take_line` meets its contract. Assumes nothing.
+use Rattle.csv_turn.specs.TurnLaws.{done-by}
 use borrow.Author.Needs.{needs}
-use Rattle.flatcsv.proofs.take_line.Statement.{statement}
-use Rattle.flatcsv.proofs.take_line.Tie as tie
+use Rattle.csv_turn.proofs.take_line.Statement.{statement}
+use Rattle.csv_turn.proofs.take_line.Tie as tie
 
 sub-csv-line : tie.Need-sub-csv-line
 sub-csv-line c = search needs

@@ -21,9 +21,9 @@ use Rattle.csv_io.specs.Status.{goesOn, ended}
 use Rattle.csv_step.specs.Line.{Stand, Step, csvLine, csvEnd}
 use Rattle.csv_step.specs.Csv.{still}
 use Rattle.csv_step.specs.Steps.{Slices, standing, Stepped}
-use Rattle.flatcsv.specs.declared.Reading.{Reading}
-use Rattle.flatcsv.specs.Reading.{inRoom, goingOf, unread, behind}
-use Rattle.flatcsv.specs.Turns.{Deed, Done, Within, Spoke, Went, Closed, TurnIs}
+use Rattle.csv_turn.specs.declared.Reading.{Reading}
+use Rattle.csv_turn.specs.Reading.{inRoom, goingOf, unread, behind}
+use Rattle.csv_turn.specs.Turns.{Deed, Done, Within, Spoke, Went, Closed, Failed, TurnIs}
 
 -- a run with the same lines stands the same
 same-standing : (m : Slices) {run r : Run} → SameLines run r → standing r m ≡ standing run m
@@ -82,24 +82,46 @@ module _ (s : Reading) (b : List ℕ) (m : Slices) (left : Left) (t : Turn) (b�
   still-open : Stepped (still (standing (left .run) m)) (left .run) m (r .run) m′ → r .run .refused ≡ false
   still-open w = ap (λ (x : Stand). x .refused) (w .stand) ∙ emptied .lines .refused ∙ clear
 
+  -- what was handed over before the turn
+  abbrev sentRows : List ℕ
+  sentRows = take (left .rows) (m .out)
+
+  abbrev sentNotices : List ℕ
+  sentNotices = take (left .notices) (m .err)
+
+  abbrev Deeds : List ℕ → Type 0
+  Deeds came =
+      Went s b m came sentRows sentNotices r b′ m′ ⊎ (Closed s b m came sentRows sentNotices r m′ ⊎ Failed s b m came sentRows sentNotices r b′ m′)
+
   abbrev ends : Stand → ℕ → Type 0
   ends x k = Stepped (csvEnd x k) (left .run) m (r .run) m′
 
-  closed : NoLine (unread s b) (between b′ (t .at) (t .end)) → r .over ≡ ended
-      → ends (standing (left .run) m) (t .end - t .at) → Closed s b m r m′
+  -- nothing was done, where no line stood whole
+  idle : Stepped (still (standing (left .run) m)) (left .run) m (r .run) m′ → Spoke (still (standing (s .run) m)) sentRows sentNotices s m r m′
+  idle w = spoke emptied (subst (λ (x : Stand). Stepped (still x) (left .run) m (r .run) m′) same w)
+
+  closed : NoLine (unread s b) (between b′ (t .at) (t .end)) → r .over ≡ ended → ends (standing (left .run) m) (t .end - t .at)
+      → Closed s b m [] sentRows sentNotices r m′
   closed n o w =
       let inside : t .end ≤ length b′ = omega (arith, turned .inside, turned .same) in
       let long : t .end - t .at ≡ length (unread s b) = sym (between-length b′ (t .at) (t .end) (turned .window) inside) ∙ ap length (n .stays) in
       record {
-        outs = take (left .rows) (m .out);
-        errs = take (left .notices) (m .err);
+        nothing = refl;
         none = n .none;
         told = spoke emptied (subst (λ (k : ℕ). ends (standing (s .run) m) k) long (subst (λ (x : Stand). ends x (t .end - t .at)) same w));
         over = o;
       }
 
+  -- the bytes that came are those behind what was unread
+  abbrev cameBy : Found → List ℕ
+  cameBy Found.More = drop (length (unread s b)) (between b′ (t .at) (t .end))
+  cameBy Found.Line = []
+  cameBy Found.Ended = []
+  cameBy Found.Full = []
+  cameBy Found.Failed = []
+
   deed-of : (f : Found) → Told f (length b) (unread s b) (between b′ (t .from) (t .at)) (between b′ (t .at) (t .end))
-      → Deed f t (left .run) b′ m r m′ → Went s b m r b′ m′ ⊎ (Closed s b m r m′ ⊎ (ended < r .over))
+      → Deed f t (left .run) b′ m r m′ → Deeds (cameBy f)
   deed-of Found.Line w d =
       let u = unread s b in
       let l = between b′ (t .from) (t .at) in
@@ -108,10 +130,7 @@ module _ (s : Reading) (b : List ℕ) (m : Slices) (left : Left) (t : Turn) (b�
       let parts : l ++ unread r b′ ≡ u = first ∙ ap (λ (x : List ℕ). take (cut u) u ++ x) rest ∙ take-append-drop (cut u) u in
       inl
       (record {
-        came = [];
         line = l;
-        outs = take (left .rows) (m .out);
-        errs = take (left .notices) (m .err);
         step = csvLine (standing (s .run) m) l;
         bytes = append-nil u ∙ sym parts;
         did = inr (ap cut (w .line) ∙ first-whole u (w .whole) ∙ ap length (sym (w .line)), refl);
@@ -123,19 +142,16 @@ module _ (s : Reading) (b : List ℕ) (m : Slices) (left : Left) (t : Turn) (b�
       let v = between b′ (t .at) (t .end) in
       inl
       (record {
-        came = drop (length u) v;
         line = [];
-        outs = take (left .rows) (m .out);
-        errs = take (left .notices) (m .err);
         step = still (standing (s .run) m);
         bytes = ap (λ (x : List ℕ). x ++ drop (length u) v) (sym (w .begins)) ∙ take-append-drop (length u) v ∙ sym here;
         did = inl (refl, refl);
-        told = spoke emptied (subst (λ (x : Stand). Stepped (still x) (left .run) m (r .run) m′) same (d .1));
+        told = idle (d .1);
         over = d .0 ∙ ap goingOf (sym (still-open (d .1)));
       })
   deed-of Found.Ended w d = inr (inl (closed w (d .0) (d .1)))
   deed-of Found.Full w d = inr (inl (closed (w .0) (d .0) (d .1)))
-  deed-of Found.Failed w d = inr (inr (d .0))
+  deed-of Found.Failed w d = inr (inr (record { nothing = refl; bytes = sym (here ∙ w .stays); told = idle (d .1); over = d .0 }))
 
   -- what waits then fits, and a run that goes on has no refusal
   fits : {d : Step} → length (m .out) ≡ outRoom → length (m .err) ≡ errRoom → Stepped d (left .run) m (r .run) m′
@@ -157,6 +173,9 @@ module _ (s : Reading) (b : List ℕ) (m : Slices) (left : Left) (t : Turn) (b�
   turn-is n p q =
       let w = bounds p q (t .found) (done .deed) in
       record {
+        came = cameBy (t .found);
+        outs = sentRows;
+        errs = sentNotices;
         within =
             record {
               window = omega (arith, turned .window, done .from, done .upto);
@@ -174,6 +193,9 @@ pub failed-turn : (s : Reading) (b : List ℕ) (m : Slices) (left : Left) → Wi
 failed-turn s b m left w f h =
     let n : ended < left .over = over-failed (left .over) h (f .going) in
     record {
+      came = [];
+      outs = take (left .rows) (m .out);
+      errs = take (left .notices) (m .err);
       within =
           record {
             window = w .window;
@@ -182,8 +204,18 @@ failed-turn s b m left w f h =
             errs = omega (arith, f .errs);
             clear = λ (e : left .over ≡ goesOn). absurd (h e);
           };
-      deed = inr (inr n);
+      deed =
+          inr
+          (inr
+          (record { nothing = refl; bytes = refl; told = record { stand = same-standing m (f .lines); out = waited f; err = noticed f }; over = n }));
     }
   where
     over-failed : (n : ℕ) → (n ≡ goesOn → ⊥) → (n ≡ ended → ⊥) → ended < n
     over-failed n a c = omega arith
+
+    waited : Emptied (s .run) (m .out) (m .err) left → take (left .rows) (m .out) ++ take (left .run .out) (m .out) ≡ take (s .run .out) (m .out) ++ []
+    waited f = f .rows ∙ sym (append-nil (take (s .run .out) (m .out)))
+
+    noticed : Emptied (s .run) (m .out) (m .err) left
+        → take (left .notices) (m .err) ++ take (left .run .err) (m .err) ≡ take (s .run .err) (m .err) ++ []
+    noticed f = f .notices ∙ sym (append-nil (take (s .run .err) (m .err)))

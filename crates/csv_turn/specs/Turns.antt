@@ -1,4 +1,4 @@
--- CONTRACTS. What a turn of the row text program does, and all of them together. Assumes nothing.
+-- CONTRACTS. What a turn of the row text program does. Assumes nothing.
 use Prim.Native.Nat.{ℕ, _+_, _-_, _≤_, _<_}
 use mathlib.Core.Logic.{_⊎_}
 use mathlib.Core.Path.{_≡_}
@@ -13,10 +13,10 @@ use Rattle.csv_out.specs.declared.Run.{Run}
 use Rattle.csv_io.specs.Flush.{outRoom, errRoom}
 use Rattle.csv_io.specs.Status.{goesOn, ended}
 use Rattle.csv_step.specs.Line.{Step, csvLine, csvEnd}
-use Rattle.csv_step.specs.Csv.{still, csvSpec}
+use Rattle.csv_step.specs.Csv.{still}
 use Rattle.csv_step.specs.Steps.{Slices, standing, Stepped}
-use Rattle.flatcsv.specs.declared.Reading.{Reading}
-use Rattle.flatcsv.specs.Reading.{inRoom, goingOf, unread}
+use Rattle.csv_turn.specs.declared.Reading.{Reading}
+use Rattle.csv_turn.specs.Reading.{inRoom, goingOf, unread}
 
 -- a turn's places lie in a buffer of n bytes
 pub record FoundIn (t : Turn) (n : ℕ) : Type 0 where
@@ -61,11 +61,8 @@ pub record Spoke (d : Step) (outs errs : List ℕ) (s : Reading) (m : Slices) (r
   pub err : errs ++ take (r .run .err) (m′ .err) ≡ take (s .run .err) (m .err) ++ d .err
 
 -- one whole line was handed on, or none: what was unread, and behind it what came, is that line, and behind it what is unread then
-pub record Went (s : Reading) (b : List ℕ) (m : Slices) (r : Reading) (b′ : List ℕ) (m′ : Slices) : Type 0 where
-  pub came : List ℕ
+pub record Went (s : Reading) (b : List ℕ) (m : Slices) (came outs errs : List ℕ) (r : Reading) (b′ : List ℕ) (m′ : Slices) : Type 0 where
   pub line : List ℕ
-  pub outs : List ℕ
-  pub errs : List ℕ
   pub step : Step
   pub bytes : unread s b ++ came ≡ line ++ unread r b′
   pub did : ((line ≡ []) × (step ≡ still (standing (s .run) m))) ⊎ ((cut line ≡ length line) × (step ≡ csvLine (standing (s .run) m) line))
@@ -73,25 +70,23 @@ pub record Went (s : Reading) (b : List ℕ) (m : Slices) (r : Reading) (b′ : 
   pub over : r .over ≡ goingOf (r .run .refused)
 
 -- the input has ended, and no line stands in what is unread
-pub record Closed (s : Reading) (b : List ℕ) (m : Slices) (r : Reading) (m′ : Slices) : Type 0 where
-  pub outs : List ℕ
-  pub errs : List ℕ
+pub record Closed (s : Reading) (b : List ℕ) (m : Slices) (came outs errs : List ℕ) (r : Reading) (m′ : Slices) : Type 0 where
+  pub nothing : came ≡ []
   pub none : length (unread s b) < cut (unread s b)
   pub told : Spoke (csvEnd (standing (s .run) m) (length (unread s b))) outs errs s m r m′
   pub over : r .over ≡ ended
 
-pub record TurnIs (s : Reading) (b : List ℕ) (m : Slices) (r : Reading) (b′ : List ℕ) (m′ : Slices) : Type 0 where
-  pub within : Within r
-  pub deed : Went s b m r b′ m′ ⊎ (Closed s b m r m′ ⊎ (ended < r .over))
+-- a descriptor failed, and nothing was done
+pub record Failed (s : Reading) (b : List ℕ) (m : Slices) (came outs errs : List ℕ) (r : Reading) (b′ : List ℕ) (m′ : Slices) : Type 0 where
+  pub nothing : came ≡ []
+  pub bytes : unread s b ≡ unread r b′
+  pub told : Spoke (still (standing (s .run) m)) outs errs s m r m′
+  pub over : ended < r .over
 
--- ---- all turns
--- `got` was read, and all of what the definition says to it was handed over or waits
-pub record All (r : Reading) (m : Slices) : Type 0 where
-  pub got : List ℕ
+-- one turn: `came` was read, and `outs` and `errs` were handed over
+pub record TurnIs (s : Reading) (b : List ℕ) (m : Slices) (r : Reading) (b′ : List ℕ) (m′ : Slices) : Type 0 where
+  pub came : List ℕ
   pub outs : List ℕ
   pub errs : List ℕ
-  pub is : csvSpec got ≡ record { out = outs ++ take (r .run .out) (m .out); err = errs ++ take (r .run .err) (m .err); refused = r .run .refused }
-
-pub record Finished (r : Reading) (m : Slices) : Type 0 where
   pub within : Within r
-  pub all : r .over ≡ ended → All r m
+  pub deed : Went s b m came outs errs r b′ m′ ⊎ (Closed s b m came outs errs r m′ ⊎ Failed s b m came outs errs r b′ m′)

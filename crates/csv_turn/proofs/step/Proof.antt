@@ -1,11 +1,11 @@
--- `flatcsv::step` meets its contract. Assumes nothing.
+-- `csv_turn::step` meets its contract. Assumes nothing.
 use mathlib.Core.Path.{_≡_}
 use native.Mathlib.Omega.{arith}
 use Rattle.csv_io.specs.Status.{goesOn}
-use Rattle.flatcsv.specs.TurnLaws.{turn-is, failed-turn}
+use Rattle.csv_turn.specs.TurnLaws.{turn-is, failed-turn}
 use borrow.Author.Needs.{needs}
-use Rattle.flatcsv.proofs.step.Statement.{statement}
-use Rattle.flatcsv.proofs.step.Tie as tie
+use Rattle.csv_turn.proofs.step.Statement.{statement}
+use Rattle.csv_turn.proofs.step.Tie as tie
 
 emptied-requires : tie.Need-emptied-requires
 emptied-requires c κs = search needs

@@ -1,10 +1,10 @@
--- `flatcsv::done` meets its contract. Assumes nothing.
+-- `csv_turn::done` meets its contract. Assumes nothing.
 use mathlib.Core.Path.{refl}
 use native.Mathlib.Omega.{arith}
-use Rattle.flatcsv.specs.TurnLaws.{done-by, done-as, full-done, nothing-done}
+use Rattle.csv_turn.specs.TurnLaws.{done-by, done-as, full-done, nothing-done}
 use borrow.Author.Needs.{needs}
-use Rattle.flatcsv.proofs.done.Statement.{statement}
-use Rattle.flatcsv.proofs.done.Tie as tie
+use Rattle.csv_turn.proofs.done.Statement.{statement}
+use Rattle.csv_turn.proofs.done.Tie as tie
 
 enum-told : tie.Need-enum-told
 enum-told c = search needs

@@ -1,10 +1,10 @@
--- `flatcsv::turns_left` meets its contract. Assumes nothing.
+-- `csv_run::turns_left` meets its contract. Assumes nothing.
 use mathlib.Core.Logic.{inl, inr}
 use mathlib.Core.Path.{refl}
 use native.Mathlib.Omega.{arith}
 use borrow.Author.Needs.{needs}
-use Rattle.flatcsv.proofs.turns_left.Statement.{statement}
-use Rattle.flatcsv.proofs.turns_left.Tie as tie
+use Rattle.csv_run.proofs.turns_left.Statement.{statement}
+use Rattle.csv_run.proofs.turns_left.Tie as tie
 
 sub-result : tie.Need-sub-result
 sub-result c = search needs
