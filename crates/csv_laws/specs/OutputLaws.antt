@@ -23,7 +23,7 @@ use Rattle.csv_out.specs.Say.{Say, badText, lastLine, nextLine, refusal, headin
 use Rattle.text_lines.specs.Cut.{linesFrom, restFrom}
 use Rattle.csv_out.specs.SayLaws.{heading-good, heading-bad}
 use Rattle.csv_step.specs.Line.{Stand, Step, spoken, unread, onRow, onRead, onText, onEnd, csvLine, csvClose, csvEnd}
-use Rattle.csv_step.specs.Csv.{csvLines, csvFinish, csvRest, begun, csvSpec}
+use Rattle.csv_step.specs.Csv.{andThen, still, csvLines, csvFinish, csvRest, begun, csvSpec}
 use Rattle.csv_step.specs.CsvLaws.{finish-then, refused-lines}
 use Rattle.csv_step.specs.LineLaws.{text-header}
 use Rattle.csv_laws.specs.Output.{CleanText, CleanLines, none, then, Output, nothing, headed}
@@ -139,7 +139,7 @@ finish-clean d n c = step-clean (d .stand .refused) _ _ c (lines-join c (close-c
 -- ---- the first line, and the others
 first-line : (s : Stand) (l : List ℕ) → s .physical ≡ 1
     → ((csvLine s l .out ≡ []) × (csvLine s l .stand .refused ≡ true)) ⊎ (csvLine s l .out ≡ headerOut ++ crlf)
-unfolding csvLine
+unfolding csvLine unread refusal
 first-line s l h = go (endOf l)
   where
     header-or-not : (t : List ℕ) (b : Bool) → same header t ≡ b
@@ -149,7 +149,6 @@ first-line s l h = go (endOf l)
         let w = heading-bad (s .physical) t e in inl (ap (λ (p : Say). p .out) w, ap (λ (p : Say). p .refused) w)
 
     go : (x : End) → ((onEnd s l x .out ≡ []) × (onEnd s l x .stand .refused ≡ true)) ⊎ (onEnd s l x .out ≡ headerOut ++ crlf)
-    unfolding unread refusal
     go End.Bad = inl (refl, refl)
     go (End.Upto n) = rw (text-header s (take n l) h) (header-or-not (take n l) (same header (take n l)) refl)
 
@@ -161,25 +160,44 @@ end-silent s n h = rw (eq-eqb (s .physical) 1 h) (go (eqb n 0))
     go true = refl
     go false = refl
 
+no-lines : (s : Stand) (n : ℕ) → s .physical ≡ 1 → s .refused ≡ false → Output (csvFinish (still s) n .out)
+unfolding csvFinish
+no-lines s n h e =
+    subst (λ (b : Bool). Output (cond b (still s) (andThen (still s) (csvEnd s n)) .out)) (sym e) (subst Output (sym (end-silent s n h)) nothing)
+
+refused-finish : (s : Stand) (n : ℕ) → s .refused ≡ true → csvFinish (still s) n ≡ still s
+unfolding csvFinish
+refused-finish s n e = ap (λ (b : Bool). cond b (still s) (andThen (still s) (csvEnd s n))) e
+
+-- the first line, and then the others and the end
+module _ (s : Stand) (l : List ℕ) (ls : List (List ℕ)) (n : ℕ) (h : s .physical ≡ 1) where
+  abbrev d : Step
+  d = csvLine s l
+
+  abbrev rest : Step
+  rest = csvLines (csvLine s l .stand) ls
+
+  refused-first : (d .out ≡ []) × (d .stand .refused ≡ true) → Output (d .out ++ csvFinish rest n .out)
+  refused-first w =
+      let none-behind : csvFinish rest n .out ≡ [] =
+      ap (λ (x : Step). csvFinish x n .out) (refused-lines (d .stand) ls (w .1)) ∙ ap (λ (x : Step). x .out) (refused-finish (d .stand) n (w .1)) in
+      subst (λ (o : List ℕ). Output (o ++ csvFinish rest n .out)) (sym (w .0)) (subst Output (sym none-behind) nothing)
+
+  good-first : d .out ≡ headerOut ++ crlf → Output (d .out ++ csvFinish rest n .out)
+  good-first w =
+      subst (λ (o : List ℕ). Output (o ++ csvFinish rest n .out)) (sym w)
+      (headed (finish-clean rest n (lines-clean (d .stand) ls (line-next s l (omega arith)))))
+
+  first-output : s .refused ≡ false → Output (csvFinish (csvLines s (l ∷ ls)) n .out)
+  unfolding csvLines
+  first-output e =
+      subst (λ (b : Bool). Output (csvFinish (cond b (still s) (andThen d rest)) n .out)) (sym e)
+      (subst (λ (x : Step). Output (x .out)) (sym (finish-then d rest n)) (⊎-elim refused-first good-first (first-line s l h)))
+
 rest-output : (s : Stand) (ls : List (List ℕ)) (n : ℕ) → s .physical ≡ 1 → s .refused ≡ false → Output (csvFinish (csvLines s ls) n .out)
-unfolding csvLines csvFinish
-rest-output s [] n h e = rw e (subst Output (sym (end-silent s n h)) nothing)
-rest-output s (l ∷ ls) n h e =
-    rw e (subst (λ (x : Step). Output (x .out)) (sym (finish-then (csvLine s l) rest n)) (⊎-elim refused good (first-line s l h)))
-  where
-    d : Step
-    d = csvLine s l
-
-    rest : Step
-    rest = csvLines (csvLine s l .stand) ls
-
-    refused : (csvLine s l .out ≡ []) × (csvLine s l .stand .refused ≡ true) → Output (csvLine s l .out ++ csvFinish rest n .out)
-    refused w = rw (w .0, refused-lines (csvLine s l .stand) ls (w .1), w .1) nothing
-
-    good : csvLine s l .out ≡ headerOut ++ crlf → Output (csvLine s l .out ++ csvFinish rest n .out)
-    good w =
-        subst (λ (o : List ℕ). Output (o ++ csvFinish rest n .out)) (sym w)
-        (headed (finish-clean rest n (lines-clean (csvLine s l .stand) ls (line-next s l (omega arith)))))
+unfolding csvLines
+rest-output s [] n h e = no-lines s n h e
+rest-output s (l ∷ ls) n h e = first-output s l ls n h e
 
 -- (7.2 to 7.4) whatever the input is
 pub output-clean : (input : List ℕ) → Output (csvSpec input .out)
