@@ -1,4 +1,5 @@
 // A whole run of the row text program: turn after turn, and then what still waits is written.
+use csv_deed::Reading;
 use csv_io::ERR_ROOM;
 use csv_io::GOES_ON;
 use csv_io::NO_INPUT;
@@ -7,7 +8,6 @@ use csv_io::flush;
 use csv_out::Run;
 use csv_turn::INPUT;
 use csv_turn::ROWS;
-use csv_turn::Reading;
 use csv_turn::STORE;
 use csv_turn::step;
 use layout::STATE_WORDS;
@@ -77,34 +77,30 @@ pub struct Ending {
     pub over: u64,
 }
 
+fn ending(run: Run, rows: usize, notices: usize, over: u64) -> Ending
+    ensures { λ r. ⌜ r ≡ record { rows = rows; notices = notices; refused = run .refused; over = over } ⌝ }
+{
+    Ending {
+        rows,
+        notices,
+        refused: run.refused,
+        over,
+    }
+}
+
 // What waits is written, unless writing failed before; and what failed, if anything did.
 fn last(s: Reading, out: &[u8; OUT_ROOM], err: &[u8; ERR_ROOM]) -> Ending
     requires { ⌜ Within s ⌝ }
     ensures { λ r. ⌜ LastIs s r ⌝ }
 {
     if s.over > NO_INPUT {
-        return Ending {
-            rows: 0,
-            notices: 0,
-            refused: s.run.refused,
-            over: s.over,
-        };
+        return ending(s.run, 0, 0, s.over);
     }
     let left = flush(s.run, out, err);
     if left.over != GOES_ON {
-        return Ending {
-            rows: left.rows,
-            notices: left.notices,
-            refused: s.run.refused,
-            over: left.over,
-        };
+        return ending(s.run, left.rows, left.notices, left.over);
     }
-    Ending {
-        rows: left.rows,
-        notices: left.notices,
-        refused: s.run.refused,
-        over: s.over,
-    }
+    ending(s.run, left.rows, left.notices, s.over)
 }
 
 // All turns, and the end.

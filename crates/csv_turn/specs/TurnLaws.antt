@@ -14,16 +14,17 @@ use Rattle.text_lines.specs.CutLaws.{first-whole}
 use Rattle.text_lines.specs.Turns.{NoLine, Told, Turned}
 use Rattle.text_lines.specs.TurnLaws.{between-length}
 use Rattle.csv_out.specs.declared.Run.{Run}
-use Rattle.csv_out.specs.SayLaws.{adds-none, adds-within}
+use Rattle.csv_out.specs.SayLaws.{adds-within}
 use Rattle.csv_io.specs.declared.Left.{Left}
 use Rattle.csv_io.specs.Flush.{outRoom, errRoom, SameLines, Emptied}
 use Rattle.csv_io.specs.Status.{goesOn, ended}
 use Rattle.csv_step.specs.Line.{Stand, Step, csvLine, csvEnd}
 use Rattle.csv_step.specs.Csv.{still}
 use Rattle.csv_step.specs.Steps.{Slices, standing, Stepped}
-use Rattle.csv_turn.specs.declared.Reading.{Reading}
-use Rattle.csv_turn.specs.Reading.{inRoom, goingOf, unread, behind}
-use Rattle.csv_turn.specs.Turns.{Deed, Done, Within, Spoke, Went, Closed, Failed, TurnIs}
+use Rattle.csv_deed.specs.declared.Reading.{Reading}
+use Rattle.csv_deed.specs.Reading.{goingOf, unread}
+use Rattle.csv_deed.specs.Deeds.{Deed, Done}
+use Rattle.csv_turn.specs.Turns.{inRoom, Within, Spoke, Went, Closed, Failed, TurnIs}
 
 -- a run with the same lines stands the same
 same-standing : (m : Slices) {run r : Run} → SameLines run r → standing r m ≡ standing run m
@@ -51,22 +52,6 @@ spoke {d} {s} {r} {left} {m} {m′} f w =
 on-refused : (b : Bool) → goingOf b ≡ goesOn → b ≡ false
 on-refused true e = absurd (omega arith)
 on-refused false e = refl
-
--- ---- what was found is done
-pub done-by : {f : Found} {t : Turn} {run then : Run} {b : List ℕ} {m m′ : Slices} {r : Reading} (over : ℕ) → r ≡ behind t then over
-    → Deed f t run b m (behind t then over) m′ → Done f t run b m r m′
-done-by {f} {t} {run} {then} {b} {m} {m′} {r} over e d =
-    subst (λ (x : Reading). Done f t run b m x m′) (sym e) (record { from = refl; upto = refl; deed = d })
-
-pub nothing-done : (run : Run) (m : Slices) → Stepped (still (standing run m)) run m run m
-nothing-done run m = record { stand = refl; out = adds-none (m .out) (run .out); err = adds-none (m .err) (run .err) }
-
--- a buffer that no line fits in is done as the end is
-pub full-done : {t : Turn} {run : Run} {b : List ℕ} {m m′ : Slices} {r : Reading} → Done Found.Ended t run b m r m′ → Done Found.Full t run b m r m′
-full-done d = record { from = d .from; upto = d .upto; deed = d .deed }
-
-pub done-as : {f g : Found} {t : Turn} {run : Run} {b : List ℕ} {m m′ : Slices} {r : Reading} → g ≡ f → Done f t run b m r m′ → Done g t run b m r m′
-done-as {f} {g} {t} {run} {b} {m} {m′} {r} e d = subst (λ (x : Found). Done x t run b m r m′) (sym e) d
 
 -- ---- a turn, from its parts
 module _ (s : Reading) (b : List ℕ) (m : Slices) (left : Left) (t : Turn) (b′ : List ℕ) (r : Reading) (m′ : Slices)

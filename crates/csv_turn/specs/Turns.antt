@@ -1,51 +1,23 @@
 -- CONTRACTS. What a turn of the row text program does. Assumes nothing.
-use Prim.Native.Nat.{ℕ, _+_, _-_, _≤_, _<_}
+use Prim.Native.Nat.{ℕ, _≤_, _<_}
 use mathlib.Core.Logic.{_⊎_}
 use mathlib.Core.Path.{_≡_}
 use mathlib.Core.Bool.{false}
 use mathlib.Core.List.{List, [], _++_}
 use lib.ListN.{length, take}
-use Rattle.text_lines.specs.declared.Found.{Found}
-use Rattle.text_lines.specs.declared.Found.the-variants as Found
-use Rattle.text_lines.specs.declared.Turn.{Turn}
-use Rattle.text_lines.specs.Cut.{cut, between}
-use Rattle.csv_out.specs.declared.Run.{Run}
+use Rattle.text_lines.specs.Cut.{cut}
 use Rattle.csv_io.specs.Flush.{outRoom, errRoom}
 use Rattle.csv_io.specs.Status.{goesOn, ended}
 use Rattle.csv_step.specs.Line.{Step, csvLine, csvEnd}
 use Rattle.csv_step.specs.Csv.{still}
-use Rattle.csv_step.specs.Steps.{Slices, standing, Stepped}
-use Rattle.csv_turn.specs.declared.Reading.{Reading}
-use Rattle.csv_turn.specs.Reading.{inRoom, goingOf, unread}
+use Rattle.csv_step.specs.Steps.{Slices, standing}
+use Rattle.csv_deed.specs.declared.Reading.{Reading}
+use Rattle.csv_deed.specs.Reading.{goingOf, unread}
 
--- a turn's places lie in a buffer of n bytes
-pub record FoundIn (t : Turn) (n : ℕ) : Type 0 where
-  pub start : t .from ≤ t .at
-  pub window : t .at ≤ t .end
-  pub inside : t .end ≤ n
+-- the bytes that the input buffer has room for
+abbrev pub inRoom : ℕ
+inRoom = 65536
 
--- ---- what was found is done
-abbrev pub Deed : Found → Turn → Run → List ℕ → Slices → Reading → Slices → Type 0
-Deed Found.Line t run b m r m′ =
-    (r .over ≡ goingOf (r .run .refused)) × Stepped (csvLine (standing run m) (between b (t .from) (t .at))) run m (r .run) m′
-Deed Found.More t run b m r m′ = (r .over ≡ goesOn) × Stepped (still (standing run m)) run m (r .run) m′
-Deed Found.Ended t run b m r m′ = (r .over ≡ ended) × Stepped (csvEnd (standing run m) (t .end - t .at)) run m (r .run) m′
-Deed Found.Full t run b m r m′ = (r .over ≡ ended) × Stepped (csvEnd (standing run m) (t .end - t .at)) run m (r .run) m′
-Deed Found.Failed t run b m r m′ = (ended < r .over) × Stepped (still (standing run m)) run m (r .run) m′
-
-pub record Done (f : Found) (t : Turn) (run : Run) (b : List ℕ) (m : Slices) (r : Reading) (m′ : Slices) : Type 0 where
-  pub from : r .at ≡ t .at
-  pub upto : r .end ≡ t .end
-  pub deed : Deed f t run b m r m′
-
-abbrev pub LineDone : Turn → Run → List ℕ → Slices → Reading → Slices → Type 0
-LineDone t run b m r m′ = Done Found.Line t run b m r m′
-
--- for the end of the input, and for a buffer that no line fits in
-abbrev pub EndDone : Turn → Run → Slices → Reading → Slices → Type 0
-EndDone t run m r m′ = (b : List ℕ) → Done Found.Ended t run b m r m′
-
--- ---- a turn
 -- the unread bytes lie in the buffer, what waits fits, and a run that goes on has no refusal
 pub record Within (s : Reading) : Type 0 where
   pub window : s .at ≤ s .end

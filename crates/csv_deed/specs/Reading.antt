@@ -6,11 +6,7 @@ use Rattle.text_lines.specs.declared.Turn.{Turn}
 use Rattle.text_lines.specs.Cut.{between}
 use Rattle.csv_out.specs.declared.Run.{Run}
 use Rattle.csv_io.specs.Status.{goesOn, ended}
-use Rattle.csv_turn.specs.declared.Reading.{Reading}
-
--- the bytes that the input buffer has room for
-abbrev pub inRoom : ℕ
-inRoom = 65536
+use Rattle.csv_deed.specs.declared.Reading.{Reading}
 
 -- a refusal ends the run
 abbrev pub goingOf : Bool → ℕ

@@ -1,10 +1,10 @@
--- `csv_turn::done` meets its contract. Assumes nothing.
+-- `csv_deed::done` meets its contract. Assumes nothing.
 use mathlib.Core.Path.{refl}
 use native.Mathlib.Omega.{arith}
-use Rattle.csv_turn.specs.TurnLaws.{done-by, done-as, full-done, nothing-done}
+use Rattle.csv_deed.specs.DeedLaws.{done-by, done-as, full-done, nothing-done}
 use borrow.Author.Needs.{needs}
-use Rattle.csv_turn.proofs.done.Statement.{statement}
-use Rattle.csv_turn.proofs.done.Tie as tie
+use Rattle.csv_deed.proofs.done.Statement.{statement}
+use Rattle.csv_deed.proofs.done.Tie as tie
 
 enum-told : tie.Need-enum-told
 enum-told c = search needs

@@ -1,11 +1,11 @@
--- `csv_turn::finish` meets its contract. Assumes nothing.
+-- `csv_deed::finish` meets its contract. Assumes nothing.
 use Prim.Native.Nat.{ℕ}
 use mathlib.Core.Path.{refl}
 use mathlib.Core.List.{List}
-use Rattle.csv_turn.specs.TurnLaws.{done-by}
+use Rattle.csv_deed.specs.DeedLaws.{done-by}
 use borrow.Author.Needs.{needs}
-use Rattle.csv_turn.proofs.finish.Statement.{statement}
-use Rattle.csv_turn.proofs.finish.Tie as tie
+use Rattle.csv_deed.proofs.finish.Statement.{statement}
+use Rattle.csv_deed.proofs.finish.Tie as tie
 
 sub-left : tie.Need-sub-left
 sub-left c = search needs
