@@ -9,8 +9,8 @@ use Rattle.csv_out.specs.declared.Run.{Run}
 use Rattle.csv_out.specs.SayLaws.{adds-none}
 use Rattle.csv_step.specs.Csv.{still}
 use Rattle.csv_step.specs.Steps.{Slices, standing, Stepped}
-use Rattle.csv_deed.specs.declared.Reading.{Reading}
-use Rattle.csv_deed.specs.Reading.{behind}
+use Rattle.csv_reading.specs.declared.Reading.{Reading}
+use Rattle.csv_reading.specs.Reading.{behind}
 use Rattle.csv_deed.specs.Deeds.{Deed, Done}
 
 pub done-by : {f : Found} {t : Turn} {run then : Run} {b : List ℕ} {m m′ : Slices} {r : Reading} (over : ℕ) → r ≡ behind t then over

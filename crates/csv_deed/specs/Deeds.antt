@@ -11,8 +11,8 @@ use Rattle.csv_io.specs.Status.{goesOn, ended}
 use Rattle.csv_step.specs.Line.{csvLine, csvEnd}
 use Rattle.csv_step.specs.Csv.{still}
 use Rattle.csv_step.specs.Steps.{Slices, standing, Stepped}
-use Rattle.csv_deed.specs.declared.Reading.{Reading}
-use Rattle.csv_deed.specs.Reading.{goingOf}
+use Rattle.csv_reading.specs.declared.Reading.{Reading}
+use Rattle.csv_reading.specs.Reading.{goingOf}
 
 -- a turn's places lie in a buffer of n bytes
 pub record FoundIn (t : Turn) (n : ℕ) : Type 0 where

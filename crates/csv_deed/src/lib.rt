@@ -1,45 +1,19 @@
 // What a turn of the row text program found is done: a line, the end of the input, or nothing yet.
-use csv_io::ENDED;
-use csv_io::GOES_ON;
-use csv_io::NO_INPUT;
 use csv_out::Run;
+use csv_reading::Reading;
+use csv_reading::behind;
+use csv_reading::ends;
+use csv_reading::fails;
+use csv_reading::going;
+use csv_reading::reads_on;
 use csv_step::csv_end;
 use csv_step::csv_line;
 use text_lines::Found;
 use text_lines::Turn;
-ghost use mathlib.Core.Path.{_≡_};
 ghost use Prim.Native.Nat.{_≤_};
 ghost use lib.ListN.{length};
 ghost use Rattle.csv_step.specs.Steps.{Room, slices};
-ghost use Rattle.csv_deed.specs.Reading.{goingOf, behind};
 ghost use Rattle.csv_deed.specs.Deeds.{FoundIn, LineDone, EndDone, Done};
-
-// Where the reading stands: the unread bytes of the input buffer are from `at` up to `end`.
-pub struct Reading {
-    pub at: usize,
-    pub end: usize,
-    pub run: Run,
-    pub over: u64,
-}
-
-// A refusal ends the run.
-fn going(run: Run) -> u64
-    ensures { λ r. ⌜ r ≡ goingOf (run .refused) ⌝ }
-{
-    if run.refused { ENDED } else { GOES_ON }
-}
-
-// The reading behind a turn.
-fn behind(t: Turn, run: Run, over: u64) -> Reading
-    ensures { λ r. ⌜ r ≡ behind t run over ⌝ }
-{
-    Reading {
-        at: t.at,
-        end: t.end,
-        run,
-        over,
-    }
-}
 
 // The line that a turn found is done.
 fn take_line(
@@ -82,7 +56,7 @@ fn finish(
 {
     let left = t.end - t.at;
     let then = csv_end(run, left, state, store, rows, out, err);
-    behind(t, then, ENDED)
+    ends(t, then)
 }
 
 // What a turn found is done.
@@ -105,9 +79,9 @@ pub fn done(
     let found = t.found;
     match found {
         Found::Line => take_line(t, run, buf, state, store, rows, out, err),
-        Found::More => behind(t, run, GOES_ON),
+        Found::More => reads_on(t, run),
         Found::Ended => finish(t, run, state, store, rows, out, err),
         Found::Full => finish(t, run, state, store, rows, out, err),
-        Found::Failed => behind(t, run, NO_INPUT),
+        Found::Failed => fails(t, run),
     }
 }

@@ -26,12 +26,10 @@ use Rattle.csv_step.specs.Line.{Stand, Step, unread, onRead, onText, onEnd, cou
 use Rattle.csv_step.specs.LineLaws.{end-at, end-left}
 use Rattle.csv_step.specs.Csv.{andThen, csvRest, begun, Whole, csvSpec}
 use Rattle.csv_step.specs.CsvLaws.{rest-line, rest-end, rest-refused, then-still}
-use Rattle.csv_laws.specs.Refusals.{linesSaid, whole, whole-lines}
+use Rattle.csv_laws.specs.Output.{linesSaid, longestRow}
+use Rattle.csv_laws.specs.Refusals.{whole, whole-lines}
 
--- ---- how long the text of a row is, at most
-abbrev pub longestRow : ℕ
-longestRow = 224
-
+-- ---- how long the text of a row is
 unsigned-short : {t : List ℕ} {n k : ℕ} → Unsigned t n k → length t ≤ 16
 unsigned-short (plain w d l h) = omega arith
 unsigned-short (point w f d l h e m i) = omega (arith, length-append w (46 ∷ f))
@@ -173,7 +171,7 @@ module _ (s : Stand) (u : List ℕ) (f : s .refused ≡ false) (h : length u < c
       go true e = line (leb-true (cut (u ++ later)) (length (u ++ later)) e)
       go false e = none-there (leb-false (cut (u ++ later)) (length (u ++ later)) e)
 
--- (7.15) whole lines that were not refused, and then at least 226 bytes without an LF: whatever comes behind them, the run is refused there, and
+-- 7.15: whole lines that were not refused, and then at least 226 bytes without an LF: whatever comes behind them, the run is refused there, and
 -- says what it says where the input ends
 pub long-refused : (a u later : List ℕ) → restFrom [] a ≡ [] → linesSaid a .stand .refused ≡ false → length u < cut u → longestRow + 2 ≤ length u
     → csvSpec (a ++ (u ++ later)) ≡ csvSpec (a ++ u)

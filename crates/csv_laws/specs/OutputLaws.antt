@@ -199,7 +199,7 @@ unfolding csvLines
 rest-output s [] n h e = no-lines s n h e
 rest-output s (l ∷ ls) n h e = first-output s l ls n h e
 
--- (7.2 to 7.4) whatever the input is
+-- 7.2 to 7.4: whatever the input is
 pub output-clean : (input : List ℕ) → Output (csvSpec input .out)
 unfolding csvSpec csvRest begun
 output-clean input = rest-output begun (linesFrom [] input) (length (restFrom [] input)) refl refl

@@ -9,6 +9,7 @@ use Rattle.text_lines.specs.CutLaws.{lines-pieces, rest-pieces}
 use Rattle.csv_step.specs.Line.{Stand, Step, csvLine}
 use Rattle.csv_step.specs.Csv.{andThen, still, csvLines, csvFinish, csvRest, begun, Whole, csvSpec, Begins}
 use Rattle.csv_step.specs.CsvLaws.{then-assoc, then-still, finish-then, refused-lines, rest-whole, rest-refused}
+use Rattle.csv_laws.specs.Output.{linesSaid}
 use Rattle.csv_laws.specs.Quiet.{line-quiet}
 
 -- some lines, and then others
@@ -29,11 +30,7 @@ lines-then s (l ∷ xs) ys = go (s .refused) refl (lines-then (csvLine s l .stan
     go false e r =
         ap (λ (x : Step). andThen d x) r ∙ sym (then-assoc d (csvLines (d .stand) xs) (csvLines (csvLines (d .stand) xs .stand) ys))
 
--- the lines of an input, each done from what the one before it left
-abbrev pub linesSaid : List ℕ → Step
-linesSaid a = csvLines begun (linesFrom [] a)
-
--- what is behind them
+-- what is behind the lines of a
 abbrev behind : Stand → List ℕ → List ℕ → Step
 behind s a b = csvFinish (csvLines s (linesFrom (restFrom [] a) b)) (length (restFrom [] (a ++ b)))
 
@@ -48,7 +45,7 @@ more-input s a b =
     ∙ ap (λ (x : Step). csvFinish x n) (lines-then s (linesFrom [] a) ys)
     ∙ finish-then d (csvLines (d .stand) ys) n
 
--- ---- (7.16) what the lines of an input said stays, whatever comes behind it
+-- ---- 7.15: what the lines of an input said stays, whatever comes behind it
 pub lines-stay : (a b : List ℕ) → Begins (linesSaid a .out) (csvSpec (a ++ b) .out) × Begins (linesSaid a .err) (csvSpec (a ++ b) .err)
 unfolding csvSpec
 lines-stay a b =
@@ -63,7 +60,7 @@ nothing-behind : (s : Stand) (a b : List ℕ) → s .refused ≡ true → behind
 unfolding csvFinish
 nothing-behind s a b e = rw (refused-lines s (linesFrom (restFrom [] a) b) e, e) refl
 
--- ---- (7.15) behind a line that was refused nothing is said: the output is that of the lines up to it
+-- ---- 7.15: behind a line that was refused nothing is said: the output is that of the lines up to it
 pub refused-ends : (a later : List ℕ) → linesSaid a .stand .refused ≡ true
     → csvSpec (a ++ later) ≡ record { out = linesSaid a .out; err = linesSaid a .err; refused = true }
 unfolding csvSpec
@@ -74,7 +71,7 @@ refused-ends a later e =
     ∙ then-still (linesSaid a))
     ∙ ap (λ (b : Bool). record { out = linesSaid a .out; err = linesSaid a .err; refused = b }) e
 
--- ---- (7.15) a refused line writes no row: behind whole lines that were not refused, the output stays what they wrote, and the notice is added
+-- ---- 7.15: a refused line writes no row: behind whole lines that were not refused, the output stays what they wrote, and the notice is added
 pub whole-lines : (s : Stand) (a b : List ℕ) → restFrom [] a ≡ []
     → csvRest s (a ++ b) ≡ andThen (csvLines s (linesFrom [] a)) (csvRest (csvLines s (linesFrom [] a) .stand) b)
 unfolding csvRest

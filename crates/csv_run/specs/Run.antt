@@ -7,7 +7,7 @@ use lib.ListN.{take}
 use Rattle.csv_io.specs.Status.{goesOn, ended}
 use Rattle.csv_step.specs.Csv.{begun, csvSpec, Begins}
 use Rattle.csv_step.specs.Steps.{Slices, standing}
-use Rattle.csv_deed.specs.declared.Reading.{Reading}
+use Rattle.csv_reading.specs.declared.Reading.{Reading}
 use Rattle.csv_turn.specs.Turns.{Within, TurnIs}
 use Rattle.csv_run.specs.declared.Ending.{Ending}
 

@@ -12,8 +12,8 @@ use Rattle.csv_step.specs.Line.{Stand, Step, csvLine}
 use Rattle.csv_step.specs.Csv.{andThen, still, csvRest, begun, Whole, csvSpec, Begins}
 use Rattle.csv_step.specs.CsvLaws.{then-assoc, then-still, rest-whole, rest-end, rest-refused}
 use Rattle.csv_step.specs.Steps.{Slices, standing}
-use Rattle.csv_deed.specs.declared.Reading.{Reading}
-use Rattle.csv_deed.specs.Reading.{goingOf, unread}
+use Rattle.csv_reading.specs.declared.Reading.{Reading}
+use Rattle.csv_reading.specs.Reading.{goingOf, unread}
 use Rattle.csv_turn.specs.Turns.{Within, Spoke, Went, Closed, Failed, TurnIs}
 use Rattle.csv_run.specs.declared.Ending.{Ending}
 use Rattle.csv_run.specs.Run.{firstReading, Turns, none, then, AllTurns, LastIs, Ran}

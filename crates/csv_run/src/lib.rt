@@ -1,11 +1,11 @@
 // A whole run of the row text program: turn after turn, and then what still waits is written.
-use csv_deed::Reading;
 use csv_io::ERR_ROOM;
 use csv_io::GOES_ON;
 use csv_io::NO_INPUT;
 use csv_io::OUT_ROOM;
 use csv_io::flush;
 use csv_out::Run;
+use csv_reading::Reading;
 use csv_turn::INPUT;
 use csv_turn::ROWS;
 use csv_turn::STORE;

@@ -21,8 +21,8 @@ use Rattle.csv_io.specs.Status.{goesOn, ended}
 use Rattle.csv_step.specs.Line.{Stand, Step, csvLine, csvEnd}
 use Rattle.csv_step.specs.Csv.{still}
 use Rattle.csv_step.specs.Steps.{Slices, standing, Stepped}
-use Rattle.csv_deed.specs.declared.Reading.{Reading}
-use Rattle.csv_deed.specs.Reading.{goingOf, unread}
+use Rattle.csv_reading.specs.declared.Reading.{Reading}
+use Rattle.csv_reading.specs.Reading.{goingOf, unread}
 use Rattle.csv_deed.specs.Deeds.{Deed, Done}
 use Rattle.csv_turn.specs.Turns.{inRoom, Within, Spoke, Went, Closed, Failed, TurnIs}
 

@@ -11,8 +11,8 @@ use Rattle.csv_io.specs.Status.{goesOn, ended}
 use Rattle.csv_step.specs.Line.{Step, csvLine, csvEnd}
 use Rattle.csv_step.specs.Csv.{still}
 use Rattle.csv_step.specs.Steps.{Slices, standing}
-use Rattle.csv_deed.specs.declared.Reading.{Reading}
-use Rattle.csv_deed.specs.Reading.{goingOf, unread}
+use Rattle.csv_reading.specs.declared.Reading.{Reading}
+use Rattle.csv_reading.specs.Reading.{goingOf, unread}
 
 -- the bytes that the input buffer has room for
 abbrev pub inRoom : ℕ

@@ -1,12 +1,12 @@
 // One turn of the row text program: room is made, and then a line is done or more is read.
 // Memory is of a fixed size: text_lines reads, csv_deed does what was found, csv_io writes what waits.
-use csv_deed::Reading;
 use csv_deed::done;
 use csv_io::ERR_ROOM;
 use csv_io::GOES_ON;
 use csv_io::OUT_ROOM;
 use csv_io::emptied;
 use csv_out::LENT_ROWS;
+use csv_reading::Reading;
 use layout::MOST_HELD;
 use layout::ROW_WORDS;
 use layout::STATE_WORDS;

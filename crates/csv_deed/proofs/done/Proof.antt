@@ -15,8 +15,8 @@ take-line-requires c κs = search needs
 enum-told-2 : tie.Need-enum-told-2
 enum-told-2 c = search needs
 
-behind-requires : tie.Need-behind-requires
-behind-requires c κs = search needs
+reads-on-requires : tie.Need-reads-on-requires
+reads-on-requires c κs = search needs
 
 enum-told-3 : tie.Need-enum-told-3
 enum-told-3 c = search needs
@@ -33,8 +33,8 @@ finish-requires-2 c κs = search needs
 enum-told-5 : tie.Need-enum-told-5
 enum-told-5 c = search needs
 
-behind-requires-2 : tie.Need-behind-requires-2
-behind-requires-2 c κs = search needs
+fails-requires : tie.Need-fails-requires
+fails-requires c κs = search needs
 
 same-length : tie.Need-same-length
 same-length c = search needs
@@ -58,7 +58,7 @@ returns c =
     done-as (enum .enum-told .given .1) (take .take-line .ensures)
 
 returns-2 : tie.Need-returns-2
-returns-2 c = done-as (c .before .enum-told2 .given .1) (done-by _ (c .behind .ensures) (refl, nothing-done _ _))
+returns-2 c = done-as (c .before .enum-told2 .given .1) (done-by _ (c .reads-on .ensures) (refl, nothing-done _ _))
 
 same-length-6 : tie.Need-same-length-6
 same-length-6 c = search needs
@@ -103,7 +103,7 @@ returns-4 c =
     done-as (enum .enum-told4 .given .1) (full-done ((finish .finish2 .ensures) _))
 
 returns-5 : tie.Need-returns-5
-returns-5 c = done-as (c .before .enum-told5 .given .1) (done-by _ (c .behind2 .ensures) (omega arith, nothing-done _ _))
+returns-5 c = done-as (c .before .enum-told5 .given .1) (done-by _ (c .fails .ensures .0) (c .fails .ensures .1, nothing-done _ _))
 
 pub done-spec : {M : Type 1} → statement M
 done-spec =
@@ -112,13 +112,13 @@ done-spec =
     enum-told
     take-line-requires
     enum-told-2
-    behind-requires
+    reads-on-requires
     enum-told-3
     finish-requires
     enum-told-4
     finish-requires-2
     enum-told-5
-    behind-requires-2
+    fails-requires
     same-length
     same-length-2
     same-length-3

@@ -13,8 +13,8 @@ sub-left c = search needs
 csv-end-requires : tie.Need-csv-end-requires
 csv-end-requires c κs = search needs
 
-behind-requires : tie.Need-behind-requires
-behind-requires c κs = search needs
+ends-requires : tie.Need-ends-requires
+ends-requires c κs = search needs
 
 same-length : tie.Need-same-length
 same-length c = search needs
@@ -29,7 +29,7 @@ same-length-4 : tie.Need-same-length-4
 same-length-4 c = search needs
 
 returns : tie.Need-returns
-returns c = λ (b : List ℕ). done-by _ (c .behind .ensures) (refl, (c .before .before .before .before .before .before .before .before .before .csv-end .ensures))
+returns c = λ (b : List ℕ). done-by _ (c .ends .ensures) (refl, (c .before .before .before .before .before .before .before .before .before .csv-end .ensures))
 
 pub finish-spec : {M : Type 1} → statement M
 finish-spec =
@@ -37,7 +37,7 @@ finish-spec =
     (tie.spec
     sub-left
     csv-end-requires
-    behind-requires
+    ends-requires
     same-length
     same-length-2
     same-length-3
