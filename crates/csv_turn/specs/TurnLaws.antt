@@ -40,6 +40,14 @@ same-standing m {run} {r} w =
 chain : (g a b c x : List ℕ) → g ++ a ≡ b → c ≡ a ++ x → g ++ c ≡ b ++ x
 chain g a b c x p q = ap (λ (l : List ℕ). g ++ l) q ∙ sym (append-assoc g a x) ∙ ap (λ (l : List ℕ). l ++ x) p
 
+-- no row waits where notices were handed over
+rows-first : (s : Reading) (left : Left) (m : Slices) → Emptied (s .run) (m .out) (m .err) left → (take (left .notices) (m .err) ≡ [] → ⊥)
+    → take (left .rows) (m .out) ≡ take (s .run .out) (m .out)
+rows-first s left m f h =
+    let sent = take (left .rows) (m .out) in
+    let none : left .run .out ≡ 0 = f .rowsFirst (λ (e : left .notices ≡ 0). h (ap (λ (k : ℕ). take k (m .err)) e)) in
+    sym (append-nil sent) ∙ ap (λ (k : ℕ). sent ++ take k (m .out)) (sym none) ∙ f .rows
+
 spoke : {d : Step} {s r : Reading} {left : Left} {m m′ : Slices} → Emptied (s .run) (m .out) (m .err) left
     → Stepped d (left .run) m (r .run) m′ → Spoke d (take (left .rows) (m .out)) (take (left .notices) (m .err)) s m r m′
 spoke {d} {s} {r} {left} {m} {m′} f w =
@@ -47,6 +55,7 @@ spoke {d} {s} {r} {left} {m} {m′} f w =
       stand = w .stand;
       out = chain (take (left .rows) (m .out)) (take (left .run .out) (m .out)) _ _ (d .out) (f .rows) (w .out .bytes);
       err = chain (take (left .notices) (m .err)) (take (left .run .err) (m .err)) _ _ (d .err) (f .notices) (w .err .bytes);
+      rowsFirst = rows-first s left m f;
     }
 
 on-refused : (b : Bool) → goingOf b ≡ goesOn → b ≡ false
@@ -189,18 +198,18 @@ failed-turn s b m left w f h =
             errs = omega (arith, f .errs);
             clear = λ (e : left .over ≡ goesOn). absurd (h e);
           };
-      deed =
-          inr
-          (inr
-          (record { nothing = refl; bytes = refl; told = record { stand = same-standing m (f .lines); out = waited f; err = noticed f }; over = n }));
+      deed = inr (inr (record { nothing = refl; bytes = refl; told = stays; over = n }));
     }
   where
     over-failed : (n : ℕ) → (n ≡ goesOn → ⊥) → (n ≡ ended → ⊥) → ended < n
     over-failed n a c = omega arith
 
-    waited : Emptied (s .run) (m .out) (m .err) left → take (left .rows) (m .out) ++ take (left .run .out) (m .out) ≡ take (s .run .out) (m .out) ++ []
-    waited f = f .rows ∙ sym (append-nil (take (s .run .out) (m .out)))
-
-    noticed : Emptied (s .run) (m .out) (m .err) left
-        → take (left .notices) (m .err) ++ take (left .run .err) (m .err) ≡ take (s .run .err) (m .err) ++ []
-    noticed f = f .notices ∙ sym (append-nil (take (s .run .err) (m .err)))
+    stays : Spoke (still (standing (s .run) m)) (take (left .rows) (m .out)) (take (left .notices) (m .err)) s m
+        (record { at = s .at; end = s .end; run = left .run; over = left .over }) m
+    stays =
+        record {
+          stand = same-standing m (f .lines);
+          out = f .rows ∙ sym (append-nil (take (s .run .out) (m .out)));
+          err = f .notices ∙ sym (append-nil (take (s .run .err) (m .err)));
+          rowsFirst = rows-first s left m f;
+        }
