@@ -1,7 +1,7 @@
 -- LAWS. A line that is longer than any row is refused, whatever stands in it: a buffer that it fills is refused as the whole line is. Assumes nothing.
 use Prim.Native.Nat.{ℕ, suc, _+_, _-_, _*_, _≤_, _<_, zero-le}
 use mathlib.Core.Path.{_≡_, refl, sym, ap, _∙_}
-use mathlib.Core.Bool.{Bool, true, false, cond, _&&_, false≢true}
+use mathlib.Core.Bool.{Bool, true, false, cond, false≢true}
 use mathlib.Core.List.{List, [], _∷_, _++_, append-nil}
 use mathlib.Core.Option.{Option, none, some}
 use native.Mathlib.Omega.{arith}
@@ -10,19 +10,19 @@ use lib.Dec.{eqb, leb}
 use lib.ListN.{length, take, drop, getD, length-append}
 use lib.Seq.{length-take-le}
 use borrow.Author.Tests.{leb-true, leb-false}
-use Rattle.csv_fields.specs.Grammar.{Unsigned, plain, point, Written, bare, minus}
+use Rattle.csv_fields.specs.Grammar.{Unsigned, plain, point, bare, minus}
 use Rattle.csv_words.specs.Table.{short}
-use Rattle.csv_words.specs.Words.{same, wordAt, planeText}
+use Rattle.csv_words.specs.Words.{same}
 use Rattle.csv_line.specs.declared.End.{End}
 use Rattle.csv_line.specs.declared.End.the-variants as End
-use Rattle.csv_line.specs.LineText.{header, columnCount, tailed, joined, endOf}
+use Rattle.csv_line.specs.LineText.{header, tailed, joined, endOf}
 use Rattle.csv_line.specs.All.{both-right}
 use Rattle.csv_line.specs.Planes.{plane-low}
 use Rattle.csv_read.specs.Reader.{given, readRow}
 use Rattle.csv_forms.specs.RowForms.{CellForm, absent, present, FieldsForm, accepted-has-form}
-use Rattle.csv_out.specs.Say.{badText, refusal, heading}
+use Rattle.csv_out.specs.Say.{refusal, heading}
 use Rattle.text_lines.specs.Cut.{lf, cut, restFrom}
-use Rattle.csv_step.specs.Line.{Stand, Step, unread, onRead, onText, onEnd, counted, csvLine, csvEnd}
+use Rattle.csv_step.specs.Line.{Stand, Step, unread, onText, onEnd, counted, csvLine}
 use Rattle.csv_step.specs.LineLaws.{end-at, end-left}
 use Rattle.csv_step.specs.Csv.{andThen, csvRest, begun, Whole, csvSpec}
 use Rattle.csv_step.specs.CsvLaws.{rest-line, rest-end, rest-refused, then-still}

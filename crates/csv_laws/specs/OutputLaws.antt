@@ -13,7 +13,7 @@ use Rattle.floats.specs.Lists.{upto, flatten}
 use Rattle.csv_words.specs.Words.{same}
 use Rattle.csv_line.specs.declared.End.{End}
 use Rattle.csv_line.specs.declared.End.the-variants as End
-use Rattle.csv_line.specs.LineText.{crlf, header, headerOut, joined, endOf}
+use Rattle.csv_line.specs.LineText.{crlf, header, headerOut, endOf}
 use Rattle.csv_line.specs.All.{all-at}
 use Rattle.csv_read.specs.Reader.{readRow}
 use Rattle.csv_write.specs.Writer.{rowAt, rowsText, rowsWritable, writable, rowText, outFields}

@@ -1,6 +1,5 @@
 -- `csv_deed::done` meets its contract. Assumes nothing.
 use mathlib.Core.Path.{refl}
-use native.Mathlib.Omega.{arith}
 use Rattle.csv_deed.specs.DeedLaws.{done-by, done-as, full-done, nothing-done}
 use borrow.Author.Needs.{needs}
 use Rattle.csv_deed.proofs.done.Statement.{statement}
