@@ -77,30 +77,36 @@ pub struct Ending {
     pub over: u64,
 }
 
-fn ending(run: Run, rows: usize, notices: usize, over: u64) -> Ending
-    ensures { λ r. ⌜ r ≡ record { rows = rows; notices = notices; refused = run .refused; over = over } ⌝ }
-{
-    Ending {
-        rows,
-        notices,
-        refused: run.refused,
-        over,
-    }
-}
-
 // What waits is written, unless writing failed before; and what failed, if anything did.
 fn last(s: Reading, out: &[u8; OUT_ROOM], err: &[u8; ERR_ROOM]) -> Ending
     requires { ⌜ Within s ⌝ }
     ensures { λ r. ⌜ LastIs s r ⌝ }
 {
     if s.over > NO_INPUT {
-        return ending(s.run, 0, 0, s.over);
+        return Ending {
+            rows: 0,
+            notices: 0,
+            refused: s.run.refused,
+            over: s.over,
+        };
     }
     let left = flush(s.run, out, err);
     if left.over != GOES_ON {
-        return ending(s.run, left.rows, left.notices, left.over);
+        return Ending {
+            rows: left.rows,
+            notices: left.notices,
+            refused: s.run.refused,
+            over: left.over,
+        };
     }
-    ending(s.run, left.rows, left.notices, s.over)
+    let rows = left.rows;
+    let over = s.over;
+    Ending {
+        rows,
+        notices: left.notices,
+        refused: s.run.refused,
+        over,
+    }
 }
 
 // All turns, and the end.
