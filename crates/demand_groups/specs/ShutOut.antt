@@ -7,7 +7,7 @@ use lib.ListN.{length, getD, length-append, length-map}
 use Rattle.floats.specs.Lists.{flatten}
 use Rattle.layout.specs.Layout.{rowWords}
 use Rattle.demand_calls.specs.Every.{Every, nil, more}
-use Rattle.spline_points.specs.Flat.{flatten-append}
+use Rattle.spline_channels.specs.Flat.{flatten-append}
 use Rattle.demand_groups.specs.Group.{rowAt}
 use Rattle.demand_groups.specs.Written.{Piece, groups, Grouped, Written}
 
