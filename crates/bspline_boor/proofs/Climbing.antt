@@ -10,7 +10,6 @@ use lib.ListN.{length, set, length-set}
 use lib.Seq.{getD-set-same, getD-set-other}
 use lib.Ieee.{Float, nan}
 use Rattle.floats.specs.Numbers.{at}
-use Rattle.floats.specs.Lists.{row}
 use Rattle.floats.specs.Fill.{length-upto, at-upto, lt-or-le}
 use Rattle.bspline_tables.specs.Basis.{share, levels}
 use Rattle.bspline_tables.specs.RowLaws.{row-order}

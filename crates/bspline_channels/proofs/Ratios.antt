@@ -5,7 +5,7 @@ use Prim.Native.Nat.{ℕ, _+_, _*_, _<_, _≤_}
 use native.Mathlib.Omega.{arith}
 use lib.ListN.{replicate}
 use lib.Ieee.{Float}
-use Rattle.floats.specs.Numbers.{_⊘_, f0, at}
+use Rattle.floats.specs.Numbers.{_⊘_, f0}
 use Rattle.floats.specs.Lists.{upto, filled}
 use Rattle.layout.specs.Layout.{axisCodes}
 use Rattle.curve_metric.specs.Widest.{widest}
