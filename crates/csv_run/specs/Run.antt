@@ -9,7 +9,8 @@ use Rattle.csv_step.specs.Csv.{begun, csvSpec, Begins}
 use Rattle.csv_step.specs.Steps.{Slices, standing}
 use Rattle.csv_reading.specs.declared.Reading.{Reading}
 use Rattle.csv_turn.specs.Turns.{Within, TurnIs}
-use Rattle.csv_run.specs.declared.Ending.{Ending}
+use Rattle.csv_ending.specs.declared.Ending.{Ending}
+use Rattle.csv_ending.specs.Ending.{LastIs}
 
 -- before the first line
 abbrev pub firstReading : Reading
@@ -28,13 +29,6 @@ pub record AllTurns (s : Reading) (b : List ℕ) (m : Slices) : Type 0 where
   pub errs : List ℕ
   pub turns : Turns s b m got outs errs
   pub within : Within s
-
--- a run has ended only where its turns have, and then all that waits has been handed over
-pub record LastIs (s : Reading) (r : Ending) : Type 0 where
-  pub refused : r .refused ≡ s .run .refused
-  pub over : r .over ≡ ended → s .over ≡ ended
-  pub rows : r .over ≡ ended → r .rows ≡ s .run .out
-  pub notices : r .over ≡ ended → r .notices ≡ s .run .err
 
 -- what a run read and handed over, turn by turn, and at its end of the buffers o and e: it is what the definition says of what was read; and where
 -- a descriptor failed, no turn handed over anything but what the definition says first, whatever would still have come

@@ -15,8 +15,9 @@ use Rattle.csv_step.specs.Steps.{Slices, standing}
 use Rattle.csv_reading.specs.declared.Reading.{Reading}
 use Rattle.csv_reading.specs.Reading.{goingOf, unread}
 use Rattle.csv_turn.specs.Turns.{Within, Spoke, Went, Closed, Failed, TurnIs}
-use Rattle.csv_run.specs.declared.Ending.{Ending}
-use Rattle.csv_run.specs.Run.{firstReading, Turns, none, then, AllTurns, LastIs, Ran}
+use Rattle.csv_ending.specs.declared.Ending.{Ending}
+use Rattle.csv_ending.specs.Ending.{LastIs}
+use Rattle.csv_run.specs.Run.{firstReading, Turns, none, then, AllTurns, Ran}
 
 -- what stands, and what was said so far: handed over, or waiting
 abbrev put : Stand → List ℕ → List ℕ → Step

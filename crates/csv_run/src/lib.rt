@@ -1,9 +1,9 @@
 // A whole run of the row text program: turn after turn, and then what still waits is written.
+use csv_ending::Ending;
+use csv_ending::last;
 use csv_io::ERR_ROOM;
 use csv_io::GOES_ON;
-use csv_io::NO_INPUT;
 use csv_io::OUT_ROOM;
-use csv_io::flush;
 use csv_out::Run;
 use csv_reading::Reading;
 use csv_turn::INPUT;
@@ -17,8 +17,7 @@ ghost use Prim.Native.Nat.{_<_};
 ghost use Rattle.csv_io.specs.Status.{goesOn};
 ghost use Rattle.csv_step.specs.Csv.{begun};
 ghost use Rattle.csv_step.specs.Steps.{slices};
-ghost use Rattle.csv_turn.specs.Turns.{Within};
-ghost use Rattle.csv_run.specs.Run.{firstReading, AllTurns, LastIs, Ran};
+ghost use Rattle.csv_run.specs.Run.{firstReading, AllTurns, Ran};
 
 // The turns that are left: none once the run is over.
 fn turns_left(turns: u64, over: u64) -> u64
@@ -67,46 +66,6 @@ fn all_turns(
         turns = turns_left(turns, s.over);
     }
     s
-}
-
-// How a run ended, and how many bytes were handed over at its end.
-pub struct Ending {
-    pub rows: usize,
-    pub notices: usize,
-    pub refused: bool,
-    pub over: u64,
-}
-
-// What waits is written, unless writing failed before; and what failed, if anything did.
-fn last(s: Reading, out: &[u8; OUT_ROOM], err: &[u8; ERR_ROOM]) -> Ending
-    requires { ⌜ Within s ⌝ }
-    ensures { λ r. ⌜ LastIs s r ⌝ }
-{
-    if s.over > NO_INPUT {
-        return Ending {
-            rows: 0,
-            notices: 0,
-            refused: s.run.refused,
-            over: s.over,
-        };
-    }
-    let left = flush(s.run, out, err);
-    if left.over != GOES_ON {
-        return Ending {
-            rows: left.rows,
-            notices: left.notices,
-            refused: s.run.refused,
-            over: left.over,
-        };
-    }
-    let rows = left.rows;
-    let over = s.over;
-    Ending {
-        rows,
-        notices: left.notices,
-        refused: s.run.refused,
-        over,
-    }
 }
 
 // All turns, and the end.

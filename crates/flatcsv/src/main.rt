@@ -1,10 +1,10 @@
 // Flattens the row text of standard input: axes X Y Z, tolerance 0.1, no seed, a full spline store, room for 256 rows.
 // Memory is of a fixed size and is all here; csv_run has the run.
+use csv_ending::Ending;
 use csv_io::ERR_ROOM;
 use csv_io::OUT_ROOM;
 use csv_io::report;
 use csv_io::tell;
-use csv_run::Ending;
 use csv_run::whole_run;
 use csv_turn::INPUT;
 use csv_turn::ROWS;
