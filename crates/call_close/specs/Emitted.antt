@@ -1,4 +1,4 @@
--- The emission as the code has it: the spline of the state's words, how many rows it has at most, and how wide they are. Assumes nothing.
+-- CONTRACTS. The emission as the code has it: the spline of the state's words, how many rows it has at most, and how wide they are. Assumes nothing.
 use Prim.Native.Nat.{ℕ, zero, suc, _+_, _*_, _/_, _^_, _<_, _≤_}
 use mathlib.Core.Path.{_≡_, refl, sym, _∙_, ap, ap₂, subst, fun-ext}
 use mathlib.Core.Bool.{Bool, true, false, cond, _&&_, not, false≢true}

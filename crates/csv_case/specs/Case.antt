@@ -26,9 +26,12 @@ use Rattle.fit_slopes.specs.Slopes as Slopes
 use Rattle.fit_knots.specs.Fit as Fit
 use Rattle.bspline_tables.specs.Basis as Basis
 use Rattle.curve_runs.specs.Runs as Runs
+use Rattle.spline_channels.specs.Channels as Channels
+use Rattle.spline_metric.specs.Metric as Measured
 use Rattle.spline_points.specs.Points as Points
 use Rattle.spline_places.specs.Groups as Groups
-use Rattle.spline_emission.specs.Emission as Emission
+use Rattle.spline_curve.specs.Runs as Curves
+use Rattle.spline_plan.specs.Emission as Emission
 use Rattle.saved_state.specs.State as State
 use Rattle.push_check.specs.Blocks as Blocks
 use Rattle.push_state.specs.Pushed as Pushed
@@ -40,10 +43,11 @@ use Rattle.call_close.specs.Held as Held
 use Rattle.call_push.specs.Push as Push
 use Rattle.csv_decimal.specs.Decimal as Decimal
 use Rattle.csv_fields.specs.Read as Read
-use Rattle.csv_fields.specs.Write as Write
+use Rattle.csv_figures.specs.Write as Write
 use Rattle.csv_words.specs.Words as Words
 use Rattle.csv_line.specs.LineText as LineText
 use Rattle.csv_line.specs.Notice as Notice
+use Rattle.csv_cells.specs.Cells as Cells
 use Rattle.csv_read.specs.Reader as Reader
 use Rattle.csv_write.specs.Writer as Writer
 use Rattle.text_lines.specs.Cut as Cut
@@ -68,17 +72,17 @@ unfolding Lists.all Lists.anyOf Lists.flatten Lists.keep Lists.member Lists.spli
     Metric.lenTo Walk.flat Walk.near Walk.samples Slopes.akimaAt Slopes.akimaSlope Slopes.bend Slopes.bendBack Slopes.bent Slopes.cubicSlope
     Slopes.diag Slopes.rhs Slopes.widened Fit.evalFit Fit.fitOf Fit.fitRun Fit.fitRuns Fit.keptTo Fit.pieceFrom Fit.pieceOf Basis.basisOf
     Basis.basisRuns Basis.basisSamples Basis.degreeOf Basis.evalBasis Basis.greville Basis.knotSum Basis.knots Basis.levels Basis.owned
-    Basis.ownerFrom Basis.raisedAt Basis.runOf Basis.share Basis.spanOf Basis.topOf Runs.curveRuns Points.channels Points.channelsFrom
-    Points.firstCell Points.metricOf Points.nextPoint Points.placeOf Points.pointRows Points.pointsFrom Points.startPoint Points.weightOf
-    Groups.heldGroup Groups.isMarked Groups.ownCell Groups.pointGroup Groups.sampleCell Emission.runsOf Emission.splineGroups State.axesOk
+    Basis.ownerFrom Basis.raisedAt Basis.runOf Basis.share Basis.spanOf Basis.topOf Runs.curveRuns Channels.channels Channels.channelsFrom
+    Points.firstCell Measured.metricOf Points.nextPoint Channels.placeOf Channels.pointRows Points.pointsFrom Points.startPoint Points.weightOf
+    Groups.heldGroup Groups.isMarked Groups.ownCell Groups.pointGroup Groups.sampleCell Curves.runsOf Emission.splineGroups State.axesOk
     State.codeOk State.codesOk State.geometric State.heldOk State.heldRowOk State.heldRows State.placed State.pointAtOk State.pointOk State.pointWord
     State.savedCheck State.stateOk State.storeOk State.tolOk Blocks.emits Blocks.isFull Blocks.kept Blocks.news Blocks.orNow Blocks.pushCheck
     Pushed.buffered Pushed.degreeWith Pushed.forgotten Pushed.opened Pushed.pushState Pushed.pushStore Pushed.trackTo Answer.answerAs Answer.ownAnswer
     Replies.tooFew Start.fresh Start.freshWord Start.startSpec Close.closeRows Close.closeSpec Close.closeState Close.untouched Held.emission
-    Held.heldSpline Push.pushDone Push.pushRows Push.pushSpec Decimal.millionths Decimal.quotient Decimal.width Read.fraction Read.lineNumber Read.num
+    Held.heldSpline Push.pushDone Push.pushRows Push.pushSpec Decimal.millionths Decimal.quotient Decimal.widthFrom Read.fraction Read.lineNumber Read.num
     Read.number Read.run Read.unsigned Write.figures Write.millionthsText Write.numberText Words.motionOf Words.planeOf Words.seek LineText.endOf
-    LineText.joined LineText.parted LineText.tailed Notice.noticeText Reader.cellIn Reader.cellOk Reader.cellsIn Reader.cellsOk Reader.fromCells
-    Reader.given Reader.readRow Writer.cellShown Writer.cellText Writer.cellTexts Writer.headOk Writer.markText Writer.outFields Writer.rowFields
+    LineText.joined LineText.parted LineText.tailed Notice.noticeText Reader.cellIn Cells.cellOk Reader.cellsIn Cells.cellsOk Reader.fromCells
+    Cells.given Reader.readRow Writer.cellShown Writer.cellText Writer.cellTexts Writer.headOk Writer.markText Writer.outFields Writer.rowFields
     Writer.rowText Writer.rowsText Writer.rowsWritable Writer.writable Cut.linesFrom Cut.restFrom Say.answer Say.heading Say.nextLine Say.refusal
     Say.warningText Csv.begun Csv.csvFinish Csv.csvLines Csv.csvRest Csv.csvSpec Line.csvClose Line.csvEnd Line.csvLine Line.onRow Line.onText
     Line.unread Ieee.add Ieee.sub Ieee.mul Ieee.div Ieee.rem Ieee.neg Ieee.lt Ieee.le Ieee.eq Ieee.ofBits Ieee.toBits Ieee.ofInt

@@ -7,6 +7,7 @@ use native.Mathlib.Omega.{arith}
 use lib.Dec.{T, ltb, eqb}
 use lib.Ieee.Fits.{and-l, and-r, and-i}
 use borrow.Author.Tests.{ltb-false, ne-eqb}
+use Rattle.row_cells.specs.Codes.{planeYZ}
 use Rattle.floats.specs.Lists.{upto, all}
 use Rattle.floats.specs.Truth.{all-at}
 use Rattle.csv_fields.specs.Read.{isDigit}
@@ -50,12 +51,12 @@ digits-clean (c ∷ t) h = and-i (cleanByte c) (clean t) (digit-clean c (and-l (
 is-clean : (t : List ℕ) → clean t ≡ true → T (clean t)
 is-clean t e = subst T (sym e) tt
 
-words-clean : all 19 (λ (i : ℕ). clean (wordAt i)) ≡ true
+words-clean : all planeYZ (λ (i : ℕ). clean (wordAt i)) ≡ true
 unfolding all
 words-clean = refl
 
-pub word-clean : (i : ℕ) → i < 19 → T (clean (wordAt i))
-word-clean i h = is-clean (wordAt i) (all-at 19 (λ (i : ℕ). clean (wordAt i)) i words-clean h)
+pub word-clean : (i : ℕ) → i < planeYZ → T (clean (wordAt i))
+word-clean i h = is-clean (wordAt i) (all-at planeYZ (λ (i : ℕ). clean (wordAt i)) i words-clean h)
 
 -- ---- a line is parted as it was joined
 front : (f u : List ℕ) → T (clean f) → parted (f ++ (comma ∷ u)) ≡ f ∷ parted u

@@ -58,7 +58,7 @@ in-column cs (suc (suc (suc (suc (suc (suc (suc (suc (suc zero))))))))) h = refl
 in-column cs (suc (suc (suc (suc (suc (suc (suc (suc (suc (suc zero)))))))))) h = refl
 in-column cs (suc (suc (suc (suc (suc (suc (suc (suc (suc (suc (suc k))))))))))) h = absurd (omega arith)
 
-cells-same : (cs ds : List (List ℕ)) → ((i : ℕ) → i < 11 → given (getD cs i []) ≡ given (getD ds i [])) → cellsIn cs ≡ cellsIn ds
+cells-same : (cs ds : List (List ℕ)) → ((i : ℕ) → i < columnCount → given (getD cs i []) ≡ given (getD ds i [])) → cellsIn cs ≡ cellsIn ds
 unfolding cellsIn cellIn upto
 cells-same cs ds h =
     rw (
@@ -124,12 +124,12 @@ module _ (r : List ℕ) (i : ℕ) where
       empty t x q v = no-value x (nothing t q ∙ v)
 
 module _ (n a b : ℕ) (cs : List (List ℕ)) where
-  cell-is : (i : ℕ) → i < 11 → cell (rowOf n a b 0 0 (cellsIn cs)) (codeAt i) ≡ given (getD cs i [])
+  cell-is : (i : ℕ) → i < columnCount → cell (rowOf n a b 0 0 (cellsIn cs)) (codeAt i) ≡ given (getD cs i [])
   unfolding cellsIn
   cell-is i h =
       row-cell n a b 0 0 (λ (k : ℕ). cellIn k 0 columns cs) cells (codeAt i) (omega (arith, code-below i h)) ∙ in-column cs i h
 
-  again : (i : ℕ) → i < 11 → CellForm (getD cs i []) (given (getD cs i [])) → Again (rowOf n a b 0 0 (cellsIn cs)) i (given (getD cs i []))
+  again : (i : ℕ) → i < columnCount → CellForm (getD cs i []) (given (getD cs i [])) → Again (rowOf n a b 0 0 (cellsIn cs)) i (given (getD cs i []))
   again i h c = go (getD cs i []) (given (getD cs i [])) c (cell-is i h)
     where
       go : (f : List ℕ) (o : Option ℕ) → CellForm f o → cell (rowOf n a b 0 0 (cellsIn cs)) (codeAt i) ≡ o → Again (rowOf n a b 0 0 (cellsIn cs)) i o
@@ -137,15 +137,15 @@ module _ (n a b : ℕ) (cs : List (List ℕ)) where
       go f o (present {t = t} {s = s} {n = m} {k = k} v) e =
           cell-present (rowOf n a b 0 0 (cellsIn cs)) i (quotient s m k) e (bits-again s m k) (read-again t (quotient s m k) (form-read t s m k v))
 
-  pub written-again : n < lineNumbers → a < 16 → planeOk b ≡ true → ((i : ℕ) → i < 11 → CellForm (getD cs i []) (given (getD cs i [])))
+  pub written-again : n < lineNumbers → a < 16 → planeOk b ≡ true → ((i : ℕ) → i < columnCount → CellForm (getD cs i []) (given (getD cs i [])))
       → (writable (rowOf n a b 0 0 (cellsIn cs)) ≡ true) × FieldsForm (rowFields (rowOf n a b 0 0 (cellsIn cs))) (rowOf n a b 0 0 (cellsIn cs))
   unfolding writable headOk rowOf rowFields cellTexts
   written-again l m p c =
       let r = rowOf n a b 0 0 (cellsIn cs) in
-      let ds = upto (cellText r) 11 in
-      let k : (i : ℕ) → i < 11 → Again r i (given (getD cs i [])) = λ (i : ℕ) (h : i < 11). again i h (c i h) in
-      let t : (i : ℕ) → i < 11 → getD ds i [] ≡ cellText r i = λ (i : ℕ) (h : i < 11). at-upto (cellText r) 11 i [] h in (
-        both (both (lt-ltb n lineNumbers l) (both (lt-ltb a 16 m) p)) (all-intro 11 (cellShown r) (λ (i : ℕ) (h : i < 11). k i h .may)),
+      let ds = upto (cellText r) columnCount in
+      let k : (i : ℕ) → i < columnCount → Again r i (given (getD cs i [])) = λ (i : ℕ) (h : i < columnCount). again i h (c i h) in
+      let t : (i : ℕ) → i < columnCount → getD ds i [] ≡ cellText r i = λ (i : ℕ) (h : i < columnCount). at-upto (cellText r) columnCount i [] h in (
+        both (both (lt-ltb n lineNumbers l) (both (lt-ltb a 16 m) p)) (all-intro columnCount (cellShown r) (λ (i : ℕ) (h : i < columnCount). k i h .may)),
         record {
           lineField = wholeText n;
           motionField = wordAt a;
@@ -155,12 +155,12 @@ module _ (n a b : ℕ) (cs : List (List ℕ)) where
           motion = a;
           plane = b;
           parts = refl;
-          count = length-upto (cellText r) 11;
+          count = length-upto (cellText r) columnCount;
           line-is = line-read-form (wholeText n) n (line-again n l);
           motion-is = (refl, m);
           plane-is = (refl, p);
-          cells-are = λ (i : ℕ) (h : i < 11). cell-form (getD ds i []) (ap cellOk (t i h) ∙ k i h .good);
-          row-is = ap (rowOf n a b 0 0) (cells-same cs ds (λ (i : ℕ) (h : i < 11). sym (ap given (t i h) ∙ k i h .same)));
+          cells-are = λ (i : ℕ) (h : i < columnCount). cell-form (getD ds i []) (ap cellOk (t i h) ∙ k i h .good);
+          row-is = ap (rowOf n a b 0 0) (cells-same cs ds (λ (i : ℕ) (h : i < columnCount). sym (ap given (t i h) ∙ k i h .same)));
         },
       )
 
@@ -240,5 +240,5 @@ written-is-clean r e =
       as-headed = fifteen (cellText r) (markText r);
     }
   where
-    fifteen : (g : ℕ → List ℕ) (m : List ℕ) → suc (suc (suc (length (upto g 11 ++ (m ∷ []))))) ≡ 15
-    fifteen g m = omega (arith, length-append (upto g 11) (m ∷ []), length-upto g 11)
+    fifteen : (g : ℕ → List ℕ) (m : List ℕ) → suc (suc (suc (length (upto g columnCount ++ (m ∷ []))))) ≡ 15
+    fifteen g m = omega (arith, length-append (upto g columnCount) (m ∷ []), length-upto g columnCount)

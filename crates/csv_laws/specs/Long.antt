@@ -10,16 +10,18 @@ use lib.Dec.{eqb, leb}
 use lib.ListN.{length, take, drop, getD, length-append}
 use lib.Seq.{length-take-le}
 use borrow.Author.Tests.{leb-true, leb-false}
-use Rattle.csv_fields.specs.Grammar.{Unsigned, plain, point, bare, minus}
+use Rattle.csv_numbers.specs.Grammar.{Unsigned, plain, point, bare, minus}
 use Rattle.csv_words.specs.Table.{short}
 use Rattle.csv_words.specs.Words.{same}
 use Rattle.csv_line.specs.declared.End.{End}
 use Rattle.csv_line.specs.declared.End.the-variants as End
 use Rattle.csv_line.specs.LineText.{header, tailed, joined, endOf}
-use Rattle.csv_line.specs.All.{both-right}
-use Rattle.csv_line.specs.Planes.{plane-low}
-use Rattle.csv_read.specs.Reader.{given, readRow}
-use Rattle.csv_forms.specs.RowForms.{CellForm, absent, present, FieldsForm, accepted-has-form}
+use Rattle.floats.specs.Truth.{and-right}
+use Rattle.csv_line.specs.CodeLaws.{plane-low}
+use Rattle.csv_cells.specs.Cells.{given}
+use Rattle.csv_read.specs.Reader.{readRow}
+use Rattle.csv_forms.specs.Forms.{CellForm, absent, present, FieldsForm}
+use Rattle.csv_forms.specs.RowForms.{accepted-has-form}
 use Rattle.csv_out.specs.Say.{refusal, heading}
 use Rattle.text_lines.specs.Cut.{lf, cut, restFrom}
 use Rattle.csv_step.specs.Line.{Stand, Step, unread, onText, onEnd, counted, csvLine}
@@ -86,7 +88,7 @@ same-length : (a b : List ℕ) → same a b ≡ true → length a ≡ length b
 same-length [] [] e = refl
 same-length [] (c ∷ t) e = absurd (false≢true e)
 same-length (a ∷ s) [] e = absurd (false≢true e)
-same-length (a ∷ s) (c ∷ t) e = ap suc (same-length s t (both-right (eqb a c) (same s t) e))
+same-length (a ∷ s) (c ∷ t) e = ap suc (same-length s t (and-right (eqb a c) (same s t) e))
 
 long-no-header : (t : List ℕ) → longestRow < length t → same header t ≡ false
 long-no-header t h = go (same header t) refl

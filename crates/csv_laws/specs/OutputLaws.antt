@@ -14,7 +14,7 @@ use Rattle.csv_words.specs.Words.{same}
 use Rattle.csv_line.specs.declared.End.{End}
 use Rattle.csv_line.specs.declared.End.the-variants as End
 use Rattle.csv_line.specs.LineText.{crlf, header, headerOut, endOf}
-use Rattle.csv_line.specs.All.{all-at}
+use Rattle.floats.specs.Truth.{all-at}
 use Rattle.csv_read.specs.Reader.{readRow}
 use Rattle.csv_write.specs.Writer.{rowAt, rowsText, rowsWritable, writable, rowText, outFields}
 use Rattle.csv_write.specs.Texts.{flatten-more}
@@ -52,8 +52,7 @@ lines-upto f (suc n) h =
 rows-clean : (rows : List ℕ) (k : ℕ) → rowsWritable rows k ≡ true → CleanLines (rowsText rows k)
 unfolding rowsWritable rowsText
 rows-clean rows k e =
-    let shown = all-at k (λ (i : ℕ). writable (rowAt rows i)) e in
-    lines-upto (λ (i : ℕ). rowText (rowAt rows i)) k (λ (i : ℕ) (l : i < k). row-text (rowAt rows i) (shown i l))
+    lines-upto (λ (i : ℕ). rowText (rowAt rows i)) k (λ (i : ℕ) (l : i < k). row-text (rowAt rows i) (all-at k (λ (i : ℕ). writable (rowAt rows i)) i e l))
 
 -- ---- what is said to a line that is not the first, and at the end
 pick-clean : (b : Bool) (p q : Say) → (b ≡ true → CleanLines (p .out)) → CleanLines (q .out) → CleanLines (cond b p q .out)

@@ -8,7 +8,7 @@ ghost use lib.ListN.{length};
 ghost use Rattle.layout.specs.Layout.{cells};
 ghost use Rattle.csv_words.specs.Words.{same};
 ghost use Rattle.csv_figures.specs.Out.{Wrote};
-ghost use Rattle.csv_line.specs.LineText.{crlf, header, headerOut, endOf, codeAt};
+ghost use Rattle.csv_line.specs.LineText.{crlf, header, headerOut, endOf, columnCount, codeAt};
 ghost use Rattle.csv_line.specs.Notice.{noticeText};
 use csv_figures::put_byte;
 
@@ -108,7 +108,7 @@ const CODE_OF_F: usize = AXIS_CODES + 1;
 
 // The code of the cell in column i: X Y Z, I J K CR TURN PW SD, F.
 pub fn code_at(i: usize) -> usize
-    requires { ⌜ i < 11 ⌝ }
+    requires { ⌜ i < columnCount ⌝ }
     ensures { λ r. ⌜ (r ≡ codeAt i) × (r < cells) ⌝ }
 {
     if i < AXIS_COLUMNS {

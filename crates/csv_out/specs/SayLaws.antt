@@ -21,9 +21,9 @@ use Rattle.csv_line.specs.LineText.{crlf, header, headerOut}
 use Rattle.csv_write.specs.Texts.{several-length, row-length}
 use Rattle.csv_write.specs.Trying.{tried-good}
 use Rattle.csv_line.specs.Notice.{noticeText}
-use Rattle.csv_write.specs.Writer.{rowText, rowAt, rowsText, writable, rowsWritable, Tried}
+use Rattle.csv_write.specs.Writer.{rowRoom, rowText, rowAt, rowsText, writable, rowsWritable, Tried}
 use Rattle.csv_out.specs.declared.Run.{Run}
-use Rattle.csv_out.specs.Say.{Say, noticeRoom, headerRoom, rowRoom, badText, refusal, heading, warningText, answer}
+use Rattle.csv_out.specs.Say.{Say, noticeRoom, headerRoom, badText, refusal, heading, warningText, answer}
 use Rattle.csv_out.specs.Said.{Adds, Noted, Said}
 
 -- ---- how long the lines are

@@ -27,7 +27,7 @@ use Rattle.csv_decimal.specs.Widths.{width-ten}
 use Rattle.csv_figures.specs.Writers.{whole-length}
 use Rattle.csv_words.specs.Words.{wordAt, planeText}
 use Rattle.csv_words.specs.Table.{short}
-use Rattle.csv_line.specs.LineText.{comma, crlf, codeAt, tailed, joined}
+use Rattle.csv_line.specs.LineText.{comma, crlf, columnCount, codeAt, tailed, joined}
 use Rattle.csv_line.specs.CodeLaws.{plane-low}
 use Rattle.csv_write.specs.Trying.{tried-good, tried-bad}
 use Rattle.csv_write.specs.Texts.{flatten-more, tailed-upto, row-text, cells-length, head-length}
@@ -143,10 +143,10 @@ module _ (ok : ℕ → Bool) (f : ℕ → List ℕ) (w : ℕ) where
 
 -- ---- the whole line
 pub cells-tried : {o o′ : List ℕ} {n : ℕ} {r : Placed} (row : List ℕ)
-    → Tried (all 11 (cellShown row)) (flatten (upto (λ (i : ℕ). comma ∷ cellText row i) 11)) o n o′ r
-    → Tried (all 11 (cellShown row)) (tailed (cellTexts row 11)) o n o′ r
+    → Tried (all columnCount (cellShown row)) (flatten (upto (λ (i : ℕ). comma ∷ cellText row i) columnCount)) o n o′ r
+    → Tried (all columnCount (cellShown row)) (tailed (cellTexts row columnCount)) o n o′ r
 unfolding cellTexts
-cells-tried {o} {o′} {n} {r} row t = subst (λ (l : List ℕ). Tried (all 11 (cellShown row)) l o n o′ r) (sym (tailed-upto (cellText row) 11)) t
+cells-tried {o} {o′} {n} {r} row t = subst (λ (l : List ℕ). Tried (all columnCount (cellShown row)) l o n o′ r) (sym (tailed-upto (cellText row) columnCount)) t
 
 pub in-five : {o o₁ o₂ o₃ o₄ o₅ : List ℕ} {n a b c d e : ℕ} (row : List ℕ) → Wrote o n (wholeText (lineOf row)) o₁ a → Wrote o₁ a (comma ∷ []) o₂ b
     → Wrote o₂ b (wordAt (motionOf row)) o₃ c → Wrote o₃ c (comma ∷ []) o₄ d
@@ -219,7 +219,7 @@ module _ (row o : List ℕ) (n : ℕ) where
     behind-head w = omega (arith, w .next, head-length row m (plane-low (planeOf row) p))
 
     pub number-refused : {o₁ o₂ : List ℕ} {a : ℕ} {r : Placed} → Wrote o n (joined (headFields row)) o₁ a → r ≡ Placed.Refused
-        → Tried (all 11 (cellShown row)) (tailed (cellTexts row 11)) o₁ a o₂ r
+        → Tried (all columnCount (cellShown row)) (tailed (cellTexts row columnCount)) o₁ a o₂ r
         → Tried (writable row) (rowText row) o n o₂ Placed.Refused
     unfolding writable
     number-refused {o₁} {o₂} {a} {r} w q t =
@@ -231,17 +231,18 @@ module _ (row o : List ℕ) (n : ℕ) where
           same = t .same ∙ wrote-length w;
         }
 
-    cells-wrote : {o₁ o₂ : List ℕ} {a b : ℕ} {r : Placed} → r ≡ Placed.Upto b → Tried (all 11 (cellShown row)) (tailed (cellTexts row 11)) o₁ a o₂ r
-        → (all 11 (cellShown row) ≡ true) × Wrote o₁ a (tailed (cellTexts row 11)) o₂ b
+    cells-wrote : {o₁ o₂ : List ℕ} {a b : ℕ} {r : Placed} → r ≡ Placed.Upto b
+        → Tried (all columnCount (cellShown row)) (tailed (cellTexts row columnCount)) o₁ a o₂ r
+        → (all columnCount (cellShown row) ≡ true) × Wrote o₁ a (tailed (cellTexts row columnCount)) o₂ b
     cells-wrote q t = let g = tried-good t q in (g .0, record { next = g .1; text = t .text (g .0) })
 
     pub behind-cells : {o₁ o₂ : List ℕ} {a b : ℕ} {r : Placed} → Wrote o n (joined (headFields row)) o₁ a → r ≡ Placed.Upto b
-        → Tried (all 11 (cellShown row)) (tailed (cellTexts row 11)) o₁ a o₂ r
+        → Tried (all columnCount (cellShown row)) (tailed (cellTexts row columnCount)) o₁ a o₂ r
         → (b ≤ n + 224) × (length o₂ ≡ length o)
     behind-cells w q t = let c = cells-wrote q t in (omega (arith, c .1 .next, behind-head w, cells-length row (c .0)), t .same ∙ wrote-length w)
 
     pub row-written : {o₁ o₂ o₃ : List ℕ} {a b c : ℕ} {r : Placed} → Wrote o n (joined (headFields row)) o₁ a → r ≡ Placed.Upto b
-        → Tried (all 11 (cellShown row)) (tailed (cellTexts row 11)) o₁ a o₂ r
+        → Tried (all columnCount (cellShown row)) (tailed (cellTexts row columnCount)) o₁ a o₂ r
         → Wrote o₂ b (comma ∷ (markText row ++ crlf)) o₃ c → Tried (writable row) (rowText row) o n o₃ (Placed.Upto c)
     unfolding writable
     row-written {o₁} {o₂} {o₃} {a} {b} {c} {r} w q t z =

@@ -25,7 +25,7 @@ use Rattle.csv_words.specs.Words.{wordAt, planeText}
 use Rattle.csv_words.specs.Table.{short}
 use Rattle.csv_line.specs.LineText.{comma, crlf, columnCount, codeAt, tailed, joined}
 use Rattle.csv_line.specs.CodeLaws.{plane-low}
-use Rattle.csv_write.specs.Writer.{cellText, cellShown, cellTexts, headFields, rowFields, markText, outFields, rowText, headOk, writable}
+use Rattle.csv_write.specs.Writer.{rowRoom, cellText, cellShown, cellTexts, headFields, rowFields, markText, outFields, rowText, headOk, writable}
 
 -- ---- together
 pub flatten-append : (xs ys : List (List ℕ)) → flatten (xs ++ ys) ≡ flatten xs ++ flatten ys
@@ -143,7 +143,7 @@ head-length r m p =
       short (planeOf r - 1) (omega arith),
     )
 
-pub row-length : (r : List ℕ) → writable r ≡ true → length (rowText r) ≤ 256
+pub row-length : (r : List ℕ) → writable r ≡ true → length (rowText r) ≤ rowRoom
 unfolding writable headOk markText
 row-length r e =
     let h = and-left (headOk r) (all columnCount (cellShown r)) e in
@@ -156,7 +156,7 @@ row-length r e =
     mark true = omega arith
     mark false = omega arith
 
-    total : (r : List ℕ) → length (joined (headFields r)) ≤ 26 → length (tailed (cellTexts r columnCount)) ≤ 198 → length (rowText r) ≤ 256
+    total : (r : List ℕ) → length (joined (headFields r)) ≤ 26 → length (tailed (cellTexts r columnCount)) ≤ 198 → length (rowText r) ≤ rowRoom
     total r a b =
         let j = joined (headFields r) in
         let t = tailed (cellTexts r columnCount) in

@@ -18,6 +18,10 @@ use Rattle.csv_figures.specs.declared.Placed.the-variants as Placed
 use Rattle.csv_words.specs.Words.{wordAt, planeText}
 use Rattle.csv_line.specs.LineText.{crlf, columnCount, codeAt, joined}
 
+-- bytes that a row's line is never more than
+abbrev pub rowRoom : ℕ
+rowRoom = 256
+
 -- 7.5: an empty field is an absent cell
 unfoldable pub cellText : List ℕ → ℕ → List ℕ
 cellText r i = cond (has (presentOf r) (codeAt i)) (numberText (num (getD r (rCells + codeAt i) 0))) []

@@ -20,14 +20,14 @@ ghost use Rattle.layout.specs.Layout.{rowWords};
 ghost use Rattle.floats.specs.Lists.{all};
 ghost use Rattle.row_cells.specs.Row.{motionOf, planeOf};
 ghost use Rattle.csv_figures.specs.Out.{Wrote};
-ghost use Rattle.csv_line.specs.LineText.{comma, crlf, tailed, joined};
-ghost use Rattle.csv_write.specs.Writer.{cellText, cellShown, cellTexts, headFields, markText, rowText, writable, rowsText, rowsWritable, Tried};
+ghost use Rattle.csv_line.specs.LineText.{comma, crlf, columnCount, tailed, joined};
+ghost use Rattle.csv_write.specs.Writer.{rowRoom, cellText, cellShown, cellTexts, headFields, markText, rowText, writable, rowsText, rowsWritable, Tried};
 
 const MOTIONS: u64 = 16;
 
 // A comma and the cell of column i.
 fn put_cell(row: &[u64], out: &mut [u8], n: usize, i: usize) -> Placed
-    requires { ⌜ (length (now row) ≡ rowWords) × ((i < 11) × (n + 18 ≤ length (now out))) ⌝ }
+    requires { ⌜ (length (now row) ≡ rowWords) × ((i < columnCount) × (n + 18 ≤ length (now out))) ⌝ }
     ensures { λ r. ⌜ Tried (cellShown (now (row .entry)) i) (comma ∷ cellText (now (row .entry)) i) (now (out .entry)) n (now (out .exit)) r ⌝ }
 {
     let at = put_byte(out, n, b',');
@@ -40,7 +40,8 @@ fn put_cell(row: &[u64], out: &mut [u8], n: usize, i: usize) -> Placed
 
 fn put_cells(row: &[u64], out: &mut [u8], n: usize) -> Placed
     requires { ⌜ (length (now row) ≡ rowWords) × (n + 198 ≤ length (now out)) ⌝ }
-    ensures { λ r. ⌜ Tried (all 11 (cellShown (now (row .entry)))) (tailed (cellTexts (now (row .entry)) 11)) (now (out .entry)) n (now (out .exit)) r ⌝ }
+    ensures { λ r. ⌜ Tried (all columnCount (cellShown (now (row .entry)))) (tailed (cellTexts (now (row .entry)) columnCount))
+        (now (out .entry)) n (now (out .exit)) r ⌝ }
 {
     let mut at = n;
     let mut i: usize = 0;
@@ -81,7 +82,7 @@ fn put_end(row: &[u64], out: &mut [u8], n: usize) -> usize
 
 // The line of a row from n on, where it has one. None is longer than 224 bytes.
 fn write_row(row: &[u64], out: &mut [u8], n: usize) -> Placed
-    requires { ⌜ (length (now row) ≡ rowWords) × (n + 256 ≤ length (now out)) ⌝ }
+    requires { ⌜ (length (now row) ≡ rowWords) × (n + rowRoom ≤ length (now out)) ⌝ }
     ensures { λ r. ⌜ Tried (writable (now (row .entry))) (rowText (now (row .entry))) (now (out .entry)) n (now (out .exit)) r ⌝ }
 {
     if row[R_LINE] >= LINE_NUMBERS {
@@ -103,7 +104,7 @@ fn write_row(row: &[u64], out: &mut [u8], n: usize) -> Placed
 
 // The lines of the first `count` rows from n on, where each has one.
 pub fn write_rows(rows: &[u64], count: usize, out: &mut [u8], n: usize) -> Placed
-    requires { ⌜ (count * rowWords ≤ length (now rows)) × (n + 256 * count ≤ length (now out)) ⌝ }
+    requires { ⌜ (count * rowWords ≤ length (now rows)) × (n + rowRoom * count ≤ length (now out)) ⌝ }
     ensures { λ r. ⌜ Tried (rowsWritable (now (rows .entry)) count) (rowsText (now (rows .entry)) count) (now (out .entry)) n (now (out .exit)) r ⌝ }
 {
     let mut at = n;
