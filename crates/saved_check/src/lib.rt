@@ -6,7 +6,7 @@ use layout::W_MOTION;
 use row_check::numbers_ok;
 use row_check::shape_ok;
 use row_check::turn_ok;
-use state_check::state_ok;
+use saved_words::state_ok;
 ghost use mathlib.Core.Path.{_≡_};
 ghost use Prim.Native.Nat.{_+_, _*_, _≤_};
 ghost use lib.ListN.{length};

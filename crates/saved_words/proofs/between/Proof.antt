@@ -1,7 +1,7 @@
--- `state_check::between` meets its contract. Assumes nothing.
+-- `saved_words::between` meets its contract. Assumes nothing.
 use borrow.Author.Tests.{le-leb, lt-leb}
-use Rattle.state_check.proofs.between.Statement.{statement}
-use Rattle.state_check.proofs.between.Tie as tie
+use Rattle.saved_words.proofs.between.Statement.{statement}
+use Rattle.saved_words.proofs.between.Tie as tie
 
 returns : tie.Need-returns
 returns c = simp (le-leb _ _ (c .if1 .taken))

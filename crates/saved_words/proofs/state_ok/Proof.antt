@@ -1,4 +1,4 @@
--- `state_check::state_ok` meets its contract. Assumes nothing.
+-- `saved_words::state_ok` meets its contract. Assumes nothing.
 use mathlib.Core.Path.{sym, _∙_}
 use native.Mathlib.Omega.{arith}
 use lib.ListN.{length}
@@ -9,8 +9,8 @@ use Rattle.row_cells.specs.Tested.{passed, failed}
 use Rattle.saved_state.specs.State.{stateOk}
 use Rattle.saved_state.specs.StateLaws.{axes-few}
 use borrow.Author.Needs.{needs}
-use Rattle.state_check.proofs.state_ok.Statement.{statement}
-use Rattle.state_check.proofs.state_ok.Tie as tie
+use Rattle.saved_words.proofs.state_ok.Statement.{statement}
+use Rattle.saved_words.proofs.state_ok.Tie as tie
 
 is-state-requires : tie.Need-is-state-requires
 is-state-requires c κs = search needs

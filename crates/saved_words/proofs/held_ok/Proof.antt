@@ -1,12 +1,12 @@
--- `state_check::held_ok` meets its contract. Assumes nothing.
+-- `saved_words::held_ok` meets its contract. Assumes nothing.
 use mathlib.Core.Path.{sym, ap, _∙_}
 use borrow.Author.Tests.{le-leb, lt-leb, eq-eqb, ne-eqb}
 use Rattle.floats.specs.Truth.{and-t, and-f, or-t, or-f}
 use Rattle.motion.specs.Motion.{splineKind, isSpline}
 use Rattle.saved_state.specs.State.{heldOk}
 use borrow.Author.Needs.{needs}
-use Rattle.state_check.proofs.held_ok.Statement.{statement}
-use Rattle.state_check.proofs.held_ok.Tie as tie
+use Rattle.saved_words.proofs.held_ok.Statement.{statement}
+use Rattle.saved_words.proofs.held_ok.Tie as tie
 
 shared-slice-read-if1 : tie.Need-shared-slice-read-if1
 shared-slice-read-if1 c = search needs
