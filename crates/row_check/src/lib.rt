@@ -48,7 +48,7 @@ fn is_above_1000(x: u64) -> bool
     x < SIGN_BIT && MOST_TURNS < x
 }
 
-fn plane_ok(p: u64) -> bool
+pub fn plane_ok(p: u64) -> bool
     ensures { λ r. ⌜ r ≡ planeOk p ⌝ }
 {
     p == 0 || (PLANE_XY <= p && p <= PLANE_YZ)
