@@ -30,8 +30,9 @@ pub record AllTurns (s : Reading) (b : List ℕ) (m : Slices) : Type 0 where
   pub turns : Turns s b m got outs errs
   pub within : Within s
 
--- what a run read and handed over, turn by turn, and at its end of the buffers o and e: it is what the definition says of what was read; and where
--- a descriptor failed, no turn handed over anything but what the definition says first, whatever would still have come
+-- what a run read and handed over, turn by turn: where its turns came to the end, that and what then waits in the buffers o and e is what the
+-- definition says of what was read, and the end hands it over (`last`); and where a descriptor failed before, no turn handed over anything but
+-- what the definition says first, whatever would still have come
 pub record Ran (r : Ending) (o e : List ℕ) : Type 0 where
   pub reading : Reading
   pub buffer : List ℕ
@@ -40,7 +41,10 @@ pub record Ran (r : Ending) (o e : List ℕ) : Type 0 where
   pub last : LastIs reading r
   pub rows : memory .out ≡ o
   pub notices : memory .err ≡ e
-  pub all : r .over ≡ ended
-      → csvSpec (turned .got) ≡ record { out = turned .outs ++ take (r .rows) o; err = turned .errs ++ take (r .notices) e; refused = r .refused }
+  pub all : reading .over ≡ ended → csvSpec (turned .got) ≡ record {
+    out = turned .outs ++ take (reading .run .out) o;
+    err = turned .errs ++ take (reading .run .err) e;
+    refused = reading .run .refused;
+  }
   pub part : (reading .over ≡ ended → ⊥) → (later : List ℕ)
       → Begins (turned .outs) (csvSpec (turned .got ++ later) .out) × Begins (turned .errs) (csvSpec (turned .got ++ later) .err)

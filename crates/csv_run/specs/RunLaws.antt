@@ -241,13 +241,6 @@ run-ends s b m r w l =
       last = l;
       rows = refl;
       notices = refl;
-      all =
-          λ (e : r .over ≡ ended). turns-all (w .turns) (l .over e)
-          ∙ ap (λ (k : ℕ). whole (w .outs ++ take k (m .out)) (w .errs ++ take (s .run .err) (m .err)) (s .run .refused)) (sym (l .rows e))
-          ∙ ap (λ (k : ℕ). whole (w .outs ++ take (r .rows) (m .out)) (w .errs ++ take k (m .err)) (s .run .refused)) (sym (l .notices e))
-          ∙ ap (λ (x : Bool). whole (w .outs ++ take (r .rows) (m .out)) (w .errs ++ take (r .notices) (m .err)) x) (sym (l .refused));
+      all = λ (e : s .over ≡ ended). turns-all (w .turns) e;
       part = turns-part (w .turns);
     }
-  where
-    whole : List ℕ → List ℕ → Bool → Whole
-    whole o e x = record { out = o; err = e; refused = x }

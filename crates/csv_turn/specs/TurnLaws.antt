@@ -55,6 +55,7 @@ spoke {d} {s} {r} {left} {m} {m′} f w =
       stand = w .stand;
       out = chain (take (left .rows) (m .out)) (take (left .run .out) (m .out)) _ _ (d .out) (f .rows) (w .out .bytes);
       err = chain (take (left .notices) (m .err)) (take (left .run .err) (m .err)) _ _ (d .err) (f .notices) (w .err .bytes);
+      waited = record { more = take (left .run .err) (m .err); is = sym (f .notices) };
       rowsFirst = rows-first s left m f;
     }
 
@@ -211,5 +212,6 @@ failed-turn s b m left w f h =
           stand = same-standing m (f .lines);
           out = f .rows ∙ sym (append-nil (take (s .run .out) (m .out)));
           err = f .notices ∙ sym (append-nil (take (s .run .err) (m .err)));
+          waited = record { more = take (left .run .err) (m .err); is = sym (f .notices) };
           rowsFirst = rows-first s left m f;
         }

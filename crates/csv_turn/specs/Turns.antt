@@ -9,7 +9,7 @@ use Rattle.text_lines.specs.Cut.{cut}
 use Rattle.csv_io.specs.Flush.{outRoom, errRoom}
 use Rattle.csv_io.specs.Status.{goesOn, ended}
 use Rattle.csv_step.specs.Line.{Step, csvLine, csvEnd}
-use Rattle.csv_step.specs.Csv.{still}
+use Rattle.csv_step.specs.Csv.{still, Begins}
 use Rattle.csv_step.specs.Steps.{Slices, standing}
 use Rattle.csv_reading.specs.declared.Reading.{Reading}
 use Rattle.csv_reading.specs.Reading.{goingOf, unread}
@@ -26,12 +26,13 @@ pub record Within (s : Reading) : Type 0 where
   pub errs : s .run .err ≤ errRoom
   pub clear : s .over ≡ goesOn → s .run .refused ≡ false
 
--- the step d was done: of the bytes that waited and those that it said, `outs` and `errs` were handed over, and the others wait; where notices
--- were handed over, all the rows that waited were too (7.18)
+-- the step d was done: of the bytes that waited and those that it said, `outs` and `errs` were handed over, and the others wait; of notices
+-- only those that waited were handed over, and with them all the rows that waited (7.18)
 pub record Spoke (d : Step) (outs errs : List ℕ) (s : Reading) (m : Slices) (r : Reading) (m′ : Slices) : Type 0 where
   pub stand : standing (r .run) m′ ≡ d .stand
   pub out : outs ++ take (r .run .out) (m′ .out) ≡ take (s .run .out) (m .out) ++ d .out
   pub err : errs ++ take (r .run .err) (m′ .err) ≡ take (s .run .err) (m .err) ++ d .err
+  pub waited : Begins errs (take (s .run .err) (m .err))
   pub rowsFirst : (errs ≡ [] → ⊥) → outs ≡ take (s .run .out) (m .out)
 
 -- one whole line was handed on, or none: what was unread, and behind it what came, is that line, and behind it what is unread then
