@@ -1,4 +1,4 @@
--- DEFINITIONS. What a value of the code's types means to the definitions. Assumes nothing.
+-- CONTRACTS. What a value of the code's types means to the definitions. Assumes nothing.
 use mathlib.Core.Option.{Option, none, some}
 use lib.Ieee.{Float}
 use Rattle.arc_centre.specs.Centre as Spec

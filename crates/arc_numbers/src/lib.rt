@@ -1,14 +1,11 @@
-// The numbers of an arc about its centre: sweep, count of rows, and a sample's place.
+// The numbers of an arc about its centre: radii, start angle and sweep.
 use arc_centre::SMALL;
 use floats::TINY;
 use trig::TAU;
 ghost use mathlib.Core.Path.{_≡_};
 ghost use Rattle.arc_centre.specs.Types.{numberIs, endsIs};
-ghost use Rattle.arc_numbers.specs.Arc.{agree, sweepLeft, sweepOf, turned, arcOf, stepOf, wantedOf, countOf};
-ghost use Rattle.arc_numbers.specs.Types.{arcIs, PointAt};
-
-// Rows of one arc at most.
-pub const MOST_ROWS: u64 = 100000;
+ghost use Rattle.arc_numbers.specs.Arc.{agree, sweepLeft, sweepOf, turned, arcOf};
+ghost use Rattle.arc_numbers.specs.Types.{arcIs};
 
 // Centre, radii at start and end, start angle, sweep, tolerance.
 pub struct Arc {
@@ -19,11 +16,6 @@ pub struct Arc {
     pub from: f64,
     pub sweep: f64,
     pub tol: f64,
-}
-
-pub struct Point {
-    pub u: f64,
-    pub v: f64,
 }
 
 // Start and end are one point: a full circle.
@@ -88,8 +80,8 @@ pub fn arc_of(
 ) -> Arc
     ensures { λ r. ⌜ arcIs r ≡ arcOf tol cw (endsIs e) cu cv (numberIs turn) ⌝ }
 {
-    let a = trig::atan2(e.sv - cv, e.su - cu);
-    let b = trig::atan2(e.ev - cv, e.eu - cu);
+    let a = trig_atan::atan2(e.sv - cv, e.su - cu);
+    let b = trig_atan::atan2(e.ev - cv, e.eu - cu);
     Arc {
         cu,
         cv,
@@ -98,49 +90,5 @@ pub fn arc_of(
         from: a,
         sweep: turned(cw, sweep(cw, agree(e), b - a), turn),
         tol,
-    }
-}
-
-// The angle between two samples.
-fn step(c: Arc) -> f64
-    ensures { λ r. ⌜ r ≡ stepOf (arcIs c) ⌝ }
-{
-    2.0 * trig::acos(floats::held_in(-1.0, 1.0, 1.0 - c.tol / floats::larger(c.rs, c.re)))
-}
-
-// The rows that the tolerance asks for.
-pub fn wanted(c: Arc) -> u64
-    ensures { λ r. ⌜ r ≡ wantedOf (arcIs c) ⌝ }
-{
-    let s = step(c);
-    if TINY < s {
-        whole::ceil_count(floats::abs(c.sweep) / s)
-    } else {
-        1
-    }
-}
-
-// The rows that are made.
-pub fn count(wanted: u64) -> u64
-    ensures { λ r. ⌜ r ≡ countOf wanted ⌝ }
-{
-    if wanted < 1 {
-        1
-    } else if MOST_ROWS < wanted {
-        MOST_ROWS
-    } else {
-        wanted
-    }
-}
-
-// The place at the fraction f of the arc.
-pub fn sample(c: Arc, f: f64) -> Point
-    ensures { λ p. ⌜ PointAt (arcIs c) f p ⌝ }
-{
-    let a = trig::sincos(c.from + c.sweep * f);
-    let r = c.rs + (c.re - c.rs) * f;
-    Point {
-        u: c.cu + r * a.cos,
-        v: c.cv + r * a.sin,
     }
 }

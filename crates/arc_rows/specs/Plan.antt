@@ -1,18 +1,15 @@
 -- CONTRACTS. What the code plans for an arc block, and what planning and writing it ask. Assumes nothing.
 use Prim.Native.Nat.{ℕ, _+_, _*_, _<_, _≤_}
 use mathlib.Core.Path.{_≡_}
-use mathlib.Core.Bool.{Bool, _&&_, _||_, not, cond}
+use mathlib.Core.Bool.{Bool, cond}
 use mathlib.Core.List.{List, [], _∷_}
-use mathlib.Core.Option.{Option, Option·getD}
-use lib.ListN.{length, getD}
-use lib.Dec.{eqb, ltb}
+use mathlib.Core.Option.{Option}
+use lib.ListN.{length}
+use lib.Dec.{ltb}
 use lib.Ieee.{Float}
-use Rattle.floats.specs.Numbers.{num}
 use Rattle.floats.specs.Lists.{upto, flatten}
-use Rattle.layout.specs.Layout.{axisCodes, axisMasks, rowWords, cCR}
-use Rattle.row_cells.specs.Codes.{offsetOf}
-use Rattle.row_cells.specs.Bits.{has}
-use Rattle.row_cells.specs.Row.{cell, number, shown, presentOf, hasPoint, axesOf, outRow}
+use Rattle.layout.specs.Layout.{axisCodes, axisMasks, rowWords}
+use Rattle.row_cells.specs.Row.{shown, axesOf, outRow}
 use Rattle.arc_centre.specs.Types.{endsIs}
 use Rattle.arc_numbers.specs.Types.{arcIs}
 use Rattle.arc_centre.specs.declared.Ends as EndsOf
@@ -21,33 +18,13 @@ use Rattle.arc_sample.specs.declared.Setting.{Setting}
 use Rattle.arc_rows.specs.declared.Way.{Way}
 use Rattle.arc_rows.specs.declared.Way.the-variants.{Pass, Along}
 use Rattle.arc_rows.specs.declared.Plan.{Plan}
-use Rattle.arc_rows.specs.Arc.{mostArcRows, Answer, Ends, Arc, Centre, centreOf, wideCentre, wantedOf, countOf, arcRow, fromCentre, arcAnswer}
+use Rattle.arc_rows.specs.Arc.{mostArcRows, Answer, Ends, Arc, Centre, wantedOf, countOf, arcRow, fromCentre, arcAnswer}
 
 -- ---- what the code asks
 pub record BlockOf (r : List ℕ) (gs : ℕ) (at : List ℕ) : Type 0 where
   pub long : length r ≡ rowWords
   pub axes : gs < axisMasks
   pub wide : axisCodes ≤ length at
-
--- ---- the definition's tests, over the plane's two axes and masks
-unfoldable pub silentAt : List ℕ → ℕ → ℕ → List ℕ → Bool
-silentAt gs u v r = not (hasPoint gs r || (has (presentOf r) (offsetOf u) || (has (presentOf r) (offsetOf v) || has (presentOf r) cCR)))
-
-unfoldable pub holds : ℕ → ℕ → ℕ → ℕ → ℕ → ℕ → Bool
-holds gs present known u v k = (has gs k && has present k) && (not (has known k) && (not (eqb k u) && not (eqb k v)))
-
--- start and end on the plane's axes, where both starts are known
-unfoldable pub endsAt : List ℕ → List ℕ → ℕ → ℕ → Ends
-endsAt r at u v = record {
-  su = num (getD at u 0);
-  sv = num (getD at v 0);
-  eu = num (Option·getD (cell r u) (getD at u 0));
-  ev = num (Option·getD (cell r v) (getD at v 0));
-}
-
--- the centre that the code looks for
-abbrev pub centreAt : Bool → Ends → ℕ → ℕ → List ℕ → Centre
-centreAt cw e u v r = wideCentre e (centreOf cw e (number r (offsetOf u)) (number r (offsetOf v)) (number r cCR))
 
 -- ---- the code's plans
 abbrev pub passPlan : ℕ → Plan

@@ -1,17 +1,15 @@
 -- LAWS. The rows of an arc as the code makes them, axis by axis, are the definition's. Assumes nothing.
 use Prim.Native.Nat.{ℕ, _+_, _-_, _*_, _^_, _<_, _≤_}
 use mathlib.Core.Path.{_≡_, refl, sym, _∙_, ap}
-use mathlib.Core.Bool.{Bool, true, false, _&&_, _||_, cond, or-true}
+use mathlib.Core.Bool.{Bool, true, false, _&&_, _||_, cond}
 use mathlib.Core.List.{List}
 use mathlib.Core.Option.{Option, none, some}
 use mathlib.Core.Logic.{⊎-elim}
-use native.Mathlib.Nat.{lt-of-le-of-lt}
 use native.Mathlib.Omega.{arith}
-use lib.Bits.{bitAnd, and-le-l}
 use lib.ListN.{length}
 use lib.Dec.{eqb}
 use lib.Ieee.{Float, nan}
-use borrow.Author.Tests.{eqb-true, eqb-false, ne-eqb, eq-eqb}
+use borrow.Author.Tests.{eqb-true, ne-eqb, eq-eqb}
 use Rattle.floats.specs.Numbers.{_⊕_, _⊗_, _⊘_, bits, ofNat, at}
 use Rattle.floats.specs.Lists.{upto, member, opt, flatten, spliced}
 use Rattle.floats.specs.Fill.{at-upto, lt-or-le}
@@ -19,34 +17,16 @@ use Rattle.trig.specs.Trig.{sinSteps, cosSteps}
 use Rattle.layout.specs.Layout.{axisCodes, rowWords}
 use Rattle.motion.specs.Motion.{gOne}
 use Rattle.row_cells.specs.Codes.{planeU, planeV}
-use Rattle.row_cells.specs.Bits.{has, withBit, maskSum}
-use Rattle.row_cells.specs.BitOps.{has-and}
+use Rattle.row_cells.specs.Bits.{has}
 use Rattle.row_cells.specs.Row.{cell, shown, presentOf, axesOf}
 use Rattle.floats.specs.Truth.{by-bit}
-use Rattle.row_cells.specs.Masks.{with-same, with-other, with-lt, mask-of, mask-lt, has-mask, has-past, member-small}
+use Rattle.row_cells.specs.Masks.{mask-lt, has-mask, has-past, member-small}
 use Rattle.row_put.specs.MadeLaws.{made-same, length-made}
 use Rattle.arc_numbers.specs.Arc.{Ends, Arc, angleAt, radiusAt}
 use Rattle.arc_sample.specs.Rowing.{Rowing, rowing-same, rowing-more}
-use Rattle.arc_sample.specs.Drawn.{drawn, drawnMask, startOf, spanOf, rampOf, sampleWord, endWord, lastWord, midRow, midRows, lastRow}
+use Rattle.arc_words.specs.Words.{drawn, drawnMask, startOf, spanOf, rampOf, sampleWord, endWord, lastWord}
+use Rattle.arc_made.specs.Drawn.{midRow, midRows, lastRow}
 use Rattle.arc_sample.specs.Samples.{ramp, lastCell, midCell, arcRow}
-
--- ---- the axes that the rows have, by bits
-module _ (gs p u v : ℕ) where
-  has-drawn : (k : ℕ) → has (withBit (withBit (bitAnd gs p) u) v) k ≡ drawn gs p u v k
-  unfolding drawn
-  has-drawn k =
-      let m = withBit (bitAnd gs p) u in
-      by-bit (eqb k v)
-      (λ b. ap (has (withBit m v)) (eqb-true k v b) ∙ with-same m v ∙ sym (rw b (or-true (eqb k u))))
-      (λ b. with-other m v k (eqb-false k v b) ∙ by-bit (eqb k u)
-      (λ a. ap (has m) (eqb-true k u a) ∙ with-same (bitAnd gs p) u ∙ rw a)
-      (λ a. with-other (bitAnd gs p) u k (eqb-false k u a) ∙ has-and gs p k ∙ rw (a, b)))
-
-  pub drawn-bits : gs < 2 ^ axisCodes → u < axisCodes → v < axisCodes → withBit (withBit (bitAnd gs p) u) v ≡ maskSum (drawn gs p u v) axisCodes
-  drawn-bits small onU onV =
-      let m = withBit (bitAnd gs p) u in
-      let few : m < 2 ^ axisCodes = with-lt (bitAnd gs p) u axisCodes (lt-of-le-of-lt (and-le-l gs p) small) onU in
-      mask-of (withBit m v) axisCodes (drawn gs p u v) (with-lt m v axisCodes few onV) (λ k h. has-drawn k)
 
 -- ---- the code's words are the definition's cells
 module _ (gs : ℕ) (small : gs < 2 ^ axisCodes) (r : List ℕ) (u v : ℕ) (onU : u < axisCodes) (onV : v < axisCodes) where
@@ -128,10 +108,6 @@ module _ (gs : ℕ) (small : gs < 2 ^ axisCodes) (r : List ℕ) (u v : ℕ) (onU
 pub mid-long : (gs r : List ℕ) (mask : ℕ) (word : Float → ℕ → ℕ) (n j : ℕ) → length (midRows gs r mask word n j) ≡ rowWords
 unfolding midRow
 mid-long gs r mask word n j = length-made gs r (eqb (j + 1) 1) gOne true (shown mask (upto (word (ofNat (j + 1) ⊘ ofNat n)) axisCodes))
-
-pub last-long : (gs r : List ℕ) (mask : ℕ) (word : ℕ → ℕ) (first : Bool) → length (lastRow gs r mask word first) ≡ rowWords
-unfolding lastRow
-last-long gs r mask word first = length-made gs r first gOne false (shown mask (upto word axisCodes))
 
 pub arc-long : (gs : List ℕ) (plane : ℕ) (pos : ℕ → Option ℕ) (r : List ℕ) (e : Ends) (c : Arc) (n k : ℕ) → length (arcRow gs plane pos r e c n k) ≡ rowWords
 unfolding arcRow

@@ -1,5 +1,4 @@
 pub mod Samples
 pub mod Rowing
 pub mod Draw
-pub mod Drawn
 pub mod Asks

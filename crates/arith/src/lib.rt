@@ -24,7 +24,7 @@ pub extern "C" fn arith_root(x: f64) -> f64
 pub extern "C" fn arith_root_at_most(x: f64, y: f64) -> bool
     ensures { λ r. ⌜ r ≡ Ieee.le (sqrt binary64 x) y ⌝ }
 {
-    root::at_most::root_at_most(x, y)
+    root_bound::root_at_most(x, y)
 }
 
 #[no_mangle]
@@ -75,14 +75,14 @@ pub extern "C" fn arith_sincos(x: f64, s: &mut f64, c: &mut f64)
 pub extern "C" fn arith_atan2(y: f64, x: f64) -> f64
     ensures { λ r. ⌜ r ≡ atan2Steps y x ⌝ }
 {
-    trig::atan2(y, x)
+    trig_atan::atan2(y, x)
 }
 
 #[no_mangle]
 pub extern "C" fn arith_acos(x: f64) -> f64
     ensures { λ r. ⌜ r ≡ acosSteps x ⌝ }
 {
-    trig::acos(x)
+    trig_atan::acos(x)
 }
 
 #[no_mangle]

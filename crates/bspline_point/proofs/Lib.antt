@@ -1,2 +1,2 @@
-pub mod Climbing
+pub mod Curves
 pub mod Straight

@@ -14,7 +14,8 @@ use Rattle.bspline_low.specs.Low.{SharesIn, mixOf, top1, top2, top3, top4, topO
 use Rattle.bspline_low.specs.declared.four.Fourth.{Fourth}
 use Rattle.bspline_low.specs.declared.low.Shares.{Shares}
 use Rattle.bspline_low.specs.LowLaws.{by-one, by-two, by-three}
-use Rattle.bspline_point.proofs.Climbing.{level-at, curve-is, window-at, window-length}
+use Rattle.bspline_boor.specs.Levels.{level-at, window-at, window-length}
+use Rattle.bspline_point.proofs.Curves.{curve-is}
 
 -- ---- the rows of channel c in span k
 module _ (ks cw : List Float) (n p : ℕ) (u : Float) (k c : ℕ) (in-span : p ≤ k) (under : k < n) (wide : length (window cw n p k c) ≡ p + 1) where

@@ -8,7 +8,7 @@ use lib.Ieee.{Float, lt, le}
 use Rattle.floats.specs.Numbers.{_⊕_, _⊖_, _⊗_, _⊘_, ofNat, f0, f1, 1e-30, absOf, heldIn, at}
 use Rattle.floats.specs.Lists.{upto, keep, flatten}
 use Rattle.curve_metric.specs.Metric.{pointOf}
-use Rattle.curve_metric.specs.Walk.{Sample, samples}
+use Rattle.curve_metric.specs.Walk.{Sample, depth, samples}
 use Rattle.whole.specs.Whole.{truncCount}
 
 -- ---- the degree in force: below the number of points, the start among them
@@ -70,7 +70,7 @@ evalBasis b u =
 -- the samples, knot span by knot span
 unfoldable pub basisSamples : Bspline → List ℕ → Float → List Sample
 basisSamples b ms tol =
-    flatten (upto (λ (j : ℕ). samples (evalBasis b) ms tol 20 (ofNat j) (evalBasis b (ofNat j)) (ofNat (j + 1)) (evalBasis b (ofNat (j + 1)))) (spansOf b))
+    flatten (upto (λ (j : ℕ). samples (evalBasis b) ms tol depth (ofNat j) (evalBasis b (ofNat j)) (ofNat (j + 1)) (evalBasis b (ofNat (j + 1)))) (spansOf b))
 
 -- Greville value of control point i: the mean of the p knots after knot i
 unfoldable pub knotSum : List Float → ℕ → ℕ → Float

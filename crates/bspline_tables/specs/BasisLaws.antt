@@ -1,4 +1,4 @@
--- LAWS. A B-spline's runs: one a control point after the start, end to end all samples in curve order, each with its channels. Assumes nothing.
+-- LAWS. A B-spline's runs: one a control point after the start, end to end all samples in curve order. Assumes nothing.
 use mathlib.Core.Path.{_≡_, refl, sym, ap, _∙_}
 use mathlib.Core.Bool.{Bool, true, false, cond}
 use mathlib.Core.List.{List, [], _∷_, _++_, map}
@@ -10,15 +10,11 @@ use lib.Dec.{leb, eqb}
 use lib.ListN.{length, getD}
 use lib.Ieee.{Float, lt}
 use borrow.Author.Tests.{le-leb, lt-leb, eq-eqb, ne-eqb}
-use Rattle.floats.specs.Numbers.{ofNat}
 use Rattle.floats.specs.Lists.{upto, keep, flatten}
 use Rattle.floats.specs.Fill.{length-upto, at-upto, lt-or-le}
-use Rattle.curve_metric.specs.Metric.{pointOf}
 use Rattle.curve_metric.specs.Walk.{Sample}
-use Rattle.curve_metric.specs.WalkLaws.{Wide, samples-wide}
-use Rattle.curve_metric.specs.Ends.{Every, every-upto, every-flatten, every-map}
 use Rattle.bspline_tables.specs.Joins.{flatten-snoc, map-append, keep-here, keep-not}
-use Rattle.bspline_tables.specs.Basis.{Bspline, spansOf, basisOf, evalBasis, basisSamples, greville, ownerFrom, Owned, owned, runOf, basisRuns}
+use Rattle.bspline_tables.specs.Basis.{Bspline, basisOf, basisSamples, greville, ownerFrom, Owned, owned, runOf, basisRuns}
 
 abbrev pub pointIs : Owned → List Float
 pointIs s = s .point
@@ -121,40 +117,3 @@ runs-join sd ms tol pts ws h =
     join-to (length pts - 1) 1 (length pts - 1) (owned b 1 ss) (omega arith) r
     ∙ ap (map pointIs) (all-under (length pts - 1) 1 (owned b 1 ss) r)
     ∙ points-kept b 1 ss
-
--- ---- every point has its channels
-
-eval-width : (b : Bspline) (t : Float) → length (evalBasis b t) ≡ length (pointOf (b .points) 0)
-unfolding evalBasis
-eval-width b t = length-upto _ (length (pointOf (b .points) 0))
-
-pub samples-width : (b : Bspline) (ms : List ℕ) (tol : Float) → Every (Wide (length (pointOf (b .points) 0))) (basisSamples b ms tol)
-unfolding basisSamples
-samples-width b ms tol =
-    let ch = length (pointOf (b .points) 0) in
-    every-flatten (Wide ch) _ (every-upto (Every (Wide ch)) _ (spansOf b) (λ j h.
-    samples-wide (evalBasis b) ms tol ch (eval-width b) 20 (ofNat j) (evalBasis b (ofNat j)) (ofNat (j + 1)) (evalBasis b (ofNat (j + 1)))
-    (eval-width b (ofNat (j + 1)))))
-
-keep-every : {A : Type 0} (P : A → Type 0) (p : A → Bool) (xs : List A) → Every P xs → Every P (keep p xs)
-unfolding Every keep
-keep-every P p [] e = tt
-keep-every P p (x ∷ xs) e = go (p x) (keep-every P p xs (e .1))
-  where
-    go : (b : Bool) → Every P (keep p xs) → Every P (cond b (x ∷ keep p xs) (keep p xs))
-    go true r = (e .0, r)
-    go false r = r
-
-owned-width : (ch : ℕ) (b : Bspline) (o : ℕ) (ss : List Sample) → Every (Wide ch) ss → Every (λ (s : Owned). length (s .point) ≡ ch) (owned b o ss)
-unfolding Every owned
-owned-width ch b o [] e = tt
-owned-width ch b o (s ∷ ss) e = (e .0, owned-width ch b (ownerFrom b (s .time) (length (b .points) - 1 - o) o) ss (e .1))
-
-pub runs-width : (sd : ℕ) (ms : List ℕ) (tol : Float) (pts : List (List Float)) (ws : List Float)
-    → Every (Every (λ (p : List Float). length p ≡ length (pointOf pts 0))) (basisRuns sd ms tol pts ws)
-unfolding basisRuns basisOf runOf
-runs-width sd ms tol pts ws =
-    let ch = length (pointOf pts 0) in
-    every-upto (Every (λ (p : List Float). length p ≡ ch)) _ (length pts - 1) (λ i h.
-    every-map (λ (p : List Float). length p ≡ ch) pointIs _ (keep-every (λ (s : Owned). length (s .point) ≡ ch) (λ (s : Owned). eqb (s .owner) (i + 1)) _
-    (owned-width ch (basisOf sd pts ws) 1 _ (samples-width (basisOf sd pts ws) ms tol))))

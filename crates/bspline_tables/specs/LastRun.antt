@@ -11,7 +11,7 @@ use borrow.Author.Tests.{eq-eqb}
 use Rattle.floats.specs.Numbers.{ofNat}
 use Rattle.floats.specs.Lists.{upto, keep, flatten}
 use Rattle.layout.specs.Layout.{mostPoints}
-use Rattle.curve_metric.specs.Walk.{Sample, samples}
+use Rattle.curve_metric.specs.Walk.{Sample, depth, samples}
 use Rattle.curve_metric.specs.WalkLaws.{samples-end}
 use Rattle.curve_metric.specs.Ends.{EndsWith, ends-one, ends-append, ends-map}
 use Rattle.bspline_tables.specs.Joins.{flatten-snoc, keep-append, keep-here, keep-none}
@@ -32,11 +32,11 @@ samples-last b ms tol h =
     (subst (λ (k : ℕ). EndsWith (flatten (upto f (suc (spansOf b - 1)))) (record { time = ofNat k; point = evalBasis b (ofNat k) })) g (go (spansOf b - 1)))
   where
     f : ℕ → List Sample
-    f j = samples (evalBasis b) ms tol 20 (ofNat j) (evalBasis b (ofNat j)) (ofNat (j + 1)) (evalBasis b (ofNat (j + 1)))
+    f j = samples (evalBasis b) ms tol depth (ofNat j) (evalBasis b (ofNat j)) (ofNat (j + 1)) (evalBasis b (ofNat (j + 1)))
 
     go : (k : ℕ) → EndsWith (flatten (upto f (suc k))) (record { time = ofNat (k + 1); point = evalBasis b (ofNat (k + 1)) })
     go k = rw (flatten-snoc (upto f k) (f k)) (ends-append (flatten (upto f k))
-        (samples-end (evalBasis b) ms tol 20 (ofNat k) (evalBasis b (ofNat k)) (ofNat (k + 1)) (evalBasis b (ofNat (k + 1)))))
+        (samples-end (evalBasis b) ms tol depth (ofNat k) (evalBasis b (ofNat k)) (ofNat (k + 1)) (evalBasis b (ofNat (k + 1)))))
 
 keep-ends : {A : Type 0} (p : A → Bool) {xs : List A} {x : A} → p x ≡ true → EndsWith xs x → EndsWith (keep p xs) x
 keep-ends p {xs} {x} h e = record {

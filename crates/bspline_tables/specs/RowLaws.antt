@@ -131,14 +131,6 @@ rowing-put {l} {xs} {w} {m} {c} {a} {f} {ys} r h fit ea n e =
     let p : postOf a (a + w - a) xs ≡ drop (a + w) xs = post-is a (a + w) xs (omega arith) in
     rw p (rowing-more ys r h fit ea (n ∙ part-length r h fit ea) e)
 
-pub rowing-map : {l xs : List Float} {w m c a : ℕ} (g : List Float → ℕ → List Float) {ys : List Float} → Rowing l xs w m c (λ i. g (row l w i) w) → c < m
-    → m * w ≤ length l → a ≡ c * w
-    → length ys ≡ length (part xs a w) → ys ≡ g (part xs a w) (length (part xs a w)) → Rowing l (putMid a (a + w - a) xs ys) w m (c + 1) (λ i. g (row l w i) w)
-rowing-map {l} {xs} {w} {m} {c} {a} g {ys} r h fit ea n e =
-    let q : part xs a w ≡ row l w c = part-row xs c w a ea ∙ r .todo c (omega arith) h in
-    let s : length (part xs a w) ≡ w = part-length r h fit ea in
-    rowing-put r h fit ea n (e ∙ ap (g (part xs a w)) s ∙ ap (λ (z : List Float). g z w) q)
-
 pub rowing-all : {l xs : List Float} {w m c : ℕ} {f : ℕ → List Float} → Rowing l xs w m c f → c ≡ m → Rows xs w m f
 rowing-all r e = record { is = λ i h. r .done i (omega arith) }
 

@@ -1,2 +1,3 @@
 pub mod owner;
+pub mod span;
 pub mod tables;

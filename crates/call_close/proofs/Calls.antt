@@ -15,9 +15,10 @@ use Rattle.call_close.specs.Held.{emission}
 use Rattle.call_close.specs.Close.{untouched, closeRows, closeState, closeSpec}
 use Rattle.saved_state.specs.Checked.{saved-ok}
 use lib.Ieee.{Float}
-use Rattle.spline_points.specs.Points.{splineOf}
-use Rattle.spline_emission.specs.Emission.{splineGroups, putWithin}
-use Rattle.spline_emission.specs.Emits.{Holds}
+use Rattle.spline_channels.specs.Channels.{splineOf}
+use Rattle.spline_plan.specs.Emission.{splineGroups}
+use Rattle.spline_write.specs.Room.{putWithin}
+use Rattle.spline_curve.specs.Asks.{Holds}
 use Rattle.saved_state.specs.StateLaws.{good, good-few, axes-few}
 use Rattle.call_close.specs.Emitted.{codesOf, startOf, holds, emission-is, emission-few, Put}
 

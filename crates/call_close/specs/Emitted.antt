@@ -1,36 +1,43 @@
--- The emission as the code has it: the spline of the state's words, how many rows it has at most, and how wide they are. Assumes nothing.
+-- CONTRACTS. The emission as the code has it: the spline of the state's words, how many rows it has at most, and how wide they are. Assumes nothing.
 use Prim.Native.Nat.{ℕ, zero, suc, _+_, _*_, _/_, _^_, _<_, _≤_}
-use mathlib.Core.Path.{_≡_, sym, _∙_, ap, ap₂, subst}
-use mathlib.Core.Bool.{true, false, _&&_, not, false≢true}
+use mathlib.Core.Path.{_≡_, refl, sym, _∙_, ap, ap₂, subst, fun-ext}
+use mathlib.Core.Bool.{Bool, true, false, cond, _&&_, not, false≢true}
 use mathlib.Core.List.{List, [], _∷_, _++_, append-nil}
-use mathlib.Core.Option.{Option}
+use mathlib.Core.Option.{Option, none, some}
 use native.Mathlib.Omega.{arith}
 use lib.ListN.{length, getD, take, drop, length-append, length-take, length-drop}
+use lib.Seq.{getD-take, getD-drop}
 use lib.Dec.{leb, eqb}
 use lib.Ieee.{Float}
 use borrow.Author.Tests.{eq-eqb, le-leb, lt-leb, not-true}
 use Rattle.floats.specs.Lists.{upto, flatten, keep, spliced, all}
 use Rattle.floats.specs.Fill.{length-upto}
-use Rattle.layout.specs.Layout.{axisCodes, rowWords, wAxes, wStart, stateWords, mostHeld, lastCode, listCodes}
+use Rattle.layout.specs.Layout.{axisCodes, axisMasks, rowWords, wAxes, wStart, stateWords, mostHeld, lastCode, listCodes}
+use Rattle.row_cells.specs.Bits.{has}
 use Rattle.row_cells.specs.Row.{shown, hasPoint}
 use Rattle.row_cells.specs.RowLaws.{length-out}
 use Rattle.row_put.specs.MadeLaws.{length-made}
 use Rattle.floats.specs.Truth.{by-bit, cond-t, cond-f, all-at, and-right}
-use Rattle.spline_points.specs.Points.{Spline, channels, pointRows, startPoint, pointsFrom, metricOf, splineOf}
-use Rattle.spline_points.specs.Gathers.{Once}
-use Rattle.spline_points.specs.Flat.{Sized, sized-append, sized-cons, flatten-append, length-flatten}
+use Rattle.spline_channels.specs.Channels.{Spline, channels, pointRows, splineOf, blockAt}
+use Rattle.spline_points.specs.Points.{startPoint, pointsFrom}
+use Rattle.spline_metric.specs.Metric.{metricOf}
+use Rattle.spline_channels.specs.Gathers.{Once}
+use Rattle.spline_channels.specs.Flat.{Sized, sized-append, sized-cons, flatten-append, length-flatten}
 use Rattle.spline_points.specs.Curve.{points-length}
-use Rattle.spline_points.specs.Keeps.{keep-most}
+use Rattle.spline_channels.specs.Keeps.{keep-most}
 use Rattle.spline_places.specs.Groups.{pointGroup, heldGroup}
-use Rattle.spline_emission.specs.Emission.{runsOf, splineGroups, putWithin}
-use Rattle.spline_emission.specs.Emits.{Holds}
-use Rattle.spline_emission.specs.Laws.{shown-part, blocks-are}
-use Rattle.spline_emission.specs.Widths.{runs-few}
+use Rattle.spline_curve.specs.Runs.{runsOf}
+use Rattle.spline_plan.specs.Emission.{splineGroups}
+use Rattle.spline_write.specs.Room.{putWithin}
+use Rattle.spline_curve.specs.Asks.{Holds}
 use Rattle.saved_state.specs.State.{axisCount, motionNow, degree, held, tolerance, geometric, pointWord, curveStart, heldRows, codeOk, codesOk}
 use Rattle.saved_state.specs.State.{axesOk, stateOk, savedCheck}
 use Rattle.saved_state.specs.StateLaws.{Good, good, good-few, point-small}
 use Rattle.call_close.specs.Held.{heldSpline, emission}
 use Rattle.saved_state.specs.Checked.{saved-ok, saved-store}
+use Rattle.spline_curve.specs.Widths.{runs-few}
+use Rattle.spline_sample.specs.SampleLaws.{bit-below}
+use Rattle.spline_plan.specs.Plans.{mostEmitted}
 
 -- the axis list of a state, and the words of its curve start
 abbrev pub codesOf : List ℕ → List ℕ
@@ -42,6 +49,19 @@ startOf st = take axisCodes (drop (wStart + 1) st)
 -- the spline that the code hands over
 abbrev pub splineIn : List ℕ → List ℕ → Spline
 splineIn st store = splineOf (motionNow st) (degree st) (tolerance st) (codesOf st) (getD st wStart 0) (startOf st) store (held st)
+
+-- ---- as a state and a store have them: ten words of a part of the state beside their mask, and the held rows
+shown-part : (m a : ℕ) (l : List ℕ) → m < axisMasks → shown m (take axisCodes (drop a l)) ≡ (λ (k : ℕ). cond (has m k) (some (getD l (a + k) 0)) none)
+unfolding shown
+shown-part m a l h = fun-ext (λ k. one k (has m k) refl)
+  where
+    one : (k : ℕ) (b : Bool) → has m k ≡ b → cond b (some (getD (take axisCodes (drop a l)) k 0)) none ≡ cond b (some (getD l (a + k) 0)) none
+    one k false e = refl
+    one k true e = ap some (getD-take axisCodes (drop a l) k 0 (bit-below m k h e) ∙ getD-drop a l k 0)
+
+blocks-are : (store : List ℕ) (held : ℕ) → upto (blockAt store) held ≡ upto (λ (i : ℕ). take rowWords (drop (i * rowWords) store)) held
+unfolding blockAt
+blocks-are store held = refl
 
 start-is : (st : List ℕ) → getD st wStart 0 < 2 ^ axisCodes → shown (getD st wStart 0) (startOf st) ≡ curveStart st
 unfolding pointWord
@@ -155,9 +175,6 @@ few-runs s h j =
     let p : List Float = startPoint s cs in
     runs-few (s .motion) (s .power) (metricOf cs) (s .tol) (p ∷ pointsFrom cs p rs) _ j
     (omega (arith, points-length cs p rs, keep-most (hasPoint (s .axes)) (s .blocks)))
-
-abbrev pub mostEmitted : ℕ
-mostEmitted = 2 ^ 57
 
 pub emission-few : (st store : List ℕ) → held st ≤ mostHeld → length (emission st store) ≤ mostEmitted
 unfolding emission splineGroups heldSpline heldRows

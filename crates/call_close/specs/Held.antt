@@ -2,7 +2,8 @@
 use Prim.Native.Nat.{ℕ}
 use mathlib.Core.List.{List}
 use Rattle.floats.specs.Lists.{flatten}
-use Rattle.spline_emission.specs.Emission.{Spline, splineGroups}
+use Rattle.spline_channels.specs.Channels.{Spline}
+use Rattle.spline_plan.specs.Emission.{splineGroups}
 use Rattle.saved_state.specs.State.{tolerance, geometric, motionNow, degree, curveStart, heldRows}
 
 -- the spline that a state and its store hold

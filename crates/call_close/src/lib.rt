@@ -5,7 +5,6 @@ use call_reply::plain_reply;
 use call_reply::too_few;
 use floats::of_bits;
 use layout::AXIS_CODES;
-use layout::ROW_WORDS;
 use layout::W_AXES;
 use layout::W_AXIS_COUNT;
 use layout::W_DEGREE;
@@ -14,12 +13,13 @@ use layout::W_MOTION;
 use layout::W_START;
 use layout::W_TOLERANCE;
 use push_state::forget;
-use saved_state::state::saved_check;
-use spline_emission::Job;
+use saved_check::saved_check;
+use spline_curve::Job;
 use spline_emission::emit_within;
+use spline_write::has_room;
 ghost use mathlib.Core.Path.{_≡_};
 ghost use Prim.Native.Nat.{_≤_};
-ghost use Rattle.spline_emission.specs.Emits.{mostOwn};
+ghost use Rattle.spline_write.specs.Emits.{mostOwn};
 ghost use Rattle.call_reply.specs.Replies.{PushIs};
 ghost use Rattle.saved_state.specs.State.{savedCheck};
 ghost use Rattle.call_close.specs.Held.{emission};
@@ -73,7 +73,7 @@ pub fn close(state: &mut [u64], store: &[u64], rows: &mut [u64]) -> Reply
         return plain_reply(0);
     }
     let needed = put_emission(state, store, rows, 0);
-    if rows.len() / ROW_WORDS < needed {
+    if !has_room(rows, needed) {
         return too_few(needed as u64);
     }
     forget(state);

@@ -2,7 +2,7 @@
 use Prim.Native.Nat.{ℕ, _+_, _*_, _/_, _%_, _≤_, _<_}
 use mathlib.Core.Path.{_≡_, refl, sym, _∙_, ap, ap₂}
 use mathlib.Core.Bool.{Bool, true, false, cond}
-use mathlib.Core.List.{List, [], _∷_, _++_, append-assoc}
+use mathlib.Core.List.{List, [], _++_}
 use native.Mathlib.Omega.{arith}
 use native.Mathlib.Nat.{div-add-mod'}
 use lib.ListN.{length, length-append}
@@ -16,7 +16,8 @@ use Rattle.floats.specs.Truth.{by-bit, cond-t, cond-f}
 use Rattle.arc_rows.specs.declared.Plan.{Plan}
 use Rattle.saved_state.specs.State.{held, savedCheck}
 use Rattle.call_reply.specs.declared.Reply.{Reply}
-use Rattle.call_reply.specs.Replies.{plain, After, tooFew, doneReply, PushIs, answers}
+use Rattle.call_reply.specs.Replies.{plain, After, tooFew, doneReply, PushIs}
+use Rattle.call_reply.specs.ReplyLaws.{answers}
 use Rattle.push_check.specs.Blocks.{emits, isFull, news, pushCheck}
 use Rattle.push_check.specs.declared.Resolved.{Resolved}
 use Rattle.push_check.specs.Resolved.{resolved, due}
@@ -28,13 +29,14 @@ use Rattle.call_close.specs.Close.{untouched}
 use Rattle.saved_state.specs.Checked.{saved-ok}
 use Rattle.saved_state.specs.StateLaws.{good, good-few}
 use Rattle.push_rows.specs.Own.{Ready, ready, OwnPlanned, ownRows}
-use Rattle.spline_emission.specs.Emission.{putWithin}
+use Rattle.spline_write.specs.Room.{putWithin}
 use Rattle.call_push.specs.Before.{before, before-words}
 use Rattle.call_close.specs.Emitted.{Put, room-left, room-short, put-refused, put-written}
 use Rattle.push_rows.specs.Few.{few-own}
 use Rattle.push_check.specs.declared.Due.the-variants.{Refused, Push}
 use Rattle.push_check.specs.BlockLaws.{due-refused, due-push}
 use Rattle.call_push.specs.Settle.{Passed, Settles, settled}
+use Rattle.spline_channels.specs.Flat.{flatten-append}
 
 -- what a push that passes its checks has
 pub record Passes (st store r : List ℕ) : Type 0 where
@@ -63,11 +65,6 @@ passes-few {st} {store} p = good-few st (good st (saved-ok st store (p .saved)))
 rows-are : (st store r : List ℕ) → pushRows st store r ≡ before (emits st r) st store ++ ownAnswer st r .rows
 unfolding pushRows
 rows-are st store r = by-bit (emits st r) (λ b. rw b) (λ b. rw b)
-
-flatten-append : (a b : List (List ℕ)) → flatten (a ++ b) ≡ flatten a ++ flatten b
-unfolding flatten
-flatten-append [] b = refl
-flatten-append (x ∷ xs) b = ap (λ (l : List ℕ). x ++ l) (flatten-append xs b) ∙ sym (append-assoc x (flatten xs) (flatten b))
 
 pub turned-is : (st store rows r : List ℕ) → (pushCheck st store r ≡ 0 → ⊥) → pushSpec st store rows r ≡ untouched (plain (pushCheck st store r)) st store rows
 unfolding pushSpec

@@ -6,17 +6,18 @@ use call_reply::done_reply;
 use call_reply::plain_reply;
 use call_reply::too_few;
 use layout::ROW_WORDS;
+use push_after::push_state;
+use push_after::push_store;
 use push_check::Due;
 use push_check::Resolved;
 use push_check::check_push;
 use push_rows::plan_own;
 use push_rows::write_own;
-use push_state::push_state;
-use push_state::push_store;
+use spline_write::has_room;
 ghost use mathlib.Core.Path.{_≡_};
 ghost use mathlib.Core.Bool.{cond};
 ghost use Prim.Native.Nat.{_≤_};
-ghost use Rattle.spline_emission.specs.Emits.{mostOwn};
+ghost use Rattle.spline_write.specs.Emits.{mostOwn};
 ghost use Rattle.saved_state.specs.State.{savedCheck};
 ghost use Rattle.call_reply.specs.Replies.{PushIs};
 ghost use Rattle.call_close.specs.Emitted.{Put};
@@ -80,7 +81,7 @@ fn push_block(
     let plan = plan_own(state, row, b);
     let first = put_before(state, store, rows, b.emits, plan.count);
     let needed = first + plan.count;
-    if rows.len() / ROW_WORDS < needed {
+    if !has_room(rows, needed) {
         return too_few(needed as u64);
     }
     settle(state, store, rows, row, b, first, plan)

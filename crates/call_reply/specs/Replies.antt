@@ -1,6 +1,6 @@
--- Replies, and what a call answers and leaves, as its contract says it. Assumes nothing.
+-- DEFINITIONS. Replies, and what a call answers and leaves, as its contract says it. Assumes nothing.
 use Prim.Native.Nat.{ℕ}
-use mathlib.Core.Path.{_≡_, sym, _∙_, ap}
+use mathlib.Core.Path.{_≡_}
 use mathlib.Core.List.{List}
 use Rattle.call_reply.specs.declared.Reply.{Reply}
 
@@ -26,9 +26,6 @@ pub record StateIs (p : AfterState) (r : Reply) (s : List ℕ) : Type 0 where
   pub reply : r ≡ p .reply
   pub state : s ≡ p .state
 
-pub state-is : {a b : AfterState} {r : Reply} {s : List ℕ} → a ≡ b → r ≡ b .reply → s ≡ b .state → StateIs a r s
-state-is e p q = record { reply = p ∙ sym (ap (λ (z : AfterState). z .reply) e); state = q ∙ sym (ap (λ (z : AfterState). z .state) e) }
-
 -- ---- a push or a close: what it answers, and what it leaves in each slice
 pub record After : Type 0 where
   pub reply : Reply
@@ -42,12 +39,3 @@ pub record PushIs (p : After) (r : Reply) (s t u : List ℕ) : Type 0 where
   pub state : s ≡ p .state
   pub store : t ≡ p .store
   pub rows : u ≡ p .rows
-
-pub answers : {a b : After} {r : Reply} {s t u : List ℕ} → a ≡ b → r ≡ b .reply → s ≡ b .state → t ≡ b .store → u ≡ b .rows → PushIs a r s t u
-answers e p q x y =
-    record {
-      reply = p ∙ sym (ap (λ (z : After). z .reply) e);
-      state = q ∙ sym (ap (λ (z : After). z .state) e);
-      store = x ∙ sym (ap (λ (z : After). z .store) e);
-      rows = y ∙ sym (ap (λ (z : After). z .rows) e);
-    }

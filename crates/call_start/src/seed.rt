@@ -5,7 +5,7 @@ use layout::LAST_CODE;
 use row_check::within_range;
 use saved_state::state::is_geometric;
 use saved_state::state::place;
-use saved_state::state::state_ok;
+use saved_words::state_ok;
 ghost use Rattle.call_start.specs.Seed.{seedSpec};
 ghost use Rattle.call_reply.specs.Replies.{StateIs};
 

@@ -1,7 +1,6 @@
 -- DEFINITIONS. The values of numbers read and written (rules 7.9 to 7.11), over lib.Ieee's exact values. Assumes nothing.
-use Prim.Native.Nat.{ℕ, _*_, _/_, _%_, _^_, _<_, min}
+use Prim.Native.Nat.{ℕ, zero, suc, _*_, _^_, min}
 use mathlib.Core.Bool.{Bool, cond, _&&_}
-use mathlib.Core.Path.{_≡_}
 use lib.Dec.{ltb}
 use lib.IntN.{pos}
 use lib.Ieee.{Float, nan, inf, fin, binary64, up, down, div, neg, ofInt}
@@ -20,22 +19,11 @@ quotient s n k =
     cond (s && ltb 0 n) (neg (div binary64 (ofInt binary64 (pos n)) (ofInt binary64 (pos (10 ^ k)))))
     (div binary64 (ofInt binary64 (pos n)) (ofInt binary64 (pos (10 ^ k))))
 
--- how many digits n has, for an n below 10 ^ 10
-unfoldable pub width : ℕ → ℕ
-width n =
-    cond (ltb n 10) 1
-    (cond (ltb n 100) 2
-    (cond (ltb n 1000) 3
-    (cond (ltb n 10000) 4
-    (cond (ltb n 100000) 5
-    (cond (ltb n 1000000) 6
-    (cond (ltb n 10000000) 7
-    (cond (ltb n 100000000) 8
-    (cond (ltb n 1000000000) 9 10))))))))
+-- the first k from i on, of j and one more, with n below 10 ^ k; the last one where it is below none
+unfoldable pub widthFrom : ℕ → ℕ → ℕ → ℕ
+widthFrom i zero n = i
+widthFrom i (suc j) n = cond (ltb n (10 ^ i)) i (widthFrom (suc i) j n)
 
--- d is twice the whole part of a / 1024, and one more where the division leaves a rest
-pub record Sticky (a d : ℕ) : Type 0 where
-  pub half : d / 2 ≡ a / 1024
-  pub exact : a % 1024 ≡ 0 → d % 2 ≡ 0
-  pub rest : (a % 1024 ≡ 0 → ⊥) → d % 2 ≡ 1
-  pub low : d < 2 ^ 63
+-- how many digits n has, for an n below 10 ^ 10
+abbrev pub width : ℕ → ℕ
+width n = widthFrom 1 9 n

@@ -1,4 +1,5 @@
 pub mod Decimal
+pub mod Sticky
 pub mod Near
 pub mod Values
-pub mod Quotients
+pub mod Widths

@@ -11,7 +11,7 @@ use lib.Arith.{lt-of-le-ne, digits-div, digits-mod}
 use lib.Pow.{pow-add, pow-pos}
 use lib.Ieee.{nearest}
 use lib.Ieee.Nearest.{closest, closest-same}
-use Rattle.csv_decimal.specs.Decimal.{Sticky}
+use Rattle.csv_decimal.specs.Sticky.{Sticky}
 
 -- ---- what `compare` says
 abbrev Cmp : Ordering → ℕ → ℕ → Type 0

@@ -1,4 +1,4 @@
--- The size in millionths of a number, from its value and from the fields of its pattern. Assumes nothing.
+-- LAWS. The size in millionths of a number, from its value and from the fields of its pattern. Assumes nothing.
 use mathlib.Core.Path.{_≡_, refl, sym, ap, _∙_, subst}
 use Prim.Native.Nat.{ℕ, zero, suc, _+_, _-_, _*_, _/_, _%_, _^_, _≤_, _<_, min, compare}
 use native.Mathlib.Nat.{le-trans, le-of-eq, le-of-lt, lt-of-le-of-lt, mul-assoc, mul-right-comm, mul-one, zero-mul, mul-le-mul, mul-le-mul-right}

@@ -5,7 +5,8 @@ ghost use Prim.Native.Nat.{_+_, _*_, _/_, _%_, _^_, _≤_, _<_};
 ghost use lib.Ieee as Ieee;
 ghost use lib.Ieee.{binary64};
 ghost use lib.Ieee.Nearest.{closest};
-ghost use Rattle.csv_decimal.specs.Decimal.{millionths, quotient, width, Sticky};
+ghost use Rattle.csv_decimal.specs.Decimal.{millionths, quotient, width};
+ghost use Rattle.csv_decimal.specs.Sticky.{Sticky};
 
 // 10^9 in millionths: what is not below it is not written.
 const TOO_LARGE: u64 = 1000000000000000;
@@ -92,6 +93,13 @@ fn power(k: usize) -> u64
         8 => 100000000,
         _ => 1000000000,
     }
+}
+
+// A byte as a number.
+pub fn wide(x: u8) -> u64
+    ensures { λ r. ⌜ r ≡ x ⌝ }
+{
+    x as u64
 }
 
 // The last digit of v, as a byte.

@@ -1,11 +1,3 @@
-pub mod Out
 pub mod Read
-pub mod Write
-pub mod Grammar
 pub mod Scans
 pub mod Readers
-pub mod Figures
-pub mod Writers
-pub mod Forms
-pub mod Again
-pub mod Lines

@@ -4,6 +4,7 @@ use mathlib.Core.Bool.{Bool, true, false, cond}
 use mathlib.Core.List.{List, [], _∷_}
 use lib.Dec.{ltb, eqb}
 use lib.ListN.{length, take, drop, getD}
+use Rattle.layout.specs.Layout.{lineNumbers}
 use Rattle.csv_decimal.specs.Decimal.{quotient}
 use Rattle.csv_fields.specs.declared.Number.{Number}
 use Rattle.csv_fields.specs.declared.Number.the-variants as Number
@@ -44,9 +45,9 @@ unfoldable pub number : List ℕ → Number
 unfolding unsigned
 number t = cond (eqb (getD t 0 0) 45) (unsigned true (drop 1 t)) (unsigned false t)
 
--- 7.7: 1 to 10 digits, below 2 ^ 32
+-- 7.7: 1 to 10 digits, and a number of the layout
 unfoldable pub lineNumber : List ℕ → Line
 unfolding run num
 lineNumber t =
     cond (eqb (run 10 t) 0) Line.Bad
-    (cond (eqb (run 10 t) (length t)) (cond (ltb (num 0 (take (run 10 t) t)) 4294967296) (Line.At (num 0 (take (run 10 t) t))) Line.Bad) Line.Bad)
+    (cond (eqb (run 10 t) (length t)) (cond (ltb (num 0 (take (run 10 t) t)) lineNumbers) (Line.At (num 0 (take (run 10 t) t))) Line.Bad) Line.Bad)

@@ -1,4 +1,4 @@
--- The answers of the readers, case by case. Assumes nothing.
+-- LAWS. The answers of the readers, case by case. Assumes nothing.
 use mathlib.Core.Path.{_≡_, refl, ap, _∙_}
 use Prim.Native.Nat.{ℕ, _+_, _-_, _*_, _^_, _≤_, _<_}
 use native.Mathlib.Omega.{arith}
@@ -9,6 +9,7 @@ use lib.ListN.{length, take, drop, getD, length-drop}
 use lib.Seq.{take-all}
 use lib.Ieee.{Float}
 use borrow.Author.Tests.{lt-ltb, le-ltb, eq-eqb, ne-eqb}
+use Rattle.layout.specs.Layout.{lineNumbers}
 use Rattle.csv_decimal.specs.Decimal.{quotient}
 use Rattle.csv_fields.specs.declared.Number.{Number}
 use Rattle.csv_fields.specs.declared.Number.the-variants as Number
@@ -85,13 +86,13 @@ module _ (t : List ℕ) (k v : ℕ) (e : k ≡ run 10 t) (w : v ≡ num 0 (take 
   unfolding lineNumber
   line-none z = rw (← e, eq-eqb k 0 z)
 
-  pub line-at : (k ≡ 0 → ⊥) → k ≡ length t → v < 4294967296 → Line.At v ≡ lineNumber t
+  pub line-at : (k ≡ 0 → ⊥) → k ≡ length t → v < lineNumbers → Line.At v ≡ lineNumber t
   unfolding lineNumber
-  line-at z l h = rw (← e, ne-eqb k 0 z, eq-eqb k (length t) l, ← w, lt-ltb v 4294967296 h)
+  line-at z l h = rw (← e, ne-eqb k 0 z, eq-eqb k (length t) l, ← w, lt-ltb v lineNumbers h)
 
-  pub line-high : (k ≡ 0 → ⊥) → k ≡ length t → 4294967296 ≤ v → Line.Bad ≡ lineNumber t
+  pub line-high : (k ≡ 0 → ⊥) → k ≡ length t → lineNumbers ≤ v → Line.Bad ≡ lineNumber t
   unfolding lineNumber
-  line-high z l h = rw (← e, ne-eqb k 0 z, eq-eqb k (length t) l, ← w, le-ltb v 4294967296 h)
+  line-high z l h = rw (← e, ne-eqb k 0 z, eq-eqb k (length t) l, ← w, le-ltb v lineNumbers h)
 
   pub line-more : (k ≡ 0 → ⊥) → (k ≡ length t → ⊥) → Line.Bad ≡ lineNumber t
   unfolding lineNumber

@@ -1,4 +1,4 @@
--- The digits that a text begins with: how many there are, what number they make, and the loop that finds both. Assumes nothing.
+-- LAWS. The digits that a text begins with: how many there are, what number they make, and the loop that finds both. Assumes nothing.
 use mathlib.Core.Path.{_≡_, refl, sym, ap, _∙_, subst}
 use Prim.Native.Nat.{ℕ, zero, suc, _+_, _-_, _*_, _^_, _≤_, _<_, zero-le}
 use native.Mathlib.Nat.{add-zero, mul-one, mul-assoc, pow-suc, pow-le-pow-right, lt-of-lt-of-le}

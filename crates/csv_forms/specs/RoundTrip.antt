@@ -1,11 +1,10 @@
--- What the reader can give, written and read again, is the same; and what is written is clean text of the output's fields. Assumes nothing.
-use Prim.Native.Nat.{ℕ, zero, suc, _+_, _-_, _*_, _/_, _%_, _^_, _≤_, _<_, zero-le}
+-- LAWS. What the reader can give, written and read again, is the same; and what is written is clean text of the output's fields. Assumes nothing.
+use Prim.Native.Nat.{ℕ, zero, suc, _+_, _-_, _/_, _%_, _^_, _<_}
 use mathlib.Core.Path.{_≡_, refl, sym, ap, _∙_, subst}
 use mathlib.Core.Bool.{Bool, true, false, cond, _&&_}
 use mathlib.Core.List.{List, [], _∷_, _++_, append-nil}
-use mathlib.Core.Option.{Option, none, some, Option·getD}
+use mathlib.Core.Option.{Option, none, some}
 use native.Mathlib.Omega.{arith}
-use native.Mathlib.Nat.{pow-succ', div-div-eq-div-mul, div-one, zero-div, mod-lt}
 use lib.Dec.{T, ltb, eqb, lit<}
 use lib.ListN.{length, getD, length-append}
 use lib.Ieee.{Float, binary64, div, neg, ofInt, ofBits, lt, fits}
@@ -14,103 +13,52 @@ use lib.Ieee.Bits.{ofBits-toBits}
 use borrow.Author.Tests.{ne-eqb, lt-ltb, ltb-true}
 use Rattle.floats.specs.Numbers.{num, bits}
 use Rattle.floats.specs.Lists.{upto, isSome, all}
-use Rattle.floats.specs.Fill.{length-upto}
-use Rattle.layout.specs.Layout.{rCells, lineNumbers}
+use Rattle.floats.specs.Fill.{length-upto, at-upto}
+use Rattle.floats.specs.Truth.{and-left, and-right, and-i as both, all-intro}
+use Rattle.layout.specs.Layout.{cells, rCells, lineNumbers}
 use Rattle.row_cells.specs.Codes.{planeOk}
 use Rattle.row_cells.specs.Bits.{has}
-use Rattle.row_cells.specs.Row.{maskOf, rowOf, presentOf, lineOf, motionOf, planeOf, markOf}
+use Rattle.row_cells.specs.Row.{cell, rowOf, presentOf, lineOf, motionOf, planeOf, markOf}
+use Rattle.row_cells.specs.RowLaws.{cell-there, row-cell}
 use Rattle.csv_decimal.specs.Decimal.{millionths, quotient, width}
 use Rattle.csv_fields.specs.declared.Number.{Number}
 use Rattle.csv_fields.specs.declared.Number.the-variants as Number
 use Rattle.csv_fields.specs.Read.{isDigit, number}
-use Rattle.csv_fields.specs.Grammar.{allDigits}
-use Rattle.csv_fields.specs.Write.{figures, wholeText, millionthsText, numberText, shown}
-use Rattle.csv_fields.specs.Forms.{form-read, line-read-form}
-use Rattle.csv_fields.specs.Scans.{digit-in}
+use Rattle.csv_numbers.specs.Grammar.{allDigits}
+use Rattle.csv_figures.specs.Write.{figures, wholeText, millionthsText, numberText, shown}
+use Rattle.csv_numbers.specs.Forms.{no-value, form-read, line-read-form}
 use Rattle.csv_fields.specs.Readers.{nothing}
-use Rattle.csv_fields.specs.Again.{read-again}
-use Rattle.csv_fields.specs.Lines.{line-again}
+use Rattle.csv_numbers.specs.Again.{figure-in, read-again}
+use Rattle.csv_numbers.specs.Lines.{line-again}
 use Rattle.csv_words.specs.Words.{wordAt, planeText}
-use Rattle.csv_line.specs.LineText.{comma, crlf, headerOut, columnCount, codeAt, parted, joined, tailed}
-use Rattle.csv_line.specs.All.{all-of, both, both-left, both-right}
-use Rattle.csv_line.specs.Planes.{plane-low}
+use Rattle.csv_line.specs.LineText.{comma, crlf, columns, columnCount, codeAt, parted, joined, tailed}
+use Rattle.csv_line.specs.CodeLaws.{code-below, plane-low}
 use Rattle.csv_write.specs.Texts.{joined-append}
-use Rattle.csv_forms.specs.Clean.{clean, cleanAll, clean-append, digits-clean, word-clean, clean-all-append, clean-upto, parted-joined}
-use Rattle.csv_read.specs.Reader.{given, cellOk, cellIn, cellsIn, readRow}
-use Rattle.csv_forms.specs.RowForms.{CellForm, absent, present, cell-form, FieldsForm, accepted-has-form, form-is-accepted}
+use Rattle.csv_forms.specs.Clean.{clean, cleanAll, CleanLine}
+use Rattle.csv_forms.specs.CleanLaws.{clean-append, digits-clean, word-clean, clean-all-append, clean-upto, parted-joined}
+use Rattle.csv_forms.specs.Forms.{CellForm, absent, present, FieldsForm}
+use Rattle.csv_cells.specs.Cells.{given, cellOk}
+use Rattle.csv_read.specs.Reader.{cellIn, cellsIn, readRow}
+use Rattle.csv_forms.specs.RowForms.{cell-form, accepted-has-form, form-is-accepted}
 use Rattle.csv_write.specs.Writer.{cellText, cellShown, cellTexts, headFields, rowFields, markText, outFields, rowText, headOk, writable}
 
--- ---- the bits of a mask
-bit-low : (o : Option ℕ) → cond (isSome o) 1 0 ≤ 1
-bit-low none = zero-le
-bit-low (some w) = lib.Dec.lit≤ tt
-
-pub has-mask : (os : List (Option ℕ)) (k : ℕ) → has (maskOf os) k ≡ isSome (getD os k none)
-unfolding has maskOf
-has-mask [] k = ap (λ (z : ℕ). eqb (z % 2) 1) (zero-div (2 ^ k))
-has-mask (o ∷ os) zero =
-    let b = bit-low o in
-    let e : (cond (isSome o) 1 0 + 2 * maskOf os) % 2 ≡ cond (isSome o) 1 0 = omega arith in
-    ap (λ (z : ℕ). eqb (z % 2) 1) (div-one (cond (isSome o) 1 0 + 2 * maskOf os)) ∙ ap (λ (z : ℕ). eqb z 1) e ∙ one o
-  where
-    one : (o : Option ℕ) → eqb (cond (isSome o) 1 0) 1 ≡ isSome o
-    one none = refl
-    one (some w) = refl
-has-mask (o ∷ os) (suc k) =
-    let b = bit-low o in
-    let e : (cond (isSome o) 1 0 + 2 * maskOf os) / 2 ≡ maskOf os = omega arith in
-    ap (λ (z : ℕ). eqb ((cond (isSome o) 1 0 + 2 * maskOf os) / z % 2) 1) (pow-succ' 2 k)
-    ∙ ap (λ (z : ℕ). eqb (z % 2) 1) (sym (div-div-eq-div-mul (cond (isSome o) 1 0 + 2 * maskOf os) 2 (2 ^ k)))
-    ∙ ap (λ (z : ℕ). eqb (z / 2 ^ k % 2) 1) e
-    ∙ has-mask os k
-
 -- ---- the cells of a row that was read, column by column
-cell-of : (cs : List (List ℕ)) (i : ℕ) → i < 11 → getD (cellsIn cs) (codeAt i) none ≡ given (getD cs i [])
-unfolding cellsIn cellIn upto
-cell-of cs zero h = refl
-cell-of cs (suc zero) h = refl
-cell-of cs (suc (suc zero)) h = refl
-cell-of cs (suc (suc (suc zero))) h = refl
-cell-of cs (suc (suc (suc (suc zero)))) h = refl
-cell-of cs (suc (suc (suc (suc (suc zero))))) h = refl
-cell-of cs (suc (suc (suc (suc (suc (suc zero)))))) h = refl
-cell-of cs (suc (suc (suc (suc (suc (suc (suc zero))))))) h = refl
-cell-of cs (suc (suc (suc (suc (suc (suc (suc (suc zero)))))))) h = refl
-cell-of cs (suc (suc (suc (suc (suc (suc (suc (suc (suc zero))))))))) h = refl
-cell-of cs (suc (suc (suc (suc (suc (suc (suc (suc (suc (suc zero)))))))))) h = refl
-cell-of cs (suc (suc (suc (suc (suc (suc (suc (suc (suc (suc (suc k))))))))))) h = absurd (omega arith)
+in-column : (cs : List (List ℕ)) (i : ℕ) → i < columnCount → cellIn (codeAt i) 0 columns cs ≡ given (getD cs i [])
+unfolding cellIn
+in-column cs zero h = refl
+in-column cs (suc zero) h = refl
+in-column cs (suc (suc zero)) h = refl
+in-column cs (suc (suc (suc zero))) h = refl
+in-column cs (suc (suc (suc (suc zero)))) h = refl
+in-column cs (suc (suc (suc (suc (suc zero))))) h = refl
+in-column cs (suc (suc (suc (suc (suc (suc zero)))))) h = refl
+in-column cs (suc (suc (suc (suc (suc (suc (suc zero))))))) h = refl
+in-column cs (suc (suc (suc (suc (suc (suc (suc (suc zero)))))))) h = refl
+in-column cs (suc (suc (suc (suc (suc (suc (suc (suc (suc zero))))))))) h = refl
+in-column cs (suc (suc (suc (suc (suc (suc (suc (suc (suc (suc zero)))))))))) h = refl
+in-column cs (suc (suc (suc (suc (suc (suc (suc (suc (suc (suc (suc k))))))))))) h = absurd (omega arith)
 
-word-of : (l m p : ℕ) (cs : List (List ℕ)) (i : ℕ) → i < 11 → getD (rowOf l m p 0 0 (cellsIn cs)) (rCells + codeAt i) 0 ≡ Option·getD (given (getD cs i [])) 0
-unfolding rowOf cellsIn cellIn upto
-word-of l m p cs zero h = refl
-word-of l m p cs (suc zero) h = refl
-word-of l m p cs (suc (suc zero)) h = refl
-word-of l m p cs (suc (suc (suc zero))) h = refl
-word-of l m p cs (suc (suc (suc (suc zero)))) h = refl
-word-of l m p cs (suc (suc (suc (suc (suc zero))))) h = refl
-word-of l m p cs (suc (suc (suc (suc (suc (suc zero)))))) h = refl
-word-of l m p cs (suc (suc (suc (suc (suc (suc (suc zero))))))) h = refl
-word-of l m p cs (suc (suc (suc (suc (suc (suc (suc (suc zero)))))))) h = refl
-word-of l m p cs (suc (suc (suc (suc (suc (suc (suc (suc (suc zero))))))))) h = refl
-word-of l m p cs (suc (suc (suc (suc (suc (suc (suc (suc (suc (suc zero)))))))))) h = refl
-word-of l m p cs (suc (suc (suc (suc (suc (suc (suc (suc (suc (suc (suc k))))))))))) h = absurd (omega arith)
-
-text-at : (g : ℕ → List ℕ) (i : ℕ) → i < 11 → getD (upto g 11) i [] ≡ g i
-unfolding upto
-text-at g zero h = refl
-text-at g (suc zero) h = refl
-text-at g (suc (suc zero)) h = refl
-text-at g (suc (suc (suc zero))) h = refl
-text-at g (suc (suc (suc (suc zero)))) h = refl
-text-at g (suc (suc (suc (suc (suc zero))))) h = refl
-text-at g (suc (suc (suc (suc (suc (suc zero)))))) h = refl
-text-at g (suc (suc (suc (suc (suc (suc (suc zero))))))) h = refl
-text-at g (suc (suc (suc (suc (suc (suc (suc (suc zero)))))))) h = refl
-text-at g (suc (suc (suc (suc (suc (suc (suc (suc (suc zero))))))))) h = refl
-text-at g (suc (suc (suc (suc (suc (suc (suc (suc (suc (suc zero)))))))))) h = refl
-text-at g (suc (suc (suc (suc (suc (suc (suc (suc (suc (suc (suc k))))))))))) h = absurd (omega arith)
-
-cells-same : (cs ds : List (List ℕ)) → ((i : ℕ) → i < 11 → given (getD cs i []) ≡ given (getD ds i [])) → cellsIn cs ≡ cellsIn ds
+cells-same : (cs ds : List (List ℕ)) → ((i : ℕ) → i < columnCount → given (getD cs i []) ≡ given (getD ds i [])) → cellsIn cs ≡ cellsIn ds
 unfolding cellsIn cellIn upto
 cells-same cs ds h =
     rw (
@@ -146,45 +94,58 @@ record Again (r : List ℕ) (i : ℕ) (o : Option ℕ) : Type 0 where
   same : given (cellText r i) ≡ o
 
 module _ (r : List ℕ) (i : ℕ) where
-  cell-absent : has (presentOf r) (codeAt i) ≡ false → Again r i none
-  unfolding cellShown cellText cellOk given
-  cell-absent h = record { may = rw h; good = rw h; same = rw h }
+  there : (o : Option ℕ) → cell r (codeAt i) ≡ o → has (presentOf r) (codeAt i) ≡ isSome o
+  there o e = sym (cell-there r (codeAt i)) ∙ ap isSome e
 
-  cell-present : (x : Float) → has (presentOf r) (codeAt i) ≡ true → num (getD r (rCells + codeAt i) 0) ≡ x
+  word-is : (w : ℕ) → cell r (codeAt i) ≡ some w → getD r (rCells + codeAt i) 0 ≡ w
+  unfolding cell
+  word-is w e =
+      inner (getD r (rCells + codeAt i) 0) w
+      (sym (ap (λ (b : Bool). cond b (some (getD r (rCells + codeAt i) 0)) none) (there (some w) e)) ∙ e)
+    where
+      inner : (a b : ℕ) → _≡_ {A = Option ℕ} (some a) (some b) → a ≡ b
+      inner a b e = cc
+
+  cell-absent : cell r (codeAt i) ≡ none → Again r i none
+  unfolding cellShown cellText cellOk given
+  cell-absent e = let h = there none e in record { may = rw h; good = rw h; same = rw h }
+
+  cell-present : (x : Float) → cell r (codeAt i) ≡ some (bits x) → num (bits x) ≡ x
       → (shown x ≡ true) × (number (numberText x) ≡ Number.Value x) → Again r i (some (bits x))
   unfolding cellShown cellText cellOk given
-  cell-present x h e a =
+  cell-present x c v a =
       let t = numberText x in
+      let h : has (presentOf r) (codeAt i) ≡ true = there (some (bits x)) c in
+      let e : num (getD r (rCells + codeAt i) 0) ≡ x = ap num (word-is (bits x) c) ∙ v in
       let z : eqb (length t) 0 ≡ false = ne-eqb (length t) 0 (λ (q : length t ≡ 0). empty t x q (a .1)) in
       record { may = rw (h, e) (a .0); good = rw (h, e, z, a .1); same = rw (h, e, z, a .1) }
     where
       empty : (t : List ℕ) (x : Float) → length t ≡ 0 → number t ≡ Number.Value x → ⊥
-      empty t x q v = let w : Number.Bad ≡ Number.Value x = nothing t q ∙ v in let z : _≡_ {A = ℕ} 0 1 = cc in omega arith
+      empty t x q v = no-value x (nothing t q ∙ v)
 
 module _ (n a b : ℕ) (cs : List (List ℕ)) where
-  present-is : (i : ℕ) → i < 11 → has (presentOf (rowOf n a b 0 0 (cellsIn cs))) (codeAt i) ≡ isSome (given (getD cs i []))
-  unfolding rowOf
-  present-is i h = has-mask (cellsIn cs) (codeAt i) ∙ ap isSome (cell-of cs i h)
+  cell-is : (i : ℕ) → i < columnCount → cell (rowOf n a b 0 0 (cellsIn cs)) (codeAt i) ≡ given (getD cs i [])
+  unfolding cellsIn
+  cell-is i h =
+      row-cell n a b 0 0 (λ (k : ℕ). cellIn k 0 columns cs) cells (codeAt i) (omega (arith, code-below i h)) ∙ in-column cs i h
 
-  again : (i : ℕ) → i < 11 → CellForm (getD cs i []) (given (getD cs i [])) → Again (rowOf n a b 0 0 (cellsIn cs)) i (given (getD cs i []))
-  again i h c = go (getD cs i []) (given (getD cs i [])) c (present-is i h) (word-of n a b cs i h)
+  again : (i : ℕ) → i < columnCount → CellForm (getD cs i []) (given (getD cs i [])) → Again (rowOf n a b 0 0 (cellsIn cs)) i (given (getD cs i []))
+  again i h c = go (getD cs i []) (given (getD cs i [])) c (cell-is i h)
     where
-      go : (f : List ℕ) (o : Option ℕ) → CellForm f o → has (presentOf (rowOf n a b 0 0 (cellsIn cs))) (codeAt i) ≡ isSome o
-          → getD (rowOf n a b 0 0 (cellsIn cs)) (rCells + codeAt i) 0 ≡ Option·getD o 0
-          → Again (rowOf n a b 0 0 (cellsIn cs)) i o
-      go f o absent p w = cell-absent (rowOf n a b 0 0 (cellsIn cs)) i p
-      go f o (present {t = t} {s = s} {n = m} {k = k} v) p w =
-          cell-present (rowOf n a b 0 0 (cellsIn cs)) i (quotient s m k) p (ap num w ∙ bits-again s m k) (read-again t (quotient s m k) (form-read t s m k v))
+      go : (f : List ℕ) (o : Option ℕ) → CellForm f o → cell (rowOf n a b 0 0 (cellsIn cs)) (codeAt i) ≡ o → Again (rowOf n a b 0 0 (cellsIn cs)) i o
+      go f o absent e = cell-absent (rowOf n a b 0 0 (cellsIn cs)) i e
+      go f o (present {t = t} {s = s} {n = m} {k = k} v) e =
+          cell-present (rowOf n a b 0 0 (cellsIn cs)) i (quotient s m k) e (bits-again s m k) (read-again t (quotient s m k) (form-read t s m k v))
 
-  pub written-again : n < lineNumbers → a < 16 → planeOk b ≡ true → ((i : ℕ) → i < 11 → CellForm (getD cs i []) (given (getD cs i [])))
+  pub written-again : n < lineNumbers → a < 16 → planeOk b ≡ true → ((i : ℕ) → i < columnCount → CellForm (getD cs i []) (given (getD cs i [])))
       → (writable (rowOf n a b 0 0 (cellsIn cs)) ≡ true) × FieldsForm (rowFields (rowOf n a b 0 0 (cellsIn cs))) (rowOf n a b 0 0 (cellsIn cs))
   unfolding writable headOk rowOf rowFields cellTexts
   written-again l m p c =
       let r = rowOf n a b 0 0 (cellsIn cs) in
-      let ds = upto (cellText r) 11 in
-      let k : (i : ℕ) → i < 11 → Again r i (given (getD cs i [])) = λ (i : ℕ) (h : i < 11). again i h (c i h) in
-      let t : (i : ℕ) → i < 11 → getD ds i [] ≡ cellText r i = text-at (cellText r) in (
-        both _ _ (both _ _ (lt-ltb n lineNumbers l) (both _ _ (lt-ltb a 16 m) p)) (all-of 11 (cellShown r) (λ (i : ℕ) (h : i < 11). k i h .may)),
+      let ds = upto (cellText r) columnCount in
+      let k : (i : ℕ) → i < columnCount → Again r i (given (getD cs i [])) = λ (i : ℕ) (h : i < columnCount). again i h (c i h) in
+      let t : (i : ℕ) → i < columnCount → getD ds i [] ≡ cellText r i = λ (i : ℕ) (h : i < columnCount). at-upto (cellText r) columnCount i [] h in (
+        both (both (lt-ltb n lineNumbers l) (both (lt-ltb a 16 m) p)) (all-intro columnCount (cellShown r) (λ (i : ℕ) (h : i < columnCount). k i h .may)),
         record {
           lineField = wholeText n;
           motionField = wordAt a;
@@ -194,12 +155,12 @@ module _ (n a b : ℕ) (cs : List (List ℕ)) where
           motion = a;
           plane = b;
           parts = refl;
-          count = length-upto (cellText r) 11;
+          count = length-upto (cellText r) columnCount;
           line-is = line-read-form (wholeText n) n (line-again n l);
           motion-is = (refl, m);
           plane-is = (refl, p);
-          cells-are = λ (i : ℕ) (h : i < 11). cell-form (getD ds i []) (ap cellOk (t i h) ∙ k i h .good);
-          row-is = ap (rowOf n a b 0 0) (cells-same cs ds (λ (i : ℕ) (h : i < 11). sym (ap given (t i h) ∙ k i h .same)));
+          cells-are = λ (i : ℕ) (h : i < columnCount). cell-form (getD ds i []) (ap cellOk (t i h) ∙ k i h .good);
+          row-is = ap (rowOf n a b 0 0) (cells-same cs ds (λ (i : ℕ) (h : i < columnCount). sym (ap given (t i h) ∙ k i h .same)));
         },
       )
 
@@ -220,13 +181,10 @@ row-line r =
     ∙ ap (λ (l : List ℕ). joined (headFields r ++ cellTexts r columnCount) ++ (comma ∷ l)) (append-nil (markText r)))
 
 -- ---- what is written has no quote, no comma, CR or LF in a field, and as many fields as the header
-figure-digit : (v k : ℕ) → T (isDigit (48 + v / 10 ^ k % 10))
-figure-digit v k = let h = mod-lt (v / 10 ^ k) (lit< {m = 0} {n = 10} tt) in subst T (sym (digit-in (48 + v / 10 ^ k % 10) (omega arith) (omega arith))) tt
-
 figures-digits : (k v : ℕ) → T (allDigits (figures k v))
 unfolding figures
 figures-digits zero v = tt
-figures-digits (suc k) v = and-i (isDigit (48 + v / 10 ^ k % 10)) (allDigits (figures k v)) (figure-digit v k) (figures-digits k v)
+figures-digits (suc k) v = and-i (isDigit (48 + v / 10 ^ k % 10)) (allDigits (figures k v)) (subst T (sym (figure-in v k)) tt) (figures-digits k v)
 
 number-clean : (x : Float) → T (clean (numberText x))
 unfolding numberText millionthsText
@@ -260,18 +218,13 @@ mark-clean r = go (eqb (markOf r) 0)
     go true = tt
     go false = tt
 
-pub record CleanLine (r : List ℕ) : Type 0 where
-  pub no-quote-comma-cr-lf : T (cleanAll (outFields r))
-  pub fields : parted (joined (outFields r)) ≡ outFields r
-  pub as-headed : length (outFields r) ≡ length (parted headerOut)
-
 pub written-is-clean : (r : List ℕ) → writable r ≡ true → CleanLine r
 unfolding writable headOk outFields rowFields cellTexts parted
 written-is-clean r e =
-    let h = both-left (headOk r) (all columnCount (cellShown r)) e in
-    let k = both-right (ltb (lineOf r) lineNumbers) (ltb (motionOf r) 16 && planeOk (planeOf r)) h in
-    let m = ltb-true (motionOf r) 16 (both-left (ltb (motionOf r) 16) (planeOk (planeOf r)) k) in
-    let p = plane-low (planeOf r) (both-right (ltb (motionOf r) 16) (planeOk (planeOf r)) k) in
+    let h = and-left (headOk r) (all columnCount (cellShown r)) e in
+    let k = and-right (ltb (lineOf r) lineNumbers) (ltb (motionOf r) 16 && planeOk (planeOf r)) h in
+    let m = ltb-true (motionOf r) 16 (and-left (ltb (motionOf r) 16) (planeOk (planeOf r)) k) in
+    let p = plane-low (planeOf r) (and-right (ltb (motionOf r) 16) (planeOk (planeOf r)) k) in
     let l : T (clean (wholeText (lineOf r))) = digits-clean (wholeText (lineOf r)) (figures-digits (width (lineOf r)) (lineOf r)) in
     let w : T (clean (wordAt (motionOf r))) = word-clean (motionOf r) (omega arith) in
     let v : T (clean (planeText (planeOf r))) = word-clean (planeOf r - 1) (omega arith) in
@@ -287,5 +240,5 @@ written-is-clean r e =
       as-headed = fifteen (cellText r) (markText r);
     }
   where
-    fifteen : (g : ℕ → List ℕ) (m : List ℕ) → suc (suc (suc (length (upto g 11 ++ (m ∷ []))))) ≡ 15
-    fifteen g m = omega (arith, length-append (upto g 11) (m ∷ []), length-upto g 11)
+    fifteen : (g : ℕ → List ℕ) (m : List ℕ) → suc (suc (suc (length (upto g columnCount ++ (m ∷ []))))) ≡ 15
+    fifteen g m = omega (arith, length-append (upto g columnCount) (m ∷ []), length-upto g columnCount)

@@ -1,4 +1,4 @@
--- The rows of the layout by their form, and that the reader accepts those lines and no others. Assumes nothing.
+-- LAWS. The reader accepts the lines that have the form of a row, and no others. Assumes nothing.
 use Prim.Native.Nat.{ℕ, suc, _-_, _<_}
 use mathlib.Core.Path.{_≡_, refl, sym, ap, _∙_, subst}
 use mathlib.Core.Bool.{Bool, true, false, cond, false≢true}
@@ -13,6 +13,7 @@ use borrow.Author.Tests.{eq-eqb, ne-eqb, eqb-true}
 use Rattle.floats.specs.Numbers.{bits}
 use Rattle.row_cells.specs.Codes.{planeOk}
 use Rattle.floats.specs.Lists.{all}
+use Rattle.floats.specs.Truth.{and-left, and-right, and-i as both, all-at, all-intro}
 use Rattle.row_cells.specs.Row.{rowOf}
 use Rattle.csv_decimal.specs.Decimal.{quotient}
 use Rattle.csv_fields.specs.declared.Number.{Number}
@@ -20,50 +21,22 @@ use Rattle.csv_fields.specs.declared.Number.the-variants as Number
 use Rattle.csv_fields.specs.declared.Line.{Line}
 use Rattle.csv_fields.specs.declared.Line.the-variants as Line
 use Rattle.csv_fields.specs.Read.{number, lineNumber}
-use Rattle.csv_fields.specs.Grammar.{Unsigned, plain, point, Written, bare, minus, Numbered}
-use Rattle.csv_fields.specs.Forms.{form-read, read-form, line-form-read, line-read-form}
+use Rattle.csv_numbers.specs.Grammar.{Unsigned, plain, point, bare, minus, Numbered}
+use Rattle.csv_numbers.specs.Forms.{no-value, form-read, read-form, line-form-read, line-read-form}
 use Rattle.csv_fields.specs.Readers.{nothing}
 use Rattle.csv_words.specs.declared.Found.{Found}
 use Rattle.csv_words.specs.declared.Found.the-variants as Found
 use Rattle.csv_words.specs.Words.{wordAt, planeText, motionOf, planeOf}
 use Rattle.csv_words.specs.Codes.{motion-again, motion-only, plane-again, plane-only}
 use Rattle.csv_line.specs.LineText.{columnCount, parted, joined}
-use Rattle.csv_line.specs.All.{all-at, all-of, both, both-left, both-right}
-use Rattle.csv_line.specs.Planes.{plane-low}
-use Rattle.csv_forms.specs.Clean.{clean, cleanAll, clean-append, digits-clean, word-clean, parted-joined, joined-parted}
-use Rattle.csv_read.specs.Reader.{wordIn, given, isNumber, cellOk, cellsOk, cellsIn, fromCells, coded, numbered, fromPlane, fromMotion, fromLine, readRow}
-
--- "empty is absent", or a number's text
-pub data CellForm : List ℕ → Option ℕ → Type 0 where
-  absent : CellForm [] none
-  present : {t : List ℕ} {s : Bool} {n k : ℕ} → Written t s n k → CellForm t (some (bits (quotient s n k)))
-
--- 7.4: fs are the fields of a line, and row is their row
-pub record FieldsForm (fs : List (List ℕ)) (row : List ℕ) : Type 0 where
-  pub lineField : List ℕ
-  pub motionField : List ℕ
-  pub planeField : List ℕ
-  pub cellFields : List (List ℕ)
-  pub line : ℕ
-  pub motion : ℕ
-  pub plane : ℕ
-  pub parts : fs ≡ lineField ∷ motionField ∷ planeField ∷ cellFields
-  pub count : length cellFields ≡ columnCount
-  pub line-is : Numbered lineField line
-  pub motion-is : (wordAt motion ≡ motionField) × (motion < 16)
-  pub plane-is : (planeText plane ≡ planeField) × (planeOk plane ≡ true)
-  pub cells-are : (i : ℕ) → i < columnCount → CellForm (getD cellFields i []) (given (getD cellFields i []))
-  pub row-is : row ≡ rowOf line motion plane 0 0 (cellsIn cellFields)
-
-pub record RowForm (t row : List ℕ) : Type 0 where
-  pub fields : List (List ℕ)
-  pub text : t ≡ joined fields
-  pub form : FieldsForm fields row
+use Rattle.csv_line.specs.CodeLaws.{plane-low}
+use Rattle.csv_forms.specs.Clean.{clean, cleanAll}
+use Rattle.csv_forms.specs.CleanLaws.{clean-append, digits-clean, word-clean, parted-joined, joined-parted}
+use Rattle.csv_forms.specs.Forms.{CellForm, absent, present, FieldsForm, RowForm}
+use Rattle.csv_cells.specs.Cells.{wordIn, given, isNumber, cellOk, cellsOk}
+use Rattle.csv_read.specs.Reader.{cellsIn, fromCells, coded, numbered, fromPlane, fromMotion, fromLine, readRow}
 
 -- ---- a cell
-no-number : (x : Float) → Number.Bad ≡ Number.Value x → ⊥
-no-number x e = let z : _≡_ {A = ℕ} 0 1 = cc in omega arith
-
 pub cell-form : (f : List ℕ) → cellOk f ≡ true → CellForm f (given f)
 unfolding cellOk given
 cell-form [] e = absent
@@ -77,7 +50,7 @@ cell-form (c ∷ f) e =
     go Number.Bad h k = absurd (false≢true k)
 
 full : (f : List ℕ) (x : Float) → number f ≡ Number.Value x → length f ≡ 0 → ⊥
-full f x e z = no-number x (nothing f z ∙ e)
+full f x e z = no-value x (nothing f z ∙ e)
 
 pub form-cell : (f : List ℕ) (o : Option ℕ) → CellForm f o → (cellOk f ≡ true) × (given f ≡ o)
 unfolding cellOk given
@@ -124,7 +97,7 @@ of-cells l m p n a b cs row x y z e = go (cellsOk cs) refl e
     go : (t : Bool) → cellsOk cs ≡ t → cond t (some (rowOf n a b 0 0 (cellsIn cs))) none ≡ some row → FieldsForm (l ∷ m ∷ p ∷ cs) row
     go false h e = absurd (no-row row e)
     go true h e =
-        let c = both-right (eqb (length cs) columnCount) (all columnCount (λ (i : ℕ). cellOk (getD cs i []))) h in
+        let c = and-right (eqb (length cs) columnCount) (all columnCount (λ (i : ℕ). cellOk (getD cs i []))) h in
         record {
           lineField = l;
           motionField = m;
@@ -134,11 +107,11 @@ of-cells l m p n a b cs row x y z e = go (cellsOk cs) refl e
           motion = a;
           plane = b;
           parts = refl;
-          count = eqb-true (length cs) columnCount (both-left (eqb (length cs) columnCount) (all columnCount (λ (i : ℕ). cellOk (getD cs i []))) h);
+          count = eqb-true (length cs) columnCount (and-left (eqb (length cs) columnCount) (all columnCount (λ (i : ℕ). cellOk (getD cs i []))) h);
           line-is = x;
           motion-is = y;
           plane-is = z;
-          cells-are = λ (i : ℕ) (k : i < columnCount). cell-form (getD cs i []) (all-at columnCount (λ (i : ℕ). cellOk (getD cs i [])) c i k);
+          cells-are = λ (i : ℕ) (k : i < columnCount). cell-form (getD cs i []) (all-at columnCount (λ (i : ℕ). cellOk (getD cs i [])) i c k);
           row-is = same-row (rowOf n a b 0 0 (cellsIn cs)) row e;
         }
 
@@ -182,8 +155,8 @@ unfolding fromCells cellsOk
 fields-read fs row f =
     let cs = f .cellFields in
     let ok : cellsOk cs ≡ true =
-    both (eqb (length cs) columnCount) _ (eq-eqb (length cs) columnCount (f .count))
-    (all-of columnCount (λ (i : ℕ). cellOk (getD cs i []))
+    both (eq-eqb (length cs) columnCount (f .count))
+    (all-intro columnCount (λ (i : ℕ). cellOk (getD cs i []))
     (λ (i : ℕ) (k : i < columnCount). form-cell (getD cs i []) (given (getD cs i [])) (f .cells-are i k) .0)) in
     ap fromLine (f .parts)
     ∙ ap (λ (x : Line). numbered x (λ (n : ℕ). fromMotion n (f .motionField ∷ f .planeField ∷ cs))) (line-form-read (f .lineField) (f .line) (f .line-is))

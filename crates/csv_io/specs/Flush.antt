@@ -16,7 +16,7 @@ outRoom = 2 * callRoom
 abbrev pub errRoom : ℕ
 errRoom = 4096
 
--- as many bytes went to each descriptor as were lent for it, and no writing is the end
+-- as many bytes count as handed over as were lent for each descriptor (where a write failed, fewer may have gone), and no writing is the end
 pub record HandedOver (n m : ℕ) (r : Sent) : Type 0 where
   pub rows : r .rows ≡ n
   pub notices : r .notices ≡ m

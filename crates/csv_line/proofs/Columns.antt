@@ -5,10 +5,10 @@ use mathlib.Core.Bool.{true}
 use native.Mathlib.Omega.{arith}
 use lib.Dec.{eqb}
 use borrow.Author.Tests.{eqb-true}
-use Rattle.layout.specs.Layout.{cOffset}
+use Rattle.layout.specs.Layout.{axisCodes, cOffset}
 use Rattle.floats.specs.Lists.{all}
-use Rattle.csv_line.specs.LineText.{codeAt}
-use Rattle.csv_line.specs.All.{all-at}
+use Rattle.floats.specs.Truth.{all-at}
+use Rattle.csv_line.specs.LineText.{columnCount, codeAt}
 
 first-codes : all 3 (λ (k : ℕ). eqb k (codeAt k)) ≡ true
 unfolding all
@@ -19,7 +19,7 @@ unfolding all
 middle-codes = refl
 
 pub code-low : (i : ℕ) → i < 3 → i ≡ codeAt i
-code-low i h = eqb-true i (codeAt i) (all-at 3 (λ (k : ℕ). eqb k (codeAt k)) first-codes i h)
+code-low i h = eqb-true i (codeAt i) (all-at 3 (λ (k : ℕ). eqb k (codeAt k)) i first-codes h)
 
 pub code-mid : (i : ℕ) → 3 ≤ i → i < 10 → i + (cOffset - 3) ≡ codeAt i
 code-mid i l h = go (i - 3) (back i l) (omega arith)
@@ -30,7 +30,7 @@ code-mid i l h = go (i - 3) (back i l) (omega arith)
     go : (k : ℕ) → k + 3 ≡ i → k < 7 → i + (cOffset - 3) ≡ codeAt i
     go k e h =
         subst (λ (j : ℕ). j + (cOffset - 3) ≡ codeAt j) e
-        (eqb-true (k + 3 + (cOffset - 3)) (codeAt (k + 3)) (all-at 7 (λ (k : ℕ). eqb (k + 3 + (cOffset - 3)) (codeAt (k + 3))) middle-codes k h))
+        (eqb-true (k + 3 + (cOffset - 3)) (codeAt (k + 3)) (all-at 7 (λ (k : ℕ). eqb (k + 3 + (cOffset - 3)) (codeAt (k + 3))) k middle-codes h))
 
-pub code-last : (i : ℕ) → 10 ≤ i → i < 11 → 11 ≡ codeAt i
-code-last i l h = let e : 10 ≡ i = omega arith in subst (λ (j : ℕ). 11 ≡ codeAt j) e refl
+pub code-last : (i : ℕ) → 10 ≤ i → i < columnCount → axisCodes + 1 ≡ codeAt i
+code-last i l h = let e : 10 ≡ i = omega arith in subst (λ (j : ℕ). axisCodes + 1 ≡ codeAt j) e refl

@@ -9,9 +9,11 @@ use lib.Dec.{eqb}
 use lib.ListN.{length, take, drop, getD, set, length-set}
 use lib.Seq.{sets, take-suc, take-length, drop-cons, drop-length, length-take-le}
 use borrow.Author.Tests.{lt-ltb, le-ltb, eq-eqb, ne-eqb}
-use Rattle.csv_fields.specs.Out.{Wrote, sets-append, wrote-then}
-use Rattle.csv_fields.specs.Write.{wholeText}
-use Rattle.csv_fields.specs.Writers.{whole-length, width-ten}
+use Rattle.csv_figures.specs.Out.{Wrote}
+use Rattle.csv_figures.specs.OutLaws.{sets-append, wrote-then}
+use Rattle.csv_figures.specs.Write.{wholeText}
+use Rattle.csv_decimal.specs.Widths.{width-ten}
+use Rattle.csv_figures.specs.Writers.{whole-length}
 use Rattle.csv_words.specs.Text.{bytes}
 use Rattle.csv_words.specs.Words.{same}
 use Rattle.csv_line.specs.declared.End.{End}
@@ -123,4 +125,4 @@ module _ {o o₁ o₂ o₃ : List ℕ} {n a b c : ℕ} (line number : ℕ) (u : 
   refused y z = wrote-then u (wrote-then (wrote-then v w) (wrote-then y z))
 
 pub whole-short : {o o′ : List ℕ} {n r : ℕ} (v : ℕ) → Wrote o n (wholeText v) o′ r → (r ≤ n + 10) × (length o′ ≡ length o)
-whole-short {o} {o′} {n} {r} v w = (omega (arith, w .next, whole-length v, width-ten v), Rattle.csv_fields.specs.Out.wrote-length w)
+whole-short {o} {o′} {n} {r} v w = (omega (arith, w .next, whole-length v, width-ten v), Rattle.csv_figures.specs.OutLaws.wrote-length w)

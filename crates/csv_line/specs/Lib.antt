@@ -1,4 +1,3 @@
 pub mod LineText
-pub mod All
 pub mod Notice
-pub mod Planes
+pub mod CodeLaws

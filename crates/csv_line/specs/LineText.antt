@@ -1,5 +1,5 @@
--- DEFINITIONS. Lines, fields and headers: rules 7.2 to 7.4, and RFC 4180, section 2. Assumes nothing.
-use Prim.Native.Nat.{ℕ, suc, _+_, _-_}
+-- DEFINITIONS. Lines, fields and headers: rules 7.2 to 7.4. Assumes nothing.
+use Prim.Native.Nat.{ℕ, _+_, _-_}
 use mathlib.Core.Bool.{cond}
 use mathlib.Core.List.{List, [], _∷_, _++_}
 use lib.Dec.{eqb, ltb}
@@ -39,7 +39,7 @@ columnCount = 11
 abbrev pub codeAt : ℕ → ℕ
 codeAt i = getD columns i 0
 
--- RFC 4180, 2.4: "fields, separated by commas"; `tailed` puts one before each
+-- 7.3: fields with commas between them; `tailed` puts one before each
 unfoldable pub tailed : List (List ℕ) → List ℕ
 tailed [] = []
 tailed (f ∷ fs) = comma ∷ (f ++ tailed fs)
@@ -57,8 +57,3 @@ onFirst c (f ∷ fs) = (c ∷ f) ∷ fs
 unfoldable pub parted : List ℕ → List (List ℕ)
 parted [] = [] ∷ []
 parted (c ∷ t) = cond (eqb c comma) ([] ∷ parted t) (onFirst c (parted t))
-
--- how many bytes stand before the first comma, or before the end
-unfoldable pub reach : List ℕ → ℕ
-reach [] = 0
-reach (c ∷ t) = cond (eqb c comma) 0 (suc (reach t))

@@ -2,7 +2,7 @@
 use Prim.Native.Nat.{ℕ}
 use mathlib.Core.Bool.{Bool, cond}
 use mathlib.Core.List.{List, [], _∷_, _++_}
-use Rattle.csv_fields.specs.Write.{wholeText}
+use Rattle.csv_figures.specs.Write.{wholeText}
 use Rattle.csv_words.specs.Text.{bytes}
 use Rattle.csv_line.specs.LineText.{crlf}
 

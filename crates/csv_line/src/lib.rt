@@ -7,10 +7,10 @@ ghost use Prim.Native.Nat.{_+_, _≤_, _<_};
 ghost use lib.ListN.{length};
 ghost use Rattle.layout.specs.Layout.{cells};
 ghost use Rattle.csv_words.specs.Words.{same};
-ghost use Rattle.csv_fields.specs.Out.{Wrote};
-ghost use Rattle.csv_line.specs.LineText.{crlf, header, headerOut, endOf, codeAt};
+ghost use Rattle.csv_figures.specs.Out.{Wrote};
+ghost use Rattle.csv_line.specs.LineText.{crlf, header, headerOut, endOf, columnCount, codeAt};
 ghost use Rattle.csv_line.specs.Notice.{noticeText};
-use csv_fields::put_byte;
+use csv_figures::put_byte;
 
 // The word of a row that says which of its cells are present.
 // The columns of cells, behind the line number and the two words.
@@ -108,7 +108,7 @@ const CODE_OF_F: usize = AXIS_CODES + 1;
 
 // The code of the cell in column i: X Y Z, I J K CR TURN PW SD, F.
 pub fn code_at(i: usize) -> usize
-    requires { ⌜ i < 11 ⌝ }
+    requires { ⌜ i < columnCount ⌝ }
     ensures { λ r. ⌜ (r ≡ codeAt i) × (r < cells) ⌝ }
 {
     if i < AXIS_COLUMNS {
@@ -125,9 +125,9 @@ pub fn put_notice(out: &mut [u8], n: usize, line: u64, number: u64, refused: boo
     requires { ⌜ n + 32 ≤ length (now out) ⌝ }
     ensures { λ r. ⌜ Wrote (now (out .entry)) n (noticeText line number refused) (now (out .exit)) r ⌝ }
 {
-    let a = csv_fields::put_whole(out, n, line);
+    let a = csv_figures::put_whole(out, n, line);
     let b = put_byte(out, a, b',');
-    let c = csv_fields::put_whole(out, b, number);
+    let c = csv_figures::put_whole(out, b, number);
     if refused {
         let d = put_bytes(out, c, b",refused");
         return put_crlf(out, d);

@@ -6,7 +6,8 @@ use mathlib.Core.List.{List, _++_}
 use lib.ListN.{length, take}
 use Rattle.layout.specs.Layout.{rowWords}
 use Rattle.csv_out.specs.declared.Run.{Run}
-use Rattle.csv_out.specs.Say.{Say, noticeRoom, rowRoom, nextLine}
+use Rattle.csv_write.specs.Writer.{rowRoom}
+use Rattle.csv_out.specs.Say.{Say, noticeRoom, nextLine}
 
 -- n bytes waited in o, and then r in o′: those n, and behind them t
 pub record Adds (t o : List ℕ) (n : ℕ) (o′ : List ℕ) (r : ℕ) : Type 0 where

@@ -6,7 +6,7 @@ use lib.Dec.{ltb, eqb}
 use Rattle.csv_words.specs.Words.{same}
 use Rattle.csv_line.specs.LineText.{crlf, header, headerOut}
 use Rattle.csv_line.specs.Notice.{noticeText}
-use Rattle.csv_write.specs.Writer.{rowsText, rowsWritable}
+use Rattle.csv_write.specs.Writer.{rowRoom, rowsText, rowsWritable}
 
 -- how many bytes the lines are never longer than: one of standard error, the header, a row
 abbrev pub noticeRoom : ℕ
@@ -14,9 +14,6 @@ noticeRoom = 32
 
 abbrev pub headerRoom : ℕ
 headerRoom = 80
-
-abbrev pub rowRoom : ℕ
-rowRoom = 256
 
 -- how many rows a call is lent room for, and how many bytes they are never more than
 abbrev pub lentRows : ℕ

@@ -4,25 +4,26 @@ use mathlib.Core.Path.{_≡_, refl, sym, ap, _∙_, subst}
 use mathlib.Core.Bool.{Bool, true, false, cond}
 use mathlib.Core.List.{List, [], _∷_, _++_, append-nil}
 use native.Mathlib.Omega.{arith}
-use native.Mathlib.Nat.{mul-suc, add-zero}
+use native.Mathlib.Nat.{add-zero}
 use lib.ListN.{length, take, drop, length-append}
 use lib.Seq.{sets, sets-eq, length-sets, take-at, length-take-le}
 use borrow.Author.Tests.{eq-eqb, ne-eqb}
-use Rattle.floats.specs.Lists.{upto, flatten}
-use Rattle.csv_fields.specs.declared.Placed.{Placed}
-use Rattle.csv_fields.specs.declared.Placed.the-variants as Placed
-use Rattle.csv_fields.specs.Out.{Wrote}
-use Rattle.csv_fields.specs.Write.{wholeText}
-use Rattle.csv_fields.specs.Writers.{whole-length, width-ten}
+use Rattle.floats.specs.Truth.{all-at}
+use Rattle.csv_figures.specs.declared.Placed.{Placed}
+use Rattle.csv_figures.specs.declared.Placed.the-variants as Placed
+use Rattle.csv_figures.specs.Out.{Wrote}
+use Rattle.csv_figures.specs.Write.{wholeText}
+use Rattle.csv_decimal.specs.Widths.{width-ten}
+use Rattle.csv_figures.specs.Writers.{whole-length}
 use Rattle.csv_words.specs.Text.{bytes}
 use Rattle.csv_words.specs.Words.{same}
 use Rattle.csv_line.specs.LineText.{crlf, header, headerOut}
-use Rattle.csv_line.specs.All.{all-at}
-use Rattle.csv_write.specs.Texts.{flatten-more, row-length}
+use Rattle.csv_write.specs.Texts.{several-length, row-length}
+use Rattle.csv_write.specs.Trying.{tried-good}
 use Rattle.csv_line.specs.Notice.{noticeText}
-use Rattle.csv_write.specs.Writer.{rowText, rowAt, rowsText, writable, rowsWritable, Tried}
+use Rattle.csv_write.specs.Writer.{rowRoom, rowText, rowAt, rowsText, writable, rowsWritable, Tried}
 use Rattle.csv_out.specs.declared.Run.{Run}
-use Rattle.csv_out.specs.Say.{Say, noticeRoom, headerRoom, rowRoom, badText, refusal, heading, warningText, answer}
+use Rattle.csv_out.specs.Say.{Say, noticeRoom, headerRoom, badText, refusal, heading, warningText, answer}
 use Rattle.csv_out.specs.Said.{Adds, Noted, Said}
 
 -- ---- how long the lines are
@@ -43,19 +44,11 @@ notice-short line number refused = go (cond refused (bytes ",refused") []) (shor
 pub header-short : length (headerOut ++ crlf) ≤ headerRoom
 header-short = lib.Dec.lit≤ tt
 
-several : (f : ℕ → List ℕ) (n : ℕ) → ((i : ℕ) → i < n → length (f i) ≤ rowRoom) → length (flatten (upto f n)) ≤ rowRoom * n
-unfolding upto flatten
-several f zero h = zero-le
-several f (suc n) h =
-    let r = several f n (λ (i : ℕ) (l : i < n). h i (omega arith)) in
-    let e = ap length (flatten-more f n) ∙ length-append (flatten (upto f n)) (f n) in
-    omega (arith, e, h n (omega arith), mul-suc rowRoom n)
-
 pub rows-short : (rows : List ℕ) (k : ℕ) → rowsWritable rows k ≡ true → length (rowsText rows k) ≤ rowRoom * k
 unfolding rowsWritable rowsText
 rows-short rows k e =
-    let shown = all-at k (λ (i : ℕ). writable (rowAt rows i)) e in
-    several (λ (i : ℕ). rowText (rowAt rows i)) k (λ (i : ℕ) (l : i < k). row-length (rowAt rows i) (shown i l))
+    several-length (λ (i : ℕ). rowText (rowAt rows i)) rowRoom k
+    (λ (i : ℕ) (l : i < k). row-length (rowAt rows i) (all-at k (λ (i : ℕ). writable (rowAt rows i)) i e l))
 
 -- ---- bytes that are added
 pub adds-none : (o : List ℕ) (n : ℕ) → Adds [] o n o n
@@ -121,27 +114,6 @@ module _ (source code count warning : ℕ) (rows : List ℕ) where
       → answer source code count warning rows ≡ says false (rowsText rows count) (warningText source warning)
   unfolding answer
   answer-done e f = rw (eq-eqb code 0 e, f)
-
--- ---- rows that were tried
-same-place : (a b : ℕ) → Placed.Upto a ≡ Placed.Upto b → a ≡ b
-same-place a b e = cc
-
-no-place : (a : ℕ) → Placed.Upto a ≡ Placed.Refused → ⊥
-no-place a e = let z : _≡_ {A = ℕ} 0 1 = cc in omega arith
-
-pub tried-bad : {ok : Bool} {t o o′ : List ℕ} {n : ℕ} {r : Placed} → Tried ok t o n o′ r → r ≡ Placed.Refused → ok ≡ false
-tried-bad {ok} {t} {o} {o′} {n} {r} w e = go ok (sym (w .answer) ∙ e)
-  where
-    go : (b : Bool) → cond b (Placed.Upto (n + length t)) Placed.Refused ≡ Placed.Refused → b ≡ false
-    go true q = absurd (no-place (n + length t) q)
-    go false q = refl
-
-pub tried-good : {ok : Bool} {t o o′ : List ℕ} {n m : ℕ} {r : Placed} → Tried ok t o n o′ r → r ≡ Placed.Upto m → (ok ≡ true) × (m ≡ n + length t)
-tried-good {ok} {t} {o} {o′} {n} {m} {r} w e = go ok (sym e ∙ w .answer)
-  where
-    go : (b : Bool) → Placed.Upto m ≡ cond b (Placed.Upto (n + length t)) Placed.Refused → (b ≡ true) × (m ≡ n + length t)
-    go true q = (refl, same-place m (n + length t) q)
-    go false q = absurd (no-place m q)
 
 -- ---- the answers of the proofs, in one step each
 -- the lines of a run stay, and so does what waits for standard error

@@ -1,6 +1,6 @@
 // What the row text program says to a line: bytes that are added to what waits for standard output, and bytes that are
 // added to what waits for standard error. Nothing is written to a descriptor here.
-use csv_fields::Placed;
+use csv_figures::Placed;
 ghost use mathlib.Core.Bool.{true, false};
 ghost use Prim.Native.Nat.{_+_, _*_, _≤_};
 ghost use lib.ListN.{length};

@@ -6,10 +6,10 @@ use mathlib.Core.List.{List, [], _∷_, map}
 use mathlib.Core.Option.{Option, none, Option·getD}
 use native.Mathlib.Omega.{arith}
 use native.Mathlib.Numerals.{add-one}
-use native.Mathlib.Nat.{zero-add, le-of-eq}
-use lib.ListN.{length, take, drop, set, length-drop}
-use lib.Seq.{take-all}
+use native.Mathlib.Nat.{zero-add}
+use lib.ListN.{length, take, drop, set}
 use Rattle.floats.specs.Lists.{upto, isSome}
+use Rattle.layout.specs.Layout.{rPresent}
 use Rattle.row_cells.specs.Row.{rowOf, maskOf}
 use Rattle.csv_words.specs.declared.Found.{Found}
 use Rattle.csv_words.specs.declared.Found.the-variants as Found
@@ -17,10 +17,12 @@ use Rattle.csv_words.specs.Words.{motionOf, planeOf}
 use Rattle.csv_fields.specs.declared.Line.{Line}
 use Rattle.csv_fields.specs.declared.Line.the-variants as Line
 use Rattle.csv_fields.specs.Read.{lineNumber}
-use Rattle.csv_line.specs.LineText.{parted, reach}
-use Rattle.csv_read.specs.Parts.{reach-length, part-more, part-last}
-use Rattle.csv_read.specs.Reader.{cellsOk, cellIn, cellsIn, fromCells, coded, numbered, fromPlane, fromMotion, fromLine, readRow}
-use Rattle.csv_read.specs.Cells.{wordOf, placed, masked, CellsRead}
+use Rattle.csv_fields.specs.Readers.{tail-is}
+use Rattle.csv_line.specs.LineText.{parted}
+use Rattle.csv_cells.specs.Parts.{reach-length, part-more, part-last}
+use Rattle.csv_cells.specs.Cells.{cellsOk}
+use Rattle.csv_read.specs.Reader.{cellIn, cellsIn, fromCells, coded, numbered, fromPlane, fromMotion, fromLine, readRow}
+use Rattle.csv_cells.specs.Taking.{reach, wordOf, placed, masked, CellsRead}
 
 -- ---- what a reader answers, and what it leaves in the row
 abbrev pub Answer : Option (List ℕ) → List ℕ → List ℕ → Bool → Type 0
@@ -40,16 +42,13 @@ module _ (t : List ℕ) (end : ℕ) (e : end ≡ 0 + reach (drop 0 t)) where
   only : end ≡ length t → parted t ≡ take end t ∷ []
   only l = part-last t (sym at-reach ∙ l) ∙ ap (λ (k : ℕ). take k t ∷ []) (sym at-reach)
 
-  tail-is : (a : ℕ) → take (length t - a) (drop a t) ≡ drop a t
-  tail-is a = take-all (length t - a) (drop a t) (le-of-eq (length-drop a t))
-
   more : (end ≡ length t → ⊥) → parted t ≡ take end t ∷ parted (take (length t - (end + 1)) (drop (end + 1) t))
   more n =
       let h : end < length t = within end (length t) inside n in
       part-more t (subst (λ (k : ℕ). k < length t) at-reach h)
       ∙ ap (λ (k : ℕ). take k t ∷ parted (drop (suc k) t)) (sym at-reach)
       ∙ ap (λ (k : ℕ). take end t ∷ parted (drop k t)) (sym (add-one end))
-      ∙ ap (λ (u : List ℕ). take end t ∷ parted u) (sym (tail-is (end + 1)))
+      ∙ ap (λ (u : List ℕ). take end t ∷ parted u) (sym (tail-is t (end + 1)))
     where
       within : (a b : ℕ) → a ≤ b → (a ≡ b → ⊥) → a < b
       within a b h n = omega arith
@@ -79,13 +78,13 @@ mask-is : (fs : List (List ℕ)) → masked fs 11 ≡ maskOf (cellsIn fs)
 unfolding masked maskOf cellsIn cellIn upto
 mask-is fs = omega arith
 
-words-are : (l m p : ℕ) (fs : List (List ℕ)) (k : ℕ) → set (placed fs (blank l m p) 11) 5 k ≡ l ∷ m ∷ p ∷ 0 ∷ 0 ∷ k ∷ map wordOf (cellsIn fs)
+words-are : (l m p : ℕ) (fs : List (List ℕ)) (k : ℕ) → set (placed fs (blank l m p) 11) rPresent k ≡ l ∷ m ∷ p ∷ 0 ∷ 0 ∷ k ∷ map wordOf (cellsIn fs)
 unfolding placed cellsIn cellIn upto
 words-are l m p fs k = refl
 
-row-is : (l m p : ℕ) (fs : List (List ℕ)) → set (placed fs (blank l m p) 11) 5 (masked fs 11) ≡ rowOf l m p 0 0 (cellsIn fs)
+row-is : (l m p : ℕ) (fs : List (List ℕ)) → set (placed fs (blank l m p) 11) rPresent (masked fs 11) ≡ rowOf l m p 0 0 (cellsIn fs)
 unfolding rowOf
-row-is l m p fs = ap (set (placed fs (blank l m p) 11) 5) (mask-is fs) ∙ words-are l m p fs (maskOf (cellsIn fs))
+row-is l m p fs = ap (set (placed fs (blank l m p) 11) rPresent) (mask-is fs) ∙ words-are l m p fs (maskOf (cellsIn fs))
 
 module _ (l m p : ℕ) (fs : List (List ℕ)) (row words : List ℕ) where
   pub cells-read : (r : Bool) → r ≡ true → CellsRead fs (blank l m p) words r → (row′ : List ℕ) → row′ ≡ words → Answer (fromCells l m p fs) row row′ true

@@ -1,42 +1,21 @@
 -- DEFINITIONS. The row that a line of the input is: rules 7.4, 7.5. Assumes nothing.
 use Prim.Native.Nat.{ℕ, suc}
-use mathlib.Core.Bool.{Bool, true, false, cond, _&&_}
+use mathlib.Core.Bool.{cond}
 use mathlib.Core.List.{List, [], _∷_}
 use mathlib.Core.Option.{Option, none, some}
 use lib.Dec.{eqb}
-use lib.ListN.{length, getD}
-use Rattle.floats.specs.Numbers.{bits}
-use Rattle.floats.specs.Lists.{upto, all}
+use lib.ListN.{getD}
+use Rattle.floats.specs.Lists.{upto}
 use Rattle.layout.specs.Layout.{cells}
 use Rattle.row_cells.specs.Row.{rowOf}
-use Rattle.csv_fields.specs.declared.Number.{Number}
-use Rattle.csv_fields.specs.declared.Number.the-variants as Number
 use Rattle.csv_fields.specs.declared.Line.{Line}
 use Rattle.csv_fields.specs.declared.Line.the-variants as Line
-use Rattle.csv_fields.specs.Read.{number, lineNumber}
+use Rattle.csv_fields.specs.Read.{lineNumber}
 use Rattle.csv_words.specs.declared.Found.{Found}
 use Rattle.csv_words.specs.declared.Found.the-variants as Found
 use Rattle.csv_words.specs.Words.{motionOf, planeOf}
-use Rattle.csv_line.specs.LineText.{columns, columnCount, parted}
-
--- 7.5: an empty field is an absent cell; the bits of a cell's number
-abbrev pub wordIn : Number → Option ℕ
-wordIn (Number.Value x) = some (bits x)
-wordIn Number.Bad = none
-
-unfoldable pub given : List ℕ → Option ℕ
-given f = cond (eqb (length f) 0) none (wordIn (number f))
-
-abbrev pub isNumber : Number → Bool
-isNumber (Number.Value x) = true
-isNumber Number.Bad = false
-
-unfoldable pub cellOk : List ℕ → Bool
-cellOk f = cond (eqb (length f) 0) true (isNumber (number f))
-
--- 7.4: the cells, in the order of the header
-unfoldable pub cellsOk : List (List ℕ) → Bool
-cellsOk fs = eqb (length fs) columnCount && all columnCount (λ (i : ℕ). cellOk (getD fs i []))
+use Rattle.csv_line.specs.LineText.{columns, parted}
+use Rattle.csv_cells.specs.Cells.{given, cellsOk}
 
 -- the cell of code k: what its column holds, and none where no column has the code
 unfoldable pub cellIn : ℕ → ℕ → List ℕ → List (List ℕ) → Option ℕ

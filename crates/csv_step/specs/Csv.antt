@@ -1,5 +1,6 @@
 -- DEFINITIONS. The whole row text program, from the bytes of its input to the bytes of its outputs. Assumes nothing.
 use Prim.Native.Nat.{ℕ, _*_}
+use mathlib.Core.Path.{_≡_}
 use mathlib.Core.Bool.{Bool, false, cond}
 use mathlib.Core.List.{List, [], _∷_, _++_}
 use lib.ListN.{length, replicate}
@@ -58,3 +59,8 @@ pub record Whole : Type 0 where
 
 unfoldable pub csvSpec : List ℕ → Whole
 csvSpec input = let d = csvRest begun input in record { out = d .out; err = d .err; refused = d .stand .refused }
+
+-- `all` begins with `some`
+pub record Begins (some all : List ℕ) : Type 0 where
+  pub more : List ℕ
+  pub is : all ≡ some ++ more

@@ -23,7 +23,7 @@ pub then-still : (d : Step) → andThen d (still (d .stand)) ≡ d
 then-still d =
     ap (λ (l : List ℕ). put (d .stand) l (d .err ++ [])) (append-nil (d .out)) ∙ ap (λ (l : List ℕ). put (d .stand) (d .out) l) (append-nil (d .err))
 
-finish-then : (d e : Step) (n : ℕ) → csvFinish (andThen d e) n ≡ andThen d (csvFinish e n)
+pub finish-then : (d e : Step) (n : ℕ) → csvFinish (andThen d e) n ≡ andThen d (csvFinish e n)
 unfolding csvFinish
 finish-then d e n = go (e .stand .refused)
   where
@@ -82,7 +82,7 @@ rest-end s u e h =
     ∙ ap (λ (b : Bool). cond b (still s) (andThen (still s) (csvEnd s (length u)))) e
 
 -- behind a refusal nothing is done and nothing is said
-refused-lines : (s : Stand) (ls : List (List ℕ)) → s .refused ≡ true → csvLines s ls ≡ still s
+pub refused-lines : (s : Stand) (ls : List (List ℕ)) → s .refused ≡ true → csvLines s ls ≡ still s
 unfolding csvLines
 refused-lines s [] e = refl
 refused-lines s (l ∷ ls) e = ap (λ (b : Bool). cond b (still s) (andThen (csvLine s l) (csvLines (csvLine s l .stand) ls))) e

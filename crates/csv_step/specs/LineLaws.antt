@@ -197,10 +197,10 @@ answer-room {run} {read} {reply} {p} {rows} {rows′} {out} {err} room e f l i j
         let k : reply .count ≡ p .count = ap (λ (x : Reply). x .count) e in
         omega arith
 
--- the text of a line lies in it
-pub end-in : (s : List ℕ) {n : ℕ} → endOf s ≡ End.Upto n → n ≤ length s
+-- the text of a line is all but its last two bytes, and so lies in it
+pub end-at : (s : List ℕ) {n : ℕ} → endOf s ≡ End.Upto n → n ≡ length s - 2
 unfolding endOf
-end-in s {n} e = go (ltb (length s) 2) (eqb (getD s (length s - 2) 0) 13) (eqb (getD s (length s - 2 + 1) 0) 10) e
+end-at s {n} e = go (ltb (length s) 2) (eqb (getD s (length s - 2) 0) 13) (eqb (getD s (length s - 2 + 1) 0) 10) e
   where
     same : (a b : ℕ) → End.Upto a ≡ End.Upto b → a ≡ b
     same a b e = cc
@@ -208,8 +208,11 @@ end-in s {n} e = go (ltb (length s) 2) (eqb (getD s (length s - 2) 0) 13) (eqb (
     none-there : (a : ℕ) → End.Bad ≡ End.Upto a → ⊥
     none-there a e = let z : _≡_ {A = ℕ} 0 1 = cc in omega arith
 
-    go : (a b c : Bool) → cond a End.Bad (cond b (cond c (End.Upto (length s - 2)) End.Bad) End.Bad) ≡ End.Upto n → n ≤ length s
+    go : (a b c : Bool) → cond a End.Bad (cond b (cond c (End.Upto (length s - 2)) End.Bad) End.Bad) ≡ End.Upto n → n ≡ length s - 2
     go true b c q = absurd (none-there n q)
-    go false true true q = omega (arith, same (length s - 2) n q)
+    go false true true q = sym (same (length s - 2) n q)
     go false true false q = absurd (none-there n q)
     go false false c q = absurd (none-there n q)
+
+pub end-in : (s : List ℕ) {n : ℕ} → endOf s ≡ End.Upto n → n ≤ length s
+end-in s e = omega (arith, end-at s e)

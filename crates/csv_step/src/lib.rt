@@ -1,5 +1,7 @@
 // One line of the row text program, and the end of its input, over slices: what is said waits behind what waits already,
 // and nothing is read or written.
+use call_close::close;
+use call_push::push;
 use csv_line::End;
 use csv_out::BAD_TEXT;
 use csv_out::Run;
@@ -7,8 +9,6 @@ use csv_out::answered;
 use csv_out::headed;
 use csv_out::next_line;
 use csv_out::refuse;
-use flattener::call::flat_close;
-use flattener::call::flat_push;
 use layout::R_LINE;
 use layout::ROW_WORDS;
 ghost use mathlib.Core.Path.{_≡_};
@@ -34,7 +34,7 @@ fn push_row(
         let is = slices (now (state .exit)) (now (store .exit)) (now (rows .exit)) (now (out .exit)) (now (err .exit)) in
         ⌜ Stepped (onRow (standing run was) (now (row .entry))) run was r is ⌝ }
 {
-    let reply = flat_push(state, store, rows, row);
+    let reply = push(state, store, rows, row);
     let read = Run {
         out: run.out,
         err: run.err,
@@ -127,7 +127,7 @@ fn close_run(
         let is = slices (now (state .exit)) (now (store .entry)) (now (rows .exit)) (now (out .exit)) (now (err .exit)) in
         ⌜ Stepped (csvClose (standing run was)) run was r is ⌝ }
 {
-    let reply = flat_close(state, store, rows);
+    let reply = close(state, store, rows);
     answered(run, reply.code, reply.count, reply.warning, rows, out, err)
 }
 

@@ -1,4 +1,4 @@
--- A text as one number, and back. Assumes nothing.
+-- LAWS. A text as one number, and back. Assumes nothing.
 use mathlib.Core.Path.{_≡_, refl, sym, ap, _∙_, subst}
 use Prim.Native.Nat.{ℕ, zero, suc, _+_, _-_, _*_, _/_, _%_, _^_, _≤_, _<_}
 use native.Mathlib.Nat.{mul-assoc, mul-comm, mul-suc, add-mul, zero-add, add-zero, add-assoc, mul-one, lt-of-lt-of-le, mod-eq-of-lt, mul-add-div-right}
@@ -10,8 +10,8 @@ use lib.Arith.{digits-div, digits-mod, digits-lt}
 use lib.Pow.{pow-add, pow-pos}
 use lib.ListN.{length, take, getD, set, length-set}
 use lib.Seq.{sets, take-suc, take-length}
-use Rattle.csv_fields.specs.Out.{Wrote}
-use Rattle.csv_words.specs.Words.{pack, chars, wordNumber}
+use Rattle.csv_figures.specs.Out.{Wrote}
+use Rattle.csv_words.specs.Packed.{pack, chars, wordNumber}
 
 abbrev pub Bytes : List ℕ → Type 0
 Bytes t = (k : ℕ) → getD t k 0 < 256

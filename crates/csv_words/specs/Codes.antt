@@ -1,36 +1,26 @@
--- Each code's word is read as that code, and a word that is read is the code's. Assumes nothing.
+-- LAWS. Each code's word is read as that code, and a word that is read is the code's. Assumes nothing.
 use mathlib.Core.Path.{_≡_, refl, sym, ap, _∙_, subst}
 use Prim.Native.Nat.{ℕ, zero, suc, _+_, _-_, _≤_, _<_}
 use native.Mathlib.Omega.{arith}
-use native.Mathlib.Decide.{ℕ-discrete}
 use mathlib.Core.Bool.{Bool, true, false, cond, _&&_, _||_}
 use mathlib.Core.List.{List, [], _∷_}
-use lib.Dec.{T, eqb, eqb→eq, ltb, leb}
+use lib.Dec.{T, eqb, ltb, leb}
 use lib.ListN.{length}
-use lib.Ieee.Fits.{and-l, and-r}
 use borrow.Author.Tests.{ltb-true, leb-true, le-leb, eqb-true, ne-eqb}
+use Rattle.floats.specs.Lists.{all}
+use Rattle.floats.specs.Truth.{all-at}
 use Rattle.csv_words.specs.declared.Found.{Found}
 use Rattle.csv_words.specs.declared.Found.the-variants as Found
 use Rattle.csv_words.specs.Words.{wordAt, planeText, same, seek, motionOf, planeOf}
 use Rattle.csv_words.specs.Table.{same-is}
 use Rattle.csv_words.specs.Seeks.{motion-at}
 
--- a test of each number below n
-abbrev each : (ℕ → Bool) → ℕ → Bool
-each f zero = true
-each f (suc n) = f n && each f n
-
-each-at : (f : ℕ → Bool) (n : ℕ) → T (each f n) → (k : ℕ) → k < n → T (f k)
-each-at f zero t k h = absurd (omega arith)
-each-at f (suc n) t k h = go (ℕ-discrete k n) (each-at f n (and-r (f n) (each f n) t) k)
-  where
-    go : Dec (k ≡ n) → (k < n → T (f k)) → T (f k)
-    go (yes e) r = subst (λ (z : ℕ). T (f z)) (sym e) (and-l (f n) (each f n) t)
-    go (no e) r = r (omega arith)
+own-places : all 16 (λ (k : ℕ). eqb (seek 0 16 (wordAt k)) k) ≡ true
+unfolding all seek
+own-places = refl
 
 own-place : (c : ℕ) → c < 16 → seek 0 16 (wordAt c) ≡ c
-unfolding seek
-own-place c h = eqb→eq (seek 0 16 (wordAt c)) c (each-at (λ (k : ℕ). eqb (seek 0 16 (wordAt k)) k) 16 tt c h)
+own-place c h = eqb-true (seek 0 16 (wordAt c)) c (all-at 16 (λ (k : ℕ). eqb (seek 0 16 (wordAt k)) k) c own-places h)
 
 pub motion-again : (c : ℕ) → c < 16 → motionOf (wordAt c) ≡ Found.Code c
 motion-again c h = sym (motion-at (wordAt c) c (sym (own-place c h)) h)

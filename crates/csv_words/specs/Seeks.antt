@@ -1,4 +1,4 @@
--- The search for a word among the table's numbers. Assumes nothing.
+-- LAWS. The search for a word among the table's numbers. Assumes nothing.
 use mathlib.Core.Path.{_≡_, refl, sym, ap, _∙_, subst}
 use Prim.Native.Nat.{ℕ, zero, suc, _+_, _-_, _*_, _/_, _%_, _≤_, _<_}
 use native.Mathlib.Omega.{arith}
@@ -9,10 +9,11 @@ use lib.Dec.{T}
 use lib.ListN.{length}
 use lib.Ieee.Bits.{is-true}
 use borrow.Author.Tests.{lt-ltb, le-ltb, eq-eqb, ne-eqb}
-use Rattle.csv_fields.specs.Out.{Wrote}
+use Rattle.csv_figures.specs.Out.{Wrote}
 use Rattle.csv_words.specs.declared.Found.{Found}
 use Rattle.csv_words.specs.declared.Found.the-variants as Found
-use Rattle.csv_words.specs.Words.{wordAt, same, seek, motionOf, planeOf, pack, wordNumber, chars}
+use Rattle.csv_words.specs.Words.{wordAt, same, seek, motionOf, planeOf}
+use Rattle.csv_words.specs.Packed.{pack, wordNumber, chars}
 use Rattle.csv_words.specs.Chars.{Bytes, by-number}
 use Rattle.csv_words.specs.Table.{short, same-is, same-self, back-at}
 

@@ -1,13 +1,16 @@
--- The table of numbers has the words, each in its place. Assumes nothing.
-use mathlib.Core.Path.{_≡_, refl, ap, _∙_}
-use Prim.Native.Nat.{ℕ, zero, suc, _-_, _/_, _%_, _≤_, _<_}
-use native.Mathlib.Nat.{le-of-suc-le-suc, not-suc-le-zero}
-use mathlib.Core.Bool.{Bool, true, _&&_}
+-- LAWS. The table of numbers has the words, each in its place. Assumes nothing.
+use mathlib.Core.Path.{_≡_, refl, sym, ap, _∙_, subst}
+use Prim.Native.Nat.{ℕ, _/_, _%_, _≤_, _<_}
+use mathlib.Core.Bool.{true}
 use mathlib.Core.List.{List, [], _∷_}
-use lib.Dec.{T, eqb, leb, leb→le, eqb→eq, eqb-refl}
+use lib.Dec.{T, eqb, leb, eqb→eq, eqb-refl}
 use lib.ListN.{length, getD, List·getD-map}
 use lib.Ieee.Fits.{and-l, and-r}
-use Rattle.csv_words.specs.Words.{words, wordAt, same, pack, wordNumber, chars}
+use borrow.Author.Tests.{leb-true}
+use Rattle.floats.specs.Lists.{all}
+use Rattle.floats.specs.Truth.{all-at}
+use Rattle.csv_words.specs.Words.{words, wordAt, same}
+use Rattle.csv_words.specs.Packed.{pack, wordNumber, chars}
 
 abbrev pub numbers : List ℕ
 numbers =
@@ -18,18 +21,12 @@ pub entry-is : (i : ℕ) → getD numbers i 0 ≡ wordNumber (wordAt i)
 unfolding wordNumber pack
 entry-is i = List·getD-map wordNumber words i []
 
--- ---- a test of each word
-abbrev all : (List ℕ → Bool) → List (List ℕ) → Bool
-all f [] = true
-all f (w ∷ ws) = f w && all f ws
-
-all-at : (f : List ℕ → Bool) (ws : List (List ℕ)) → T (all f ws) → (k : ℕ) → k < length ws → T (f (getD ws k []))
-all-at f [] t k h = absurd (not-suc-le-zero h)
-all-at f (w ∷ ws) t zero h = and-l (f w) (all f ws) t
-all-at f (w ∷ ws) t (suc k) h = all-at f ws (and-r (f w) (all f ws) t) k (le-of-suc-le-suc h)
+all-short : all 19 (λ (k : ℕ). leb (length (wordAt k)) 7) ≡ true
+unfolding all
+all-short = refl
 
 pub short : (i : ℕ) → i < 19 → length (wordAt i) ≤ 7
-short i h = leb→le (length (wordAt i)) 7 (all-at (λ (w : List ℕ). leb (length w) 7) words tt i h)
+short i h = leb-true (length (wordAt i)) 7 (all-at 19 (λ (k : ℕ). leb (length (wordAt k)) 7) i all-short h)
 
 -- ---- `same`
 pub same-is : (s t : List ℕ) → T (same s t) → s ≡ t
@@ -44,8 +41,11 @@ same-self [] = tt
 same-self (a ∷ s) = lib.Ieee.Fits.and-i (eqb a a) (same s s) (eqb-refl a) (same-self s)
 
 -- the table's numbers give the words back
+all-back : all 19 (λ (k : ℕ). same (chars (wordNumber (wordAt k) % 8) (wordNumber (wordAt k) / 8)) (wordAt k)) ≡ true
+unfolding all chars wordNumber pack
+all-back = refl
+
 pub back-at : (i : ℕ) → i < 19 → chars (wordNumber (wordAt i) % 8) (wordNumber (wordAt i) / 8) ≡ wordAt i
-unfolding chars wordNumber pack
 back-at i h =
     same-is (chars (wordNumber (wordAt i) % 8) (wordNumber (wordAt i) / 8)) (wordAt i)
-    (all-at (λ (w : List ℕ). same (chars (wordNumber w % 8) (wordNumber w / 8)) w) words tt i h)
+    (subst T (sym (all-at 19 (λ (k : ℕ). same (chars (wordNumber (wordAt k) % 8) (wordNumber (wordAt k) / 8)) (wordAt k)) i all-back h)) tt)

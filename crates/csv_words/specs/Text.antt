@@ -1,4 +1,4 @@
--- A text as the list of its bytes, for texts of ASCII. Definitions only.
+-- DEFINITIONS. A text as the list of its bytes, for texts of ASCII. Definitions only.
 use Prim.Native.Nat.{ℕ}
 use Prim.Native.Char.{code}
 use Prim.Native.String.{String, [] as ε, _∷_ as _then_}

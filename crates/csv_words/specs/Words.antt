@@ -1,8 +1,8 @@
 -- DEFINITIONS. The motion words, whose places are their codes, and then the plane words: rules 1.9, 7.6. The spare codes 16 to 31 have
 -- none. Definitions only.
-use Prim.Native.Nat.{ℕ, zero, suc, _+_, _-_, _*_, _/_, _%_, _^_}
+use Prim.Native.Nat.{ℕ, zero, suc, _+_, _-_}
 use mathlib.Core.Bool.{Bool, true, false, cond, _&&_}
-use mathlib.Core.List.{List, [], _∷_}
+use mathlib.Core.List.{List, [], _∷_, map}
 use lib.Dec.{eqb, ltb}
 use lib.ListN.{length, getD}
 use Rattle.csv_words.specs.Text.{bytes}
@@ -13,26 +13,9 @@ use Rattle.csv_words.specs.declared.Found.the-variants as Found
 -- an empty field is the word of no motion and of no plane
 abbrev pub words : List (List ℕ)
 words =
-    [] ∷
-    bytes "G0" ∷
-    bytes "G1" ∷
-    bytes "G2" ∷
-    bytes "G3" ∷
-    bytes "ASPLINE" ∷
-    bytes "BSPLINE" ∷
-    bytes "CSPLINE" ∷
-    bytes "CIP" ∷
-    bytes "CT" ∷
-    bytes "POLY" ∷
-    bytes "G33" ∷
-    bytes "G34" ∷
-    bytes "G35" ∷
-    bytes "INVCW" ∷
-    bytes "INVCCW" ∷
-    bytes "G17" ∷
-    bytes "G18" ∷
-    bytes "G19" ∷
-    []
+    map bytes
+    ("" ∷ "G0" ∷ "G1" ∷ "G2" ∷ "G3" ∷ "ASPLINE" ∷ "BSPLINE" ∷ "CSPLINE" ∷ "CIP" ∷ "CT" ∷ "POLY" ∷ "G33" ∷ "G34" ∷ "G35" ∷ "INVCW" ∷ "INVCCW"
+    ∷ "G17" ∷ "G18" ∷ "G19" ∷ [])
 
 abbrev pub wordAt : ℕ → List ℕ
 wordAt i = getD words i []
@@ -61,17 +44,3 @@ motionOf t = cond (ltb (seek 0 16 t) 16) (Found.Code (seek 0 16 t)) Found.Nowher
 unfoldable pub planeOf : List ℕ → Found
 unfolding seek
 planeOf t = cond (eqb (length t) 0) (Found.Code 0) (cond (ltb (seek 16 3 t) 19) (Found.Code (seek 16 3 t + 1)) Found.Nowhere)
-
--- ---- a word as a number, for a table of numbers: its bytes, and then how many there are
-unfoldable pub pack : ℕ → List ℕ → ℕ
-pack n [] = n
-pack n (c ∷ t) = pack (n * 256 + c) t
-
-unfoldable pub wordNumber : List ℕ → ℕ
-unfolding pack
-wordNumber t = pack 0 t * 8 + length t
-
--- the k last bytes of v
-unfoldable pub chars : ℕ → ℕ → List ℕ
-chars zero v = []
-chars (suc k) v = (v / 2 ^ (8 * k) % 256) ∷ chars k v

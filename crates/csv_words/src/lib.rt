@@ -3,8 +3,9 @@
 ghost use mathlib.Core.Path.{_≡_};
 ghost use Prim.Native.Nat.{_+_, _-_, _*_, _/_, _%_, _^_, _≤_, _<_};
 ghost use lib.ListN.{length};
-ghost use Rattle.csv_fields.specs.Out.{Wrote};
-ghost use Rattle.csv_words.specs.Words.{wordAt, planeText, seek, motionOf, planeOf, pack, wordNumber, chars};
+ghost use Rattle.csv_figures.specs.Out.{Wrote};
+ghost use Rattle.csv_words.specs.Words.{wordAt, planeText, seek, motionOf, planeOf};
+ghost use Rattle.csv_words.specs.Packed.{pack, wordNumber, chars};
 
 // Each word's bytes and then its length in the three lowest bits: none, the motion words in the order of their
 // codes, and the plane words.
@@ -51,7 +52,7 @@ fn packed(s: &[u8]) -> u64
     let mut n: u64 = 0;
     let mut i = 0;
     while i < s.len() {
-        n = n * 256 + csv_fields::wide(s[i]);
+        n = n * 256 + csv_decimal::wide(s[i]);
         i += 1;
     }
     n

@@ -1,7 +1,7 @@
 -- What the steps of the writer do. Assumes nothing.
 use Prim.Native.Nat.{ℕ, suc, _+_, _-_, _*_, _≤_, _<_}
 use mathlib.Core.Path.{_≡_, refl, sym, ap, _∙_, subst}
-use mathlib.Core.Bool.{Bool, true, false, cond}
+use mathlib.Core.Bool.{Bool, true, false, cond, _&&_, and-false}
 use mathlib.Core.List.{List, [], _∷_, _++_, append-nil}
 use native.Mathlib.Omega.{arith}
 use native.Mathlib.Numerals.{add-one}
@@ -13,22 +13,29 @@ use lib.Ieee.{Float}
 use borrow.Author.Tests.{lt-ltb, le-ltb, eq-eqb, ne-eqb}
 use Rattle.floats.specs.Numbers.{num}
 use Rattle.floats.specs.Lists.{upto, flatten, all}
+use Rattle.floats.specs.Truth.{and-i, and-f, all-fails, all-more}
 use Rattle.layout.specs.Layout.{rCells, lineNumbers, rowWords}
 use Rattle.row_cells.specs.Codes.{planeOk}
 use Rattle.row_cells.specs.Bits.{has}
 use Rattle.row_cells.specs.Row.{lineOf, motionOf, planeOf, markOf, presentOf}
-use Rattle.csv_fields.specs.declared.Placed.{Placed}
-use Rattle.csv_fields.specs.declared.Placed.the-variants as Placed
-use Rattle.csv_fields.specs.Out.{Wrote, wrote-then, wrote-length}
-use Rattle.csv_fields.specs.Write.{wholeText, numberText, shown, placed, stored, Put}
-use Rattle.csv_fields.specs.Writers.{whole-length, width-ten}
+use Rattle.csv_figures.specs.declared.Placed.{Placed}
+use Rattle.csv_figures.specs.declared.Placed.the-variants as Placed
+use Rattle.csv_figures.specs.Out.{Wrote, Put}
+use Rattle.csv_figures.specs.OutLaws.{wrote-then, wrote-length}
+use Rattle.csv_figures.specs.Write.{wholeText, numberText, shown}
+use Rattle.csv_decimal.specs.Widths.{width-ten}
+use Rattle.csv_figures.specs.Writers.{whole-length}
 use Rattle.csv_words.specs.Words.{wordAt, planeText}
 use Rattle.csv_words.specs.Table.{short}
-use Rattle.csv_line.specs.LineText.{comma, crlf, codeAt, tailed, joined}
-use Rattle.csv_line.specs.All.{all-not, all-more, both, not-left, not-right}
-use Rattle.csv_line.specs.Planes.{plane-low}
+use Rattle.csv_line.specs.LineText.{comma, crlf, columnCount, codeAt, tailed, joined}
+use Rattle.csv_line.specs.CodeLaws.{plane-low}
+use Rattle.csv_write.specs.Trying.{tried-good, tried-bad}
 use Rattle.csv_write.specs.Texts.{flatten-more, tailed-upto, row-text, cells-length, head-length}
 use Rattle.csv_write.specs.Writer.{cellText, cellShown, cellTexts, headFields, markText, rowText, headOk, writable, rowAt, Tried}
+
+-- ---- a chain of tests whose later one fails
+not-right : (a : Bool) {b : Bool} → b ≡ false → (a && b) ≡ false
+not-right a p = ap (λ (x : Bool). a && x) p ∙ and-false a
 
 -- ---- what is stored from n on leaves what stands before
 pub sets-kept : (t o : List ℕ) (n m : ℕ) → m ≤ n → take m (sets o n t) ≡ take m o
@@ -47,15 +54,8 @@ not-tried {o} {t} {n} {ok} e =
     record { answer = rw e; text = λ (h : ok ≡ true). absurd (mathlib.Core.Bool.false≢true (sym e ∙ h)); kept = λ m h. refl; same = refl }
 
 -- ---- a cell
-upto-none : (a : ℕ) → Placed.Upto a ≡ Placed.Refused → ⊥
-upto-none a e = let z : _≡_ {A = ℕ} 0 1 = cc in omega arith
-
-upto-same : (a b : ℕ) → Placed.Upto a ≡ Placed.Upto b → a ≡ b
-upto-same a b e = cc
-
 number-tried : {o o₁ o₂ : List ℕ} {n a : ℕ} {r : Placed} (x : Float) → Wrote o n (comma ∷ []) o₁ a → Put x o₁ a o₂ r
     → Tried (shown x) (comma ∷ numberText x) o n o₂ r
-unfolding placed stored
 number-tried {o} {o₁} {o₂} {n} {a} {r} x w p =
     let t = numberText x in
     let e : a + length t ≡ n + suc (length t) = omega (arith, w .next) in
@@ -107,36 +107,27 @@ module _ (ok : ℕ → Bool) (f : ℕ → List ℕ) (w : ℕ) where
   pub puts-more : {o o′ o″ : List ℕ} {n i at a : ℕ} → Putting ok f w o n i o′ at → Tried (ok i) (f i) o′ at o″ (Placed.Upto a)
       → (ok i ≡ true → length (f i) ≤ w) → Putting ok f w o n (i + 1) o″ a
   puts-more {o} {o′} {o″} {n} {i} {at} {a} p t short =
-      let g : ok i ≡ true = passed (ok i) (t .answer) in
-      let e : a ≡ at + length (f i) =
-      upto-same a (at + length (f i)) (t .answer ∙ ap (λ (b : Bool). cond b (Placed.Upto (at + length (f i))) Placed.Refused) g) in
-      let v : Wrote o′ at (f i) o″ a = record { next = e; text = t .text g } in
+      let k = tried-good t refl in
+      let g : ok i ≡ true = k .0 in
+      let v : Wrote o′ at (f i) o″ a = record { next = k .1; text = t .text g } in
       record {
-        good = ap (λ (k : ℕ). all k ok) (add-one i) ∙ all-more i ok (p .good) g;
+        good = all-more i ok (p .good) g;
         wrote = subst (λ (l : List ℕ). Wrote o n l o″ a) (sym (ap (λ (k : ℕ). flatten (upto f k)) (add-one i) ∙ flatten-more f i)) (wrote-then (p .wrote) v);
         room = omega (arith, p .room, short g, mul-suc w i, ap (λ (k : ℕ). w * k) (add-one i));
         ahead = omega (arith, p .ahead);
         same = t .same ∙ p .same;
       }
-    where
-      passed : (b : Bool) → Placed.Upto a ≡ cond b (Placed.Upto (at + length (f i))) Placed.Refused → b ≡ true
-      passed true h = refl
-      passed false h = absurd (upto-none a h)
 
   pub puts-not : {o o′ o″ : List ℕ} {n i at : ℕ} (k : ℕ) → Putting ok f w o n i o′ at → i < k → Tried (ok i) (f i) o′ at o″ Placed.Refused
       → Tried (all k ok) (flatten (upto f k)) o n o″ Placed.Refused
   puts-not {o} {o′} {o″} {n} {i} {at} k p h t =
-      let g : all k ok ≡ false = all-not k ok i h (missed (ok i) (t .answer)) in
+      let g : all k ok ≡ false = all-fails k ok i h (tried-bad t refl) in
       record {
         answer = rw g;
         text = λ (e : all k ok ≡ true). absurd (mathlib.Core.Bool.false≢true (sym g ∙ e));
         kept = λ (m : ℕ) (l : m ≤ n). t .kept m (le-trans l (p .ahead)) ∙ wrote-kept (p .wrote) m l;
         same = t .same ∙ p .same;
       }
-    where
-      missed : (b : Bool) → Placed.Refused ≡ cond b (Placed.Upto (at + length (f i))) Placed.Refused → b ≡ false
-      missed true h = absurd (upto-none (at + length (f i)) (sym h))
-      missed false h = refl
 
   -- the same, for an answer that was matched
   pub puts-on : {o o′ o″ : List ℕ} {n i at : ℕ} {r : Placed} (a : ℕ) → Putting ok f w o n i o′ at → r ≡ Placed.Upto a → Tried (ok i) (f i) o′ at o″ r
@@ -152,10 +143,10 @@ module _ (ok : ℕ → Bool) (f : ℕ → List ℕ) (w : ℕ) where
 
 -- ---- the whole line
 pub cells-tried : {o o′ : List ℕ} {n : ℕ} {r : Placed} (row : List ℕ)
-    → Tried (all 11 (cellShown row)) (flatten (upto (λ (i : ℕ). comma ∷ cellText row i) 11)) o n o′ r
-    → Tried (all 11 (cellShown row)) (tailed (cellTexts row 11)) o n o′ r
+    → Tried (all columnCount (cellShown row)) (flatten (upto (λ (i : ℕ). comma ∷ cellText row i) columnCount)) o n o′ r
+    → Tried (all columnCount (cellShown row)) (tailed (cellTexts row columnCount)) o n o′ r
 unfolding cellTexts
-cells-tried {o} {o′} {n} {r} row t = subst (λ (l : List ℕ). Tried (all 11 (cellShown row)) l o n o′ r) (sym (tailed-upto (cellText row) 11)) t
+cells-tried {o} {o′} {n} {r} row t = subst (λ (l : List ℕ). Tried (all columnCount (cellShown row)) l o n o′ r) (sym (tailed-upto (cellText row) columnCount)) t
 
 pub in-five : {o o₁ o₂ o₃ o₄ o₅ : List ℕ} {n a b c d e : ℕ} (row : List ℕ) → Wrote o n (wholeText (lineOf row)) o₁ a → Wrote o₁ a (comma ∷ []) o₂ b
     → Wrote o₂ b (wordAt (motionOf row)) o₃ c → Wrote o₃ c (comma ∷ []) o₄ d
@@ -209,71 +200,55 @@ marked row e u v w = rw (ne-eqb (markOf row) 0 e) (wrote-then u (wrote-then v w)
 module _ (row o : List ℕ) (n : ℕ) where
   pub line-high : lineNumbers ≤ lineOf row → Tried (writable row) (rowText row) o n o Placed.Refused
   unfolding writable headOk
-  line-high h = not-tried (not-left _ _ (not-left _ _ (le-ltb (lineOf row) lineNumbers h)))
+  line-high h = not-tried (and-f _ (and-f _ (le-ltb (lineOf row) lineNumbers h)))
 
   pub motion-high : 16 ≤ motionOf row → Tried (writable row) (rowText row) o n o Placed.Refused
   unfolding writable headOk
-  motion-high h = not-tried (not-left _ _ (not-right (ltb (lineOf row) lineNumbers) _ (not-left _ _ (le-ltb (motionOf row) 16 h))))
+  motion-high h = not-tried (and-f _ (not-right (ltb (lineOf row) lineNumbers) (and-f _ (le-ltb (motionOf row) 16 h))))
 
   pub no-plane : planeOk (planeOf row) ≡ false → Tried (writable row) (rowText row) o n o Placed.Refused
   unfolding writable headOk
-  no-plane h = not-tried (not-left _ _ (not-right (ltb (lineOf row) lineNumbers) _ (not-right (ltb (motionOf row) 16) (planeOk (planeOf row)) h)))
+  no-plane h = not-tried (and-f _ (not-right (ltb (lineOf row) lineNumbers) (not-right (ltb (motionOf row) 16) h)))
 
   module _ (l : lineOf row < lineNumbers) (m : motionOf row < 16) (p : planeOk (planeOf row) ≡ true) where
     head-fine : headOk row ≡ true
     unfolding headOk
-    head-fine = both _ _ (lt-ltb (lineOf row) lineNumbers l) (both _ _ (lt-ltb (motionOf row) 16 m) p)
+    head-fine = and-i (lt-ltb (lineOf row) lineNumbers l) (and-i (lt-ltb (motionOf row) 16 m) p)
 
     pub behind-head : {o₁ : List ℕ} {a : ℕ} → Wrote o n (joined (headFields row)) o₁ a → a ≤ n + 26
     behind-head w = omega (arith, w .next, head-length row m (plane-low (planeOf row) p))
 
     pub number-refused : {o₁ o₂ : List ℕ} {a : ℕ} {r : Placed} → Wrote o n (joined (headFields row)) o₁ a → r ≡ Placed.Refused
-        → Tried (all 11 (cellShown row)) (tailed (cellTexts row 11)) o₁ a o₂ r
+        → Tried (all columnCount (cellShown row)) (tailed (cellTexts row columnCount)) o₁ a o₂ r
         → Tried (writable row) (rowText row) o n o₂ Placed.Refused
     unfolding writable
     number-refused {o₁} {o₂} {a} {r} w q t =
-        let g : writable row ≡ false = not-right (headOk row) _ (missed (all 11 (cellShown row)) (sym q ∙ t .answer)) in
+        let g : writable row ≡ false = not-right (headOk row) (tried-bad t q) in
         record {
           answer = rw g;
           text = λ (e : writable row ≡ true). absurd (mathlib.Core.Bool.false≢true (sym g ∙ e));
           kept = λ (k : ℕ) (h : k ≤ n). t .kept k (omega (arith, w .next)) ∙ wrote-kept w k h;
           same = t .same ∙ wrote-length w;
         }
-      where
-        missed : (b : Bool) → Placed.Refused ≡ cond b (Placed.Upto (a + length (tailed (cellTexts row 11)))) Placed.Refused → b ≡ false
-        missed true h = absurd (upto-none (a + length (tailed (cellTexts row 11))) (sym h))
-        missed false h = refl
 
-    cells-wrote : {o₁ o₂ : List ℕ} {a b : ℕ} {r : Placed} → r ≡ Placed.Upto b → Tried (all 11 (cellShown row)) (tailed (cellTexts row 11)) o₁ a o₂ r
-        → (all 11 (cellShown row) ≡ true) × Wrote o₁ a (tailed (cellTexts row 11)) o₂ b
-    cells-wrote {o₁} {o₂} {a} {b} {r} q t =
-        let g = passed (all 11 (cellShown row)) (sym q ∙ t .answer) in (
-          g,
-          record {
-            next = upto-same b (a + length (tailed (cellTexts row 11)))
-                (sym q ∙ t .answer ∙ ap (λ (z : Bool). cond z (Placed.Upto (a + length (tailed (cellTexts row 11)))) Placed.Refused) g);
-            text = t .text g;
-          },
-        )
-      where
-        passed : (z : Bool) → Placed.Upto b ≡ cond z (Placed.Upto (a + length (tailed (cellTexts row 11)))) Placed.Refused → z ≡ true
-        passed true h = refl
-        passed false h = absurd (upto-none b h)
+    cells-wrote : {o₁ o₂ : List ℕ} {a b : ℕ} {r : Placed} → r ≡ Placed.Upto b
+        → Tried (all columnCount (cellShown row)) (tailed (cellTexts row columnCount)) o₁ a o₂ r
+        → (all columnCount (cellShown row) ≡ true) × Wrote o₁ a (tailed (cellTexts row columnCount)) o₂ b
+    cells-wrote q t = let g = tried-good t q in (g .0, record { next = g .1; text = t .text (g .0) })
 
     pub behind-cells : {o₁ o₂ : List ℕ} {a b : ℕ} {r : Placed} → Wrote o n (joined (headFields row)) o₁ a → r ≡ Placed.Upto b
-        → Tried (all 11 (cellShown row)) (tailed (cellTexts row 11)) o₁ a o₂ r
+        → Tried (all columnCount (cellShown row)) (tailed (cellTexts row columnCount)) o₁ a o₂ r
         → (b ≤ n + 224) × (length o₂ ≡ length o)
     behind-cells w q t = let c = cells-wrote q t in (omega (arith, c .1 .next, behind-head w, cells-length row (c .0)), t .same ∙ wrote-length w)
 
     pub row-written : {o₁ o₂ o₃ : List ℕ} {a b c : ℕ} {r : Placed} → Wrote o n (joined (headFields row)) o₁ a → r ≡ Placed.Upto b
-        → Tried (all 11 (cellShown row)) (tailed (cellTexts row 11)) o₁ a o₂ r
+        → Tried (all columnCount (cellShown row)) (tailed (cellTexts row columnCount)) o₁ a o₂ r
         → Wrote o₂ b (comma ∷ (markText row ++ crlf)) o₃ c → Tried (writable row) (rowText row) o n o₃ (Placed.Upto c)
     unfolding writable
     row-written {o₁} {o₂} {o₃} {a} {b} {c} {r} w q t z =
         let k = cells-wrote q t in
-        tried (both (headOk row) _ head-fine (k .0)) (subst (λ (x : List ℕ). Wrote o n x o₃ c) (sym (row-text row)) (wrote-then w (wrote-then (k .1) z)))
+        tried (and-i head-fine (k .0)) (subst (λ (x : List ℕ). Wrote o n x o₃ c) (sym (row-text row)) (wrote-then w (wrote-then (k .1) z)))
 
--- ---- `is_plane`
 -- ---- rows one after another
 pub row-part : (rows : List ℕ) (i from to : ℕ) → from ≡ i * rowWords → to ≡ from + rowWords → take (to - from) (drop from rows) ≡ rowAt rows i
 row-part rows i from to e f = let k : to - from ≡ rowWords = omega arith in ap (λ (z : ℕ). take z (drop from rows)) k ∙ ap

@@ -1,4 +1,4 @@
--- Laws of the texts that are written: how they are put together, and how long they are. Assumes nothing.
+-- LAWS. The texts that are written: how they are put together, and how long they are. Assumes nothing.
 use Prim.Native.Nat.{ℕ, zero, suc, _+_, _-_, _*_, _/_, _≤_, _<_, zero-le}
 use mathlib.Core.Path.{_≡_, refl, sym, ap, _∙_, subst}
 use mathlib.Core.Bool.{Bool, true, false, cond, _&&_}
@@ -11,20 +11,21 @@ use lib.Ieee.{Float, binary64, lt, ofBits}
 use borrow.Author.Tests.{ltb-true}
 use Rattle.floats.specs.Numbers.{num}
 use Rattle.floats.specs.Lists.{upto, flatten, all}
+use Rattle.floats.specs.Truth.{and-left, and-right, all-at}
 use Rattle.layout.specs.Layout.{rCells, lineNumbers}
 use Rattle.row_cells.specs.Codes.{planeOk}
 use Rattle.row_cells.specs.Bits.{has}
 use Rattle.row_cells.specs.Row.{lineOf, motionOf, planeOf, markOf, presentOf}
 use Rattle.csv_decimal.specs.Decimal.{millionths}
-use Rattle.csv_fields.specs.Write.{figures, wholeText, millionthsText, numberText, shown}
-use Rattle.csv_fields.specs.Figures.{figures-length}
-use Rattle.csv_fields.specs.Writers.{width-ten, width-nine, whole-length}
+use Rattle.csv_figures.specs.Write.{figures, wholeText, millionthsText, numberText, shown}
+use Rattle.csv_figures.specs.Figures.{figures-length}
+use Rattle.csv_decimal.specs.Widths.{width-ten, width-nine}
+use Rattle.csv_figures.specs.Writers.{whole-length}
 use Rattle.csv_words.specs.Words.{wordAt, planeText}
 use Rattle.csv_words.specs.Table.{short}
 use Rattle.csv_line.specs.LineText.{comma, crlf, columnCount, codeAt, tailed, joined}
-use Rattle.csv_line.specs.All.{all-at, both-left, both-right}
-use Rattle.csv_line.specs.Planes.{plane-low}
-use Rattle.csv_write.specs.Writer.{cellText, cellShown, cellTexts, headFields, rowFields, markText, outFields, rowText, headOk, writable}
+use Rattle.csv_line.specs.CodeLaws.{plane-low}
+use Rattle.csv_write.specs.Writer.{rowRoom, cellText, cellShown, cellTexts, headFields, rowFields, markText, outFields, rowText, headOk, writable}
 
 -- ---- together
 pub flatten-append : (xs ys : List (List ℕ)) → flatten (xs ++ ys) ≡ flatten xs ++ flatten ys
@@ -69,7 +70,7 @@ row-text r =
     ∙ append-assoc (joined (w ∷ h)) (tailed cs) (comma ∷ (m ++ crlf))
 
 -- ---- lengths
-several-length : (f : ℕ → List ℕ) (w n : ℕ) → ((i : ℕ) → i < n → length (f i) ≤ w) → length (flatten (upto f n)) ≤ w * n
+pub several-length : (f : ℕ → List ℕ) (w n : ℕ) → ((i : ℕ) → i < n → length (f i) ≤ w) → length (flatten (upto f n)) ≤ w * n
 unfolding upto flatten
 several-length f w zero h = zero-le
 several-length f w (suc n) h =
@@ -122,7 +123,7 @@ unfolding cellTexts
 cells-length r e =
     subst (λ (l : List ℕ). length l ≤ 198) (sym (tailed-upto (cellText r) columnCount))
     (several-length (λ (i : ℕ). comma ∷ cellText r i) 18 columnCount
-    (λ (i : ℕ) (l : i < columnCount). cell-length r i (all-at columnCount (cellShown r) e i l)))
+    (λ (i : ℕ) (l : i < columnCount). cell-length r i (all-at columnCount (cellShown r) i e l)))
 
 pub head-length : (r : List ℕ) → motionOf r < 16 → planeOf r < 20 → length (joined (headFields r)) ≤ 26
 unfolding joined tailed
@@ -142,20 +143,20 @@ head-length r m p =
       short (planeOf r - 1) (omega arith),
     )
 
-pub row-length : (r : List ℕ) → writable r ≡ true → length (rowText r) ≤ 256
+pub row-length : (r : List ℕ) → writable r ≡ true → length (rowText r) ≤ rowRoom
 unfolding writable headOk markText
 row-length r e =
-    let h = both-left (headOk r) (all columnCount (cellShown r)) e in
-    let k = both-right (ltb (lineOf r) lineNumbers) (ltb (motionOf r) 16 && planeOk (planeOf r)) h in
-    let m = ltb-true (motionOf r) 16 (both-left (ltb (motionOf r) 16) (planeOk (planeOf r)) k) in
-    let p = plane-low (planeOf r) (both-right (ltb (motionOf r) 16) (planeOk (planeOf r)) k) in
-    total r (head-length r m p) (cells-length r (both-right (headOk r) (all columnCount (cellShown r)) e))
+    let h = and-left (headOk r) (all columnCount (cellShown r)) e in
+    let k = and-right (ltb (lineOf r) lineNumbers) (ltb (motionOf r) 16 && planeOk (planeOf r)) h in
+    let m = ltb-true (motionOf r) 16 (and-left (ltb (motionOf r) 16) (planeOk (planeOf r)) k) in
+    let p = plane-low (planeOf r) (and-right (ltb (motionOf r) 16) (planeOk (planeOf r)) k) in
+    total r (head-length r m p) (cells-length r (and-right (headOk r) (all columnCount (cellShown r)) e))
   where
     mark : (b : Bool) → length (cond b [] (49 ∷ []) ++ crlf) ≤ 3
     mark true = omega arith
     mark false = omega arith
 
-    total : (r : List ℕ) → length (joined (headFields r)) ≤ 26 → length (tailed (cellTexts r columnCount)) ≤ 198 → length (rowText r) ≤ 256
+    total : (r : List ℕ) → length (joined (headFields r)) ≤ 26 → length (tailed (cellTexts r columnCount)) ≤ 198 → length (rowText r) ≤ rowRoom
     total r a b =
         let j = joined (headFields r) in
         let t = tailed (cellTexts r columnCount) in

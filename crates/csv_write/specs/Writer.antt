@@ -12,11 +12,15 @@ use Rattle.layout.specs.Layout.{rCells, rowWords, lineNumbers}
 use Rattle.row_cells.specs.Codes.{planeOk}
 use Rattle.row_cells.specs.Bits.{has}
 use Rattle.row_cells.specs.Row.{lineOf, motionOf, planeOf, markOf, presentOf}
-use Rattle.csv_fields.specs.Write.{wholeText, numberText, shown}
-use Rattle.csv_fields.specs.declared.Placed.{Placed}
-use Rattle.csv_fields.specs.declared.Placed.the-variants as Placed
+use Rattle.csv_figures.specs.Write.{wholeText, numberText, shown}
+use Rattle.csv_figures.specs.declared.Placed.{Placed}
+use Rattle.csv_figures.specs.declared.Placed.the-variants as Placed
 use Rattle.csv_words.specs.Words.{wordAt, planeText}
 use Rattle.csv_line.specs.LineText.{crlf, columnCount, codeAt, joined}
+
+-- bytes that a row's line is never more than
+abbrev pub rowRoom : ℕ
+rowRoom = 256
 
 -- 7.5: an empty field is an absent cell
 unfoldable pub cellText : List ℕ → ℕ → List ℕ

@@ -1,6 +1,6 @@
 // A row out: from the words of a row to the text of its line.
-use csv_fields::Placed;
-use csv_fields::put_byte;
+use csv_figures::Placed;
+use csv_figures::put_byte;
 use csv_line::COLUMNS;
 use csv_line::code_at;
 use csv_line::put_crlf;
@@ -19,28 +19,29 @@ ghost use lib.ListN.{length};
 ghost use Rattle.layout.specs.Layout.{rowWords};
 ghost use Rattle.floats.specs.Lists.{all};
 ghost use Rattle.row_cells.specs.Row.{motionOf, planeOf};
-ghost use Rattle.csv_fields.specs.Out.{Wrote};
-ghost use Rattle.csv_line.specs.LineText.{comma, crlf, tailed, joined};
-ghost use Rattle.csv_write.specs.Writer.{cellText, cellShown, cellTexts, headFields, markText, rowText, writable, rowsText, rowsWritable, Tried};
+ghost use Rattle.csv_figures.specs.Out.{Wrote};
+ghost use Rattle.csv_line.specs.LineText.{comma, crlf, columnCount, tailed, joined};
+ghost use Rattle.csv_write.specs.Writer.{rowRoom, cellText, cellShown, cellTexts, headFields, markText, rowText, writable, rowsText, rowsWritable, Tried};
 
 const MOTIONS: u64 = 16;
 
 // A comma and the cell of column i.
 fn put_cell(row: &[u64], out: &mut [u8], n: usize, i: usize) -> Placed
-    requires { ⌜ (length (now row) ≡ rowWords) × ((i < 11) × (n + 18 ≤ length (now out))) ⌝ }
+    requires { ⌜ (length (now row) ≡ rowWords) × ((i < columnCount) × (n + 18 ≤ length (now out))) ⌝ }
     ensures { λ r. ⌜ Tried (cellShown (now (row .entry)) i) (comma ∷ cellText (now (row .entry)) i) (now (out .entry)) n (now (out .exit)) r ⌝ }
 {
     let at = put_byte(out, n, b',');
     let code = code_at(i);
     if row_cells::has_bit(row[R_PRESENT], code as u64) {
-        return csv_fields::put_number(out, at, floats::of_bits(row[R_CELLS + code]));
+        return csv_figures::put_number(out, at, floats::of_bits(row[R_CELLS + code]));
     }
     Placed::Upto(at)
 }
 
 fn put_cells(row: &[u64], out: &mut [u8], n: usize) -> Placed
     requires { ⌜ (length (now row) ≡ rowWords) × (n + 198 ≤ length (now out)) ⌝ }
-    ensures { λ r. ⌜ Tried (all 11 (cellShown (now (row .entry)))) (tailed (cellTexts (now (row .entry)) 11)) (now (out .entry)) n (now (out .exit)) r ⌝ }
+    ensures { λ r. ⌜ Tried (all columnCount (cellShown (now (row .entry)))) (tailed (cellTexts (now (row .entry)) columnCount))
+        (now (out .entry)) n (now (out .exit)) r ⌝ }
 {
     let mut at = n;
     let mut i: usize = 0;
@@ -59,7 +60,7 @@ fn put_head(row: &[u64], out: &mut [u8], n: usize) -> usize
     requires { ⌜ (length (now row) ≡ rowWords) × ((motionOf (now row) < 16) × ((planeOf (now row) < 20) × (n + 26 ≤ length (now out)))) ⌝ }
     ensures { λ r. ⌜ Wrote (now (out .entry)) n (joined (headFields (now (row .entry)))) (now (out .exit)) r ⌝ }
 {
-    let a = csv_fields::put_whole(out, n, row[R_LINE]);
+    let a = csv_figures::put_whole(out, n, row[R_LINE]);
     let b = put_byte(out, a, b',');
     let c = csv_words::put_motion(out, b, row[R_MOTION] as usize);
     let d = put_byte(out, c, b',');
@@ -80,8 +81,8 @@ fn put_end(row: &[u64], out: &mut [u8], n: usize) -> usize
 }
 
 // The line of a row from n on, where it has one. None is longer than 224 bytes.
-pub fn write_row(row: &[u64], out: &mut [u8], n: usize) -> Placed
-    requires { ⌜ (length (now row) ≡ rowWords) × (n + 256 ≤ length (now out)) ⌝ }
+fn write_row(row: &[u64], out: &mut [u8], n: usize) -> Placed
+    requires { ⌜ (length (now row) ≡ rowWords) × (n + rowRoom ≤ length (now out)) ⌝ }
     ensures { λ r. ⌜ Tried (writable (now (row .entry))) (rowText (now (row .entry))) (now (out .entry)) n (now (out .exit)) r ⌝ }
 {
     if row[R_LINE] >= LINE_NUMBERS {
@@ -103,7 +104,7 @@ pub fn write_row(row: &[u64], out: &mut [u8], n: usize) -> Placed
 
 // The lines of the first `count` rows from n on, where each has one.
 pub fn write_rows(rows: &[u64], count: usize, out: &mut [u8], n: usize) -> Placed
-    requires { ⌜ (count * rowWords ≤ length (now rows)) × (n + 256 * count ≤ length (now out)) ⌝ }
+    requires { ⌜ (count * rowWords ≤ length (now rows)) × (n + rowRoom * count ≤ length (now out)) ⌝ }
     ensures { λ r. ⌜ Tried (rowsWritable (now (rows .entry)) count) (rowsText (now (rows .entry)) count) (now (out .entry)) n (now (out .exit)) r ⌝ }
 {
     let mut at = n;

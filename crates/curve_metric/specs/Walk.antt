@@ -23,6 +23,10 @@ flat eval ms tol t0 p0 t1 p1 pm =
     near ms tol p0 p1 pm
     && (near ms tol p0 p1 (eval (t0 ⊕ f¼ ⊗ (t1 ⊖ t0))) && near ms tol p0 p1 (eval (t0 ⊕ f¾ ⊗ (t1 ⊖ t0))))
 
+-- halvings of a stretch at most (5.9)
+abbrev pub depth : ℕ
+depth = 20
+
 -- the samples of that stretch, halved at most `left` times more
 unfoldable pub samples : (Float → List Float) → List ℕ → Float → ℕ → Float → List Float → Float → List Float → List Sample
 samples eval ms tol zero t0 p0 t1 p1 = record { time = t1; point = p1 } ∷ []

@@ -1,19 +1,15 @@
--- LAWS. `samples`: one step of it, its end, how many there are at most, and that each point has its channels. Assumes nothing.
+-- LAWS. `samples`: one step of it, its end, and how many there are at most. Assumes nothing.
 use mathlib.Core.Path.{_≡_, refl}
 use mathlib.Core.Bool.{Bool, true, false}
 use mathlib.Core.List.{List, [], _∷_, _++_}
 use Prim.Native.Nat.{ℕ, zero, suc, _≤_, _^_}
-use native.Mathlib.Nat.{pow-suc, le-trans}
+use native.Mathlib.Nat.{pow-suc}
 use native.Mathlib.Omega.{arith}
 use lib.ListN.{length, length-append}
-use lib.Pow.{pow-mono, pow-pos}
+use lib.Pow.{pow-pos}
 use lib.Ieee.{Float}
-use Rattle.curve_metric.specs.Ends.{EndsWith, Every, ends-one, ends-append, ends-some, every-one, every-append}
+use Rattle.curve_metric.specs.Ends.{EndsWith, ends-one, ends-append}
 use Rattle.curve_metric.specs.Walk.{Sample, samples, flat, middle}
-
--- all channels of a sample are there
-abbrev pub Wide : ℕ → Sample → Type 0
-Wide ch s = length (s .point) ≡ ch
 
 module _ (eval : Float → List Float) (ms : List ℕ) (tol : Float) where
   pub samples-zero : (left : ℕ) (t0 : Float) (p0 : List Float) (t1 : Float) (p1 : List Float) → left ≡ 0
@@ -61,24 +57,8 @@ module _ (eval : Float → List Float) (ms : List ℕ) (tol : Float) where
       (λ left t1 p0 p1. ends-one (record { time = t1; point = p1 }))
       (λ left tm t1 p0 p1 us vs a b. ends-append us b)
 
-  pub samples-some : (left : ℕ) (t0 : Float) (p0 : List Float) (t1 : Float) (p1 : List Float) → 1 ≤ length (samples eval ms tol left t0 p0 t1 p1)
-  samples-some left t0 p0 t1 p1 = ends-some (samples-end left t0 p0 t1 p1)
-
   pub samples-le : (left : ℕ) (t0 : Float) (p0 : List Float) (t1 : Float) (p1 : List Float) → length (samples eval ms tol left t0 p0 t1 p1) ≤ 2 ^ left
   samples-le = samples-all
       (λ left t1 p0 p1 ss. length ss ≤ 2 ^ left)
       (λ left t1 p0 p1. pow-pos left)
       (λ left tm t1 p0 p1 us vs a b. rw (length-append, pow-suc) (omega arith))
-
-  -- 2 ^ 20
-  pub samples-few : (left : ℕ) (t0 : Float) (p0 : List Float) (t1 : Float) (p1 : List Float)
-      → left ≤ 20 → length (samples eval ms tol left t0 p0 t1 p1) ≤ 0x100000
-  samples-few left t0 p0 t1 p1 h = le-trans (samples-le left t0 p0 t1 p1) (pow-mono {i = left} {j = 20} h)
-
-  pub samples-wide : (ch : ℕ) → ((t : Float) → length (eval t) ≡ ch) → (left : ℕ) (t0 : Float) (p0 : List Float) (t1 : Float) (p1 : List Float)
-      → length p1 ≡ ch → Every (Wide ch) (samples eval ms tol left t0 p0 t1 p1)
-  samples-wide ch h left t0 p0 t1 p1 = samples-all
-      (λ left t1 p0 p1 ss. length p1 ≡ ch → Every (Wide ch) ss)
-      (λ left t1 p0 p1 w. every-one (Wide ch) (record { time = t1; point = p1 }) w)
-      (λ left tm t1 p0 p1 us vs a b w. every-append (Wide ch) us vs (a (h tm)) (b w))
-      left t0 p0 t1 p1

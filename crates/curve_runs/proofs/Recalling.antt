@@ -11,7 +11,10 @@ use Rattle.curve_walk.specs.declared.Kept.{Kept}
 use Rattle.curve_walk.specs.declared.Shape.{Shape}
 use Rattle.curve_walk.specs.Asks.{Recalls}
 use Rattle.curve_walk.specs.Remembering.{stored-recalls, recalls-as}
-use Rattle.curve_runs.specs.Lefts.{fitLefts, joined, splineLefts, formLefts, curveLefts}
+use Rattle.curve_segments.specs.Lefts.{fitLefts}
+use Rattle.curve_walk.specs.Lefts.{joined}
+use Rattle.curve_spans.specs.Lefts.{splineLefts}
+use Rattle.curve_runs.specs.Lefts.{formLefts, curveLefts}
 use Rattle.curve_runs.specs.Asks.{Remembers}
 
 module _ (s : Shape) (ms : List ℕ) (pts ks cs : List Float) where

@@ -18,8 +18,9 @@ use Rattle.curve_metric.specs.Metric.{chords}
 use Rattle.curve_metric.specs.Walk.{Sample}
 use Rattle.curve_metric.specs.Points.{length-rows, point-rows}
 use Rattle.fit_knots.specs.Fit.{Fit, keptTo, fitOf, evalFit, fitRun, fitRuns}
-use Rattle.fit_knots.specs.Memory.{FitHeld}
+use Rattle.fit_knots.specs.Memory.{FitHeld, fitTimes, fitPoints, fitSlopes}
 use Rattle.fit_knots.specs.MemoryLaws.{eval-is}
+use Rattle.fit_tables.specs.Asks.{Fitted}
 use Rattle.bspline_tables.specs.Basis.{Bspline, basisOf, evalBasis, basisSamples, ownerFrom, owned, runOf, basisRuns}
 use Rattle.bspline_tables.specs.BasisLaws.{runs-join, run-at}
 use Rattle.bspline_tables.specs.Tables.{advanced}
@@ -28,12 +29,16 @@ use Rattle.curve_walk.specs.declared.Form.{Form}
 use Rattle.curve_walk.specs.declared.Form.the-variants as Form
 use Rattle.curve_walk.specs.declared.Kept.{Kept}
 use Rattle.curve_walk.specs.declared.Shape.{Shape}
-use Rattle.curve_walk.specs.Walks.{encode, fitTimes, fitPoints, fitSlopes, formAt, evalOf, ownIn, ownOf, counted, pointsOf}
+use Rattle.curve_walk.specs.Walks.{encode, formAt, evalOf, ownIn, ownOf, counted, pointsOf}
+use Rattle.curve_walk.specs.Asks.{Fresh}
 use Rattle.curve_walk.specs.Counting.{counted-length}
+use Rattle.curve_spans.specs.Stretches.{spanSamples, splineSamples}
+use Rattle.curve_spans.specs.Asks.{Spans}
+use Rattle.curve_segments.specs.Stretches.{fitRunAt}
+use Rattle.curve_segments.specs.Asks.{Segments}
 use Rattle.curve_runs.specs.declared.Drawing.{Drawing}
 use Rattle.curve_runs.specs.Runs.{drawnRuns, shapeOf}
-use Rattle.curve_runs.specs.Stretches.{spanSamples, splineSamples, fitRunAt}
-use Rattle.curve_runs.specs.Asks.{Ready, Spans, Segments, Fresh}
+use Rattle.curve_runs.specs.Asks.{Ready}
 use Rattle.curve_runs.proofs.Owning.{ownFrom, count-owned, count-past}
 
 -- ---- counts that start from 0
@@ -51,6 +56,10 @@ filled-below : (f g : ℕ → ℕ) (n : ℕ) (l : List ℕ) → ((k : ℕ) → k
 filled-below f g n l e = ap (λ (z : List ℕ). z ++ drop n l) (upto-below f g n e)
 
 -- ---- a drawing by its points
+
+pub fitted-as : {a b : Bool} {n ch : ℕ} {ms : List ℕ} {pts : List Float} {m : ℕ} {ks cs : List Float} → a ≡ b
+    → Fitted a n ch ms pts m ks cs → Fitted b n ch ms pts m ks cs
+fitted-as {a} {b} {n} {ch} {ms} {pts} {m} {ks} {cs} e f = subst (λ (z : Bool). Fitted z n ch ms pts m ks cs) e f
 
 pub ready-as : {d : Drawing} {f g : Form} {ms : List ℕ} {pts ws ks cs : List Float} → f ≡ g → Ready d f ms pts ws ks cs → Ready d g ms pts ws ks cs
 ready-as {d} {f} {g} {ms} {pts} {ws} {ks} {cs} e r = subst (λ (f : Form). Ready d f ms pts ws ks cs) e r

@@ -1,17 +1,11 @@
 // The samples of a spline of any kind, counted by block and written.
-pub mod fitted;
 pub mod runs;
-pub mod segment;
-pub mod spline;
 
 use curve_walk::Form;
 use curve_walk::Shape;
 use motion::Kind;
 ghost use mathlib.Core.Path.{_≡_};
 ghost use Rattle.curve_runs.specs.Runs.{shapeOf};
-
-// Halvings of a stretch at most.
-pub const DEPTH: usize = 20;
 
 // A curve to draw: its kind, its degree where it is a B-spline, its n points of ch numbers each, and how far a chord may
 // stray from it.

@@ -1,13 +1,13 @@
 // The runs of a spline: prepared, counted, written.
 use crate::Drawing;
-use crate::fitted::lay_fit;
-use crate::segment::count_segments;
-use crate::segment::write_segments;
 use crate::shape_of;
-use crate::spline::count_spline;
-use crate::spline::write_spline;
+use curve_segments::count::count_segments;
+use curve_segments::write::write_segments;
+use curve_spans::count::count_spline;
+use curve_spans::write::write_spline;
 use curve_walk::Form;
 use curve_walk::Kept;
+use fit_tables::lay_fit;
 use motion::is_basis;
 use motion::is_cubic;
 ghost use mathlib.Core.Path.{_≡_};

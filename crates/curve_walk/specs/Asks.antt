@@ -8,14 +8,13 @@ use lib.Ieee.{Float}
 use Rattle.floats.specs.Lists.{spliced}
 use Rattle.layout.specs.Layout.{axisCodes, mostPoints}
 use Rattle.curve_metric.specs.Below.{Below}
-use Rattle.curve_metric.specs.Walk.{Sample}
-use Rattle.fit_knots.specs.Memory.{Prepared}
+use Rattle.curve_metric.specs.Walk.{Sample, depth}
+use Rattle.fit_knots.specs.Memory.{Prepared, fitTimes, fitPoints, fitSlopes}
 use Rattle.bspline_tables.specs.Tables.{Curve}
 use Rattle.curve_walk.specs.declared.Form.{Form}
 use Rattle.curve_walk.specs.declared.Form.the-variants.{Basis, Fit}
 use Rattle.curve_walk.specs.declared.Shape.{Shape}
-use Rattle.curve_walk.specs.Walks.{fitTimes, fitPoints, fitSlopes, endOwner, bumped, counted, encode}
-use Rattle.curve_walk.specs.Lefts.{depth}
+use Rattle.curve_walk.specs.Walks.{endOwner, bumped, counted, encode}
 
 -- the tables are of this form
 abbrev pub Formed : Form → ℕ → ℕ → List Float → List Float → Type 0
@@ -68,6 +67,11 @@ pub record Counts (s : Shape) (o left : ℕ) (l : List ℕ) : Type 0 where
   pub owned : o ≤ s .n - 1
   pub table : s .n - 1 ≤ length l
   pub room : (k : ℕ) → k < s .n - 1 → getD l k 0 + 2 ^ left ≤ 2 ^ 60
+
+-- the counts that a whole curve starts from
+pub record Fresh (s : Shape) (l : List ℕ) : Type 0 where
+  pub table : s .n - 1 ≤ length l
+  pub none : (k : ℕ) → k < s .n - 1 → getD l k 0 ≡ 0
 
 -- ---- writing: the points' words spliced in from i on, and the place after them
 

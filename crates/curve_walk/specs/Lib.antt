@@ -6,3 +6,4 @@ pub mod Points
 pub mod Counting
 pub mod Writing
 pub mod Remembering
+pub mod Joining

@@ -1,27 +1,17 @@
 -- DEFINITIONS. A curve as its tables give it, and what the two walks over a stretch of it count and write. Assumes nothing.
 use mathlib.Core.List.{List, [], _∷_, map}
 use Prim.Native.Nat.{ℕ, _+_, _-_, _*_}
-use lib.ListN.{getD, take, drop, set}
+use lib.ListN.{getD, set}
 use lib.Ieee.{Float}
 use Rattle.floats.specs.Numbers.{bits}
 use Rattle.floats.specs.Lists.{upto, flatten}
 use Rattle.curve_metric.specs.Walk.{Sample, samples}
-use Rattle.fit_knots.specs.Memory.{fitAt}
+use Rattle.fit_knots.specs.Memory.{fitAt, fitTimes, fitPoints, fitSlopes}
 use Rattle.bspline_tables.specs.Tables.{curveAt, advanced}
 use Rattle.curve_walk.specs.declared.Form.{Form}
 use Rattle.curve_walk.specs.declared.Form.the-variants.{Basis, Fit}
 use Rattle.curve_walk.specs.declared.Interval.{Interval}
 use Rattle.curve_walk.specs.declared.Shape.{Shape}
-
--- the tables of a fit of n points: n chord sums, then as many times; the w numbers of the points, then as many slopes
-abbrev pub fitTimes : ℕ → List Float → List Float
-fitTimes n ks = take (n + n - n) (drop n ks)
-
-abbrev pub fitPoints : ℕ → List Float → List Float
-fitPoints w cs = take w cs
-
-abbrev pub fitSlopes : ℕ → List Float → List Float
-fitSlopes w cs = take (w + w - w) (drop w cs)
 
 -- channel c at t of n points of ch numbers, in each form
 unfoldable pub formAt : Form → ℕ → ℕ → List Float → List Float → Float → ℕ → Float

@@ -1,5 +1,5 @@
-// The halving of a stretch of a curve of either kind: its samples, counted by owner and written.
-pub mod walk;
+// The walks over a stretch of a curve of either kind, one that counts and one that writes: what they take and give, what they
+// count, write and remember, and the laws of it. The walks themselves stand above.
 
 // The points of a fit that were kept, and the piece that an evaluation looks in first: it may be any, and no point depends
 // on it.

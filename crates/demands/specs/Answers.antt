@@ -1,68 +1,24 @@
--- LAWS. When a push or a close is done or refused, the needed count, and that a contract allows one answer. Assumes nothing.
-use Prim.Native.Nat.{ℕ, _/_, _≤_, _<_}
-use mathlib.Core.Path.{_≡_, sym, _∙_, ap}
+-- LAWS. 8.5, 8.6: when a push or a close is done or refused, and the needed count. Assumes nothing.
+use Prim.Native.Nat.{ℕ, _≤_, _<_}
+use mathlib.Core.Path.{_≡_, refl, _∙_, ap}
+use mathlib.Core.Bool.{true, false≢true}
 use mathlib.Core.List.{List}
-use native.Mathlib.Omega.{arith}
 use lib.ListN.{length}
 use lib.Dec.{leb, eqb}
-use borrow.Author.Tests.{eqb-true, eqb-false, eq-eqb, ne-eqb, leb-true, leb-false, le-leb, lt-leb}
+use borrow.Author.Tests.{eq-eqb, ne-eqb, le-leb, lt-leb}
 use Rattle.floats.specs.Truth.{by-bit, cond-t, cond-f}
-use Rattle.call_reply.specs.declared.Reply.{Reply}
-use Rattle.floats.specs.Lists.{flatten, spliced, all}
-use Rattle.layout.specs.Layout.{rowWords}
-use Rattle.row_check.specs.Check.{shapeOk, numbersOk, turnOk, rowCheck}
-use Rattle.saved_state.specs.State.{stateOk, storeOk, held, heldRowOk, savedCheck}
-use Rattle.call_reply.specs.Replies.{plain, After, AfterState, StateIs, tooFew, PushIs}
-use Rattle.push_check.specs.Blocks.{isFull, pushCheck}
+use Rattle.floats.specs.Lists.{flatten, spliced}
+use Rattle.layout.specs.Layout.{lastCode}
+use Rattle.row_check.specs.Check.{within}
+use Rattle.saved_state.specs.State.{stateOk, held, savedCheck}
+use Rattle.call_reply.specs.Replies.{plain, After, tooFew}
+use Rattle.call_start.specs.Seed.{seeded, seedSpec}
+use Rattle.push_check.specs.Blocks.{pushCheck}
 use Rattle.call_push.specs.Push.{pushRows, pushDone, pushSpec}
 use Rattle.call_close.specs.Close.{untouched, closeRows, closeState, closeSpec}
-use Rattle.demands.specs.Laws.{cond-both}
-
--- ---- 8.4: two answers that are allowed for one call are one
-pub one-answer : {p : After} {r r′ : Reply} {s s′ t t′ u u′ : List ℕ} → PushIs p r s t u → PushIs p r′ s′ t′ u′
-    → (r ≡ r′) × (s ≡ s′) × (t ≡ t′) × (u ≡ u′)
-one-answer a b = (a .reply ∙ sym (b .reply), a .state ∙ sym (b .state), a .store ∙ sym (b .store), a .rows ∙ sym (b .rows))
-
-pub one-state : {p : AfterState} {r r′ : Reply} {s s′ : List ℕ} → StateIs p r s → StateIs p r′ s′ → (r ≡ r′) × (s ≡ s′)
-one-state a b = (a .reply ∙ sym (b .reply), a .state ∙ sym (b .state))
-
--- ---- no check answers 7
-not-seven-saved : (st store : List ℕ) → savedCheck st store ≡ 7 → ⊥
-unfolding savedCheck
-not-seven-saved st store =
-    cond-both (λ (n : ℕ). n ≡ 7 → ⊥) (stateOk st)
-    (cond-both (λ (n : ℕ). n ≡ 7 → ⊥) (storeOk st store)
-    (cond-both (λ (n : ℕ). n ≡ 7 → ⊥) (all (held st) (heldRowOk st store)) (λ e. omega arith) (λ e. omega arith)) (λ e. omega arith))
-    (λ e. omega arith)
-
-not-seven-row : (r : List ℕ) → rowCheck r ≡ 7 → ⊥
-unfolding rowCheck
-not-seven-row r =
-    cond-both (λ (n : ℕ). n ≡ 7 → ⊥) (shapeOk r)
-    (cond-both (λ (n : ℕ). n ≡ 7 → ⊥) (numbersOk r) (cond-both (λ (n : ℕ). n ≡ 7 → ⊥) (turnOk r) (λ e. omega arith) (λ e. omega arith)) (λ e. omega arith))
-    (λ e. omega arith)
-
-not-seven : (st store r : List ℕ) → pushCheck st store r ≡ 7 → ⊥
-unfolding pushCheck
-not-seven st store r =
-    cond-both (λ (n : ℕ). n ≡ 7 → ⊥) (eqb (savedCheck st store) 0)
-    (cond-both (λ (n : ℕ). n ≡ 7 → ⊥) (eqb (rowCheck r) 0) (cond-both (λ (n : ℕ). n ≡ 7 → ⊥) (isFull st store r) (λ e. omega arith) (λ e. omega arith))
-    (not-seven-row r))
-    (not-seven-saved st store)
-
--- ---- how a push answers, and then a close: done, too few places, or refused by a check
-pub data Outcome (check n places : ℕ) : Type 0 where
-  done : check ≡ 0 → n ≤ places → Outcome check n places
-  few : check ≡ 0 → places < n → Outcome check n places
-  turned : (check ≡ 0 → ⊥) → Outcome check n places
-
-pub outcome : (check n places : ℕ) → Outcome check n places
-outcome check n places =
-    by-bit (eqb check 0)
-    (λ a. by-bit (leb n places)
-    (λ b. done (eqb-true check 0 a) (leb-true n places b))
-    (λ b. few (eqb-true check 0 a) (leb-false n places b)))
-    (λ a. turned (eqb-false check 0 a))
+use Rattle.demand_calls.specs.Judged.{Judged, accepted, counted, needs}
+use Rattle.demand_calls.specs.Places.{places}
+use Rattle.demand_state.specs.Refusals.{saved-number, push-number}
 
 -- a close that is done
 unfoldable pub closeDone : List ℕ → List ℕ → List ℕ → List (List ℕ) → After
@@ -74,11 +30,8 @@ closeDone st store rows out =
       rows = spliced rows 0 (flatten out);
     }
 
-abbrev pub places : List ℕ → ℕ
-places rows = length rows / rowWords
-
 module _ (st store r : List ℕ) where
-  -- "when, and only then": a push with no refusal due and with room is done; with too few places it answers 7; else the check's number
+  -- 8.5: a push with no refusal due and with room is done; with too few places it answers 7; else it is refused by the number of the check
   pub push-done : (rows : List ℕ) → pushCheck st store r ≡ 0 → length (pushRows st store r) ≤ places rows
       → pushSpec st store rows r ≡ pushDone st store rows r (pushRows st store r)
   unfolding pushSpec
@@ -93,38 +46,31 @@ module _ (st store r : List ℕ) where
   unfolding pushSpec
   push-turned rows d = cond-f _ _ (ne-eqb _ 0 d)
 
-  push-by : (rows : List ℕ) → Outcome (pushCheck st store r) (length (pushRows st store r)) (places rows) → pushSpec st store rows r .reply .code ≡ 0
-      → (pushCheck st store r ≡ 0) × (length (pushRows st store r) ≤ places rows)
-  unfolding untouched tooFew
-  push-by rows (done e f) z = (e, f)
-  push-by rows (few e f) z = let q : _≡_ {A = ℕ} 7 0 = sym (ap (λ (a : After). a .reply .code) (push-few rows e f)) ∙ z in absurd (omega arith)
-  push-by rows (turned d) z = absurd (d (sym (ap (λ (a : After). a .reply .code) (push-turned rows d)) ∙ z))
+  push-judged
+      : Judged (λ (rows : List ℕ). pushSpec st store rows r) (λ (rows : List ℕ). pushDone st store rows r (pushRows st store r)) (pushCheck st store r)
+      (length (pushRows st store r))
+  unfolding pushDone untouched
+  push-judged = record {
+    goes = push-done;
+    few = λ rows e f. ap (λ (a : After). a .reply) (push-few rows e f);
+    turned = λ rows d. ap (λ (a : After). a .reply) (push-turned rows d);
+    code = λ rows. refl;
+    count = λ rows. refl;
+    seven = push-number st store r .other;
+  }
 
-  -- what an accepted push says of its input
   pub push-accepted : (rows : List ℕ) → pushSpec st store rows r .reply .code ≡ 0
       → (pushCheck st store r ≡ 0) × (length (pushRows st store r) ≤ places rows)
-  push-accepted rows = push-by rows (outcome _ _ _)
+  push-accepted = accepted push-judged
 
-  push-seven : (rows : List ℕ) → Outcome (pushCheck st store r) (length (pushRows st store r)) (places rows) → pushSpec st store rows r .reply .code ≡ 7
-      → (pushCheck st store r ≡ 0) × (pushSpec st store rows r .reply .count ≡ length (pushRows st store r))
-  unfolding pushDone untouched tooFew
-  push-seven rows (done e f) z = let q : _≡_ {A = ℕ} 0 7 = sym (ap (λ (a : After). a .reply .code) (push-done rows e f)) ∙ z in absurd (omega arith)
-  push-seven rows (few e f) z = (e, ap (λ (a : After). a .reply .count) (push-few rows e f))
-  push-seven rows (turned d) z = absurd (not-seven st store r (sym (ap (λ (a : After). a .reply .code) (push-turned rows d)) ∙ z))
-
-  -- 2.11: the reply has the count that the call needs
   pub push-count : (rows : List ℕ) → pushSpec st store rows r .reply .code ≡ 7
       → (pushCheck st store r ≡ 0) × (pushSpec st store rows r .reply .count ≡ length (pushRows st store r))
-  push-count rows = push-seven rows (outcome _ _ _)
+  push-count = counted push-judged
 
-  -- 8.6: and that is what the same call writes given room
+  -- 8.6: the count of 7 is what the same call writes given room
   pub push-needs : (rows : List ℕ) → pushSpec st store rows r .reply .code ≡ 7 → (lent : List ℕ) → pushSpec st store rows r .reply .count ≤ places lent
       → (pushSpec st store lent r .reply .code ≡ 0) × (pushSpec st store lent r .reply .count ≡ pushSpec st store rows r .reply .count)
-  unfolding pushDone
-  push-needs rows z lent h =
-      let s : (pushCheck st store r ≡ 0) × (pushSpec st store rows r .reply .count ≡ length (pushRows st store r)) = push-count rows z in
-      let d : pushSpec st store lent r ≡ pushDone st store lent r (pushRows st store r) = push-done lent (s .0) (omega (arith, s .1)) in
-      (ap (λ (a : After). a .reply .code) d, ap (λ (a : After). a .reply .count) d ∙ sym (s .1))
+  push-needs = needs push-judged
 
 module _ (st store : List ℕ) where
   pub close-done : (rows : List ℕ) → savedCheck st store ≡ 0 → length (closeRows st store) ≤ places rows
@@ -132,40 +78,35 @@ module _ (st store : List ℕ) where
   unfolding closeSpec closeDone
   close-done rows e f = cond-t _ _ (eq-eqb _ 0 e) ∙ cond-t _ _ (le-leb _ _ f)
 
-  pub close-few : (rows : List ℕ) → savedCheck st store ≡ 0 → places rows < length (closeRows st store)
-      → closeSpec st store rows ≡ untouched (tooFew (length (closeRows st store))) st store rows
-  unfolding closeSpec
-  close-few rows e f = cond-t _ _ (eq-eqb _ 0 e) ∙ cond-f _ _ (lt-leb _ _ f)
-
-  pub close-turned : (rows : List ℕ) → (savedCheck st store ≡ 0 → ⊥) → closeSpec st store rows ≡ untouched (plain (savedCheck st store)) st store rows
-  unfolding closeSpec
-  close-turned rows d = cond-f _ _ (ne-eqb _ 0 d)
-
-  close-by : (rows : List ℕ) → Outcome (savedCheck st store) (length (closeRows st store)) (places rows) → closeSpec st store rows .reply .code ≡ 0
-      → (savedCheck st store ≡ 0) × (length (closeRows st store) ≤ places rows)
-  unfolding untouched tooFew
-  close-by rows (done e f) z = (e, f)
-  close-by rows (few e f) z = let q : _≡_ {A = ℕ} 7 0 = sym (ap (λ (a : After). a .reply .code) (close-few rows e f)) ∙ z in absurd (omega arith)
-  close-by rows (turned d) z = absurd (d (sym (ap (λ (a : After). a .reply .code) (close-turned rows d)) ∙ z))
+  close-judged
+      : Judged (closeSpec st store) (λ (rows : List ℕ). closeDone st store rows (closeRows st store)) (savedCheck st store) (length (closeRows st store))
+  unfolding closeSpec closeDone untouched
+  close-judged = record {
+    goes = close-done;
+    few = λ rows e f. ap (λ (a : After). a .reply) (cond-t _ _ (eq-eqb _ 0 e) ∙ cond-f _ _ (lt-leb _ _ f));
+    turned = λ rows d. ap (λ (a : After). a .reply) (cond-f _ _ (ne-eqb _ 0 d));
+    code = λ rows. refl;
+    count = λ rows. refl;
+    seven = saved-number st store .other;
+  }
 
   pub close-accepted : (rows : List ℕ) → closeSpec st store rows .reply .code ≡ 0 → (savedCheck st store ≡ 0) × (length (closeRows st store) ≤ places rows)
-  close-accepted rows = close-by rows (outcome _ _ _)
-
-  close-seven : (rows : List ℕ) → Outcome (savedCheck st store) (length (closeRows st store)) (places rows) → closeSpec st store rows .reply .code ≡ 7
-      → (savedCheck st store ≡ 0) × (closeSpec st store rows .reply .count ≡ length (closeRows st store))
-  unfolding closeDone untouched tooFew
-  close-seven rows (done e f) z = let q : _≡_ {A = ℕ} 0 7 = sym (ap (λ (a : After). a .reply .code) (close-done rows e f)) ∙ z in absurd (omega arith)
-  close-seven rows (few e f) z = (e, ap (λ (a : After). a .reply .count) (close-few rows e f))
-  close-seven rows (turned d) z = absurd (not-seven-saved st store (sym (ap (λ (a : After). a .reply .code) (close-turned rows d)) ∙ z))
-
-  pub close-count : (rows : List ℕ) → closeSpec st store rows .reply .code ≡ 7
-      → (savedCheck st store ≡ 0) × (closeSpec st store rows .reply .count ≡ length (closeRows st store))
-  close-count rows = close-seven rows (outcome _ _ _)
+  close-accepted = accepted close-judged
 
   pub close-needs : (rows : List ℕ) → closeSpec st store rows .reply .code ≡ 7 → (lent : List ℕ) → closeSpec st store rows .reply .count ≤ places lent
       → (closeSpec st store lent .reply .code ≡ 0) × (closeSpec st store lent .reply .count ≡ closeSpec st store rows .reply .count)
-  unfolding closeDone
-  close-needs rows z lent h =
-      let s : (savedCheck st store ≡ 0) × (closeSpec st store rows .reply .count ≡ length (closeRows st store)) = close-count rows z in
-      let d : closeSpec st store lent ≡ closeDone st store lent (closeRows st store) = close-done lent (s .0) (omega (arith, s .1)) in
-      (ap (λ (a : After). a .reply .code) d, ap (λ (a : After). a .reply .count) d ∙ sym (s .1))
+  close-needs = needs close-judged
+
+-- ---- a seed
+-- what an accepted seed leaves
+pub seed-left : (st : List ℕ) (c x : ℕ) → eqb (seedSpec st c x .reply .code) 0 ≡ true
+    → (stateOk st ≡ true) × (seedSpec st c x ≡ record { reply = plain 0; state = seeded st c x }) × (within x ≡ true)
+unfolding seedSpec
+seed-left st c x =
+    by-bit (stateOk st)
+    (λ a. by-bit (leb c lastCode)
+    (λ b. by-bit (within x)
+    (λ d. rw (a, b, d) (λ y. (refl, refl, refl)))
+    (λ d. rw (a, b, d) (λ y. absurd (false≢true y))))
+    (λ b. rw (a, b) (λ y. absurd (false≢true y))))
+    (λ a. rw a (λ y. absurd (false≢true y)))

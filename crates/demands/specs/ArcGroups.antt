@@ -1,4 +1,4 @@
--- The group of a block of no spline has the shape that demand 3 asks for: a row passed on, or an arc's rows. Assumes nothing.
+-- LAWS. The group of a block of no spline is as demand 3 asks: a row passed on, or an arc's rows. Assumes nothing.
 use Prim.Native.Nat.{ℕ, _+_, _-_, _<_}
 use mathlib.Core.Path.{_≡_, refl, sym, _∙_, ap, subst}
 use mathlib.Core.Bool.{Bool, true, false, false≢true}
@@ -21,12 +21,12 @@ use Rattle.floats.specs.Truth.{by-bit, cond-t, cond-f}
 use Rattle.arc_rows.specs.Arc.{Answer, passed, silent, Centre, centred, warned, Ends, Arc, wantedOf, countOf, lastCell, midCell, arcRow, arcRows, fromCentre}
 use Rattle.arc_rows.specs.Arc.{fromStart, arcAnswer}
 use Rattle.push_rows.specs.Answer.{answerAs}
-use Rattle.demands.specs.Demands.{Formed, Bare, Carries}
-use Rattle.demands.specs.Laws.{none-some, cond-both}
-use Rattle.demands.specs.Accepted.{Fine}
-use Rattle.demands.specs.InRange.{shown-bits}
-use Rattle.demands.specs.Shapes.{Shaped, upto-shaped, made-line, made-mark, made-formed, made-shows, made-bare, made-carries, out-shaped, programmed}
-use Rattle.demands.specs.Shapes.{same-number}
+use Rattle.demand_calls.specs.Laws.{none-some, cond-both}
+use Rattle.demand_groups.specs.Group.{Formed, Bare, Carries, Group}
+use Rattle.demand_groups.specs.InRange.{shown-bits}
+use Rattle.demand_groups.specs.Shapes.{upto-shaped, made-line, made-mark, made-formed, made-shows, made-bare, made-carries, out-shaped, programmed}
+use Rattle.demand_groups.specs.Shapes.{same-number}
+use Rattle.demand_state.specs.Accepted.{Fine}
 
 module _ (gs r : List ℕ) (fine : Fine r) (small : (k : ℕ) → member k gs ≡ true → k < axisCodes) (plane : ℕ) (pos : ℕ → Option ℕ) where
   -- ---- the rows of an arc whose plane axes are listed
@@ -108,7 +108,7 @@ module _ (gs r : List ℕ) (fine : Fine r) (small : (k : ℕ) → member k gs �
       row-marked : (i : ℕ) → i + 1 < n → markOf (row i) ≡ 1
       row-marked i h = ap markOf (row-mid i (λ q. omega arith)) ∙ made-mark gs r _ _ _ _
 
-      rows-shaped : {asks : Type 0} → 0 < n → Shaped gs r asks (upto row n)
+      rows-shaped : {last : Bool} → 0 < n → Group gs r last (upto row n)
       rows-shaped p = upto-shaped row n p (λ i h. row-formed i) (λ i h. row-line i) first-carries (λ i q h. row-bare i q) row-marked
           (λ u a k v w h pv cw.
           let z : n - 1 + 1 ≡ n = omega arith in
@@ -119,11 +119,11 @@ module _ (gs r : List ℕ) (fine : Fine r) (small : (k : ℕ) → member k gs �
     unfolding countOf
     some-rows wanted = omega arith
 
-    arc-shaped : {asks : Type 0} → Shaped gs r asks (arcRows gs plane pos r e c .rows)
+    arc-shaped : {last : Bool} → Group gs r last (arcRows gs plane pos r e c .rows)
     unfolding arcRows row
     arc-shaped = rows-shaped (countOf (wantedOf c)) (some-rows (wantedOf c))
 
-  pass-shaped : {asks : Type 0} (n : ℕ) → Shaped gs r asks (passed n r .rows)
+  pass-shaped : {last : Bool} (n : ℕ) → Group gs r last (passed n r .rows)
   unfolding passed
   pass-shaped n = out-shaped gs r fine
 
@@ -132,30 +132,30 @@ module _ (gs r : List ℕ) (fine : Fine r) (small : (k : ℕ) → member k gs �
     listed : (k x : ℕ) → pos k ≡ some x → member k gs ≡ true
     listed k x q = by-bit (member k gs) (λ a. a) (λ a. absurd (none-some (sym (off k a) ∙ q)))
 
-    centre-shaped : {asks : Type 0} (su sv : ℕ) → pos (planeU plane) ≡ some su → pos (planeV plane) ≡ some sv → (e : Ends)
+    centre-shaped : {last : Bool} (su sv : ℕ) → pos (planeU plane) ≡ some su → pos (planeV plane) ≡ some sv → (e : Ends)
         → e .eu ≡ num (Option·getD (cell r (planeU plane)) su) → e .ev ≡ num (Option·getD (cell r (planeV plane)) sv)
-        → (c : Centre) → Shaped gs r asks (fromCentre tol gs plane cw pos r e c .rows)
+        → (c : Centre) → Group gs r last (fromCentre tol gs plane cw pos r e c .rows)
     unfolding fromCentre
     centre-shaped su sv pu pv e eu ev (centred cu cv) = arc-shaped su sv (listed (planeU plane) su pu) (listed (planeV plane) sv pv) e _ eu ev
     centre-shaped su sv pu pv e eu ev (warned n) = pass-shaped n
 
-    start-shaped : {asks : Type 0} (su sv : Option ℕ) → pos (planeU plane) ≡ su → pos (planeV plane) ≡ sv
-        → Shaped gs r asks (fromStart tol gs plane cw pos r su sv .rows)
+    start-shaped : {last : Bool} (su sv : Option ℕ) → pos (planeU plane) ≡ su → pos (planeV plane) ≡ sv
+        → Group gs r last (fromStart tol gs plane cw pos r su sv .rows)
     unfolding fromStart
     start-shaped none sv pu pv = pass-shaped 1
     start-shaped (some su) none pu pv = pass-shaped 1
     start-shaped (some su) (some sv) pu pv = centre-shaped su sv pu pv _ refl refl _
 
-    arc-answer-shaped : {asks : Type 0} → Shaped gs r asks (arcAnswer tol gs plane cw pos r .rows)
+    arc-answer-shaped : {last : Bool} → Group gs r last (arcAnswer tol gs plane cw pos r .rows)
     unfolding arcAnswer
-    arc-answer-shaped {asks} =
-        cond-both (λ (a : Answer). Shaped gs r asks (a .rows)) (silent gs plane r)
+    arc-answer-shaped {last} =
+        cond-both (λ (a : Answer). Group gs r last (a .rows)) (silent gs plane r)
         (pass-shaped 0)
         (start-shaped (pos (planeU plane)) (pos (planeV plane)) refl refl)
 
 kind-shaped : (gs r : List ℕ) → Fine r → ((k : ℕ) → member k gs ≡ true → k < axisCodes) → (plane : ℕ) (pos : ℕ → Option ℕ)
     → ((k : ℕ) → member k gs ≡ false → pos k ≡ none)
-    → (tol : Float) (m : Kind) → splineKind m ≡ false → {asks : Type 0} → Shaped gs r asks (answerAs m tol gs plane pos r .rows)
+    → (tol : Float) (m : Kind) → splineKind m ≡ false → {last : Bool} → Group gs r last (answerAs m tol gs plane pos r .rows)
 unfolding answerAs
 kind-shaped gs r fine small plane pos off tol Same f = pass-shaped gs r fine small plane pos 0
 kind-shaped gs r fine small plane pos off tol Linear f = pass-shaped gs r fine small plane pos 0
@@ -170,6 +170,6 @@ kind-shaped gs r fine small plane pos off tol Refused f = pass-shaped gs r fine 
 -- the group of a block of no spline
 pub own-shaped : (gs r : List ℕ) → Fine r → ((k : ℕ) → member k gs ≡ true → k < axisCodes) → (plane : ℕ) (pos : ℕ → Option ℕ)
     → ((k : ℕ) → member k gs ≡ false → pos k ≡ none)
-    → (tol : Float) (m : ℕ) → isSpline m ≡ false → {asks : Type 0} → Shaped gs r asks (answerAs (kindOf m) tol gs plane pos r .rows)
+    → (tol : Float) (m : ℕ) → isSpline m ≡ false → {last : Bool} → Group gs r last (answerAs (kindOf m) tol gs plane pos r .rows)
 unfolding isSpline
 own-shaped gs r fine small plane pos off tol m f = kind-shaped gs r fine small plane pos off tol (kindOf m) f

@@ -1,71 +1,36 @@
--- Demand 1 holds of the four calls. Assumes nothing.
+-- LAWS. Demand 1 holds of the four calls. Assumes nothing.
 use Prim.Native.Nat.{ℕ, _≤_}
 use mathlib.Core.Path.{_≡_, refl, sym, _∙_}
-use mathlib.Core.Bool.{true}
 use mathlib.Core.List.{List}
 use native.Mathlib.Omega.{arith}
 use lib.ListN.{length}
 use lib.Dec.{leb, eqb}
-use borrow.Author.Tests.{eqb-true}
+use borrow.Author.Tests.{eqb-true, leb-true}
 use Rattle.floats.specs.Truth.{by-bit}
 use Rattle.call_reply.specs.declared.Reply.{Reply}
-use Rattle.floats.specs.Lists.{member, all}
+use Rattle.floats.specs.Lists.{member}
 use Rattle.floats.specs.Fill.{length-upto}
 use Rattle.layout.specs.Layout.{stateWords, lastCode}
-use Rattle.row_check.specs.Check.{within, shapeOk, numbersOk, turnOk, rowCheck}
-use Rattle.saved_state.specs.State.{stateOk, storeOk, tolOk, codesOk, geometric, held, heldRowOk, savedCheck}
+use Rattle.row_check.specs.Check.{within}
+use Rattle.saved_state.specs.State.{stateOk, tolOk, codesOk, geometric, held, savedCheck}
 use Rattle.call_reply.specs.Replies.{plain, AfterState, tooFew}
 use Rattle.call_start.specs.Start.{freshWord, fresh, startSpec}
 use Rattle.call_start.specs.Seed.{seeded, seedSpec}
-use Rattle.push_check.specs.Blocks.{isFull, pushCheck}
+use Rattle.push_check.specs.Blocks.{pushCheck}
 use Rattle.call_push.specs.Push.{pushRows, pushDone, pushSpec}
 use Rattle.call_close.specs.Close.{untouched, fits, closeRows, closeState, closeSpec}
-use Rattle.demands.specs.Demands.{Turned, Safe, SafeState, Demand1}
-use Rattle.demands.specs.Laws.{cond-both}
+use Rattle.demand_calls.specs.Laws.{cond-both}
+use Rattle.demand_calls.specs.PlaceLaws.{spliced-rows}
+use Rattle.demand_calls.specs.Safe.{Turned, Safe, SafeState}
+use Rattle.demand_state.specs.Accepted.{Saved, saved, Pushed, pushed}
+use Rattle.demand_state.specs.Lengths.{placed-length, forgotten-length, pushState-length, pushStore-length}
+use Rattle.demands.specs.Demands.{Demand1}
+use Rattle.demand_state.specs.Refusals.{saved-number, push-number}
 use Rattle.demands.specs.RowLengths.{pushRows-long, closeRows-long}
-use Rattle.demands.specs.Accepted.{Saved, saved, Pushed, pushed}
-use Rattle.demands.specs.Lengths.{placed-length, forgotten-length, pushState-length, pushStore-length, spliced-rows}
-
--- ---- the numbers
-plain-turned : (n : ℕ) → n ≤ 9 → Turned (plain n)
-plain-turned n h = record { ten = h; none = λ d. (refl, refl, refl); count = λ d e. refl }
-
-few-turned : (n : ℕ) → Turned (tooFew n)
-unfolding tooFew
-few-turned n = record { ten = omega arith; none = λ d. (refl, refl, refl); count = λ d e. absurd (e refl) }
-
-done-turned : (p : Reply) → p .code ≡ 0 → Turned p
-done-turned p e = record { ten = omega (arith, e); none = λ d. absurd (d e); count = λ d f. absurd (d e) }
-
-saved-nine : (st store : List ℕ) → savedCheck st store ≤ 9
-unfolding savedCheck
-saved-nine st store =
-    cond-both (λ (n : ℕ). n ≤ 9) (stateOk st)
-    (cond-both (λ (n : ℕ). n ≤ 9) (storeOk st store) (cond-both (λ (n : ℕ). n ≤ 9) (all (held st) (heldRowOk st store)) (omega arith) (omega arith))
-    (omega arith))
-    (omega arith)
-
-row-nine : (r : List ℕ) → rowCheck r ≤ 9
-unfolding rowCheck
-row-nine r =
-    cond-both (λ (n : ℕ). n ≤ 9) (shapeOk r)
-    (cond-both (λ (n : ℕ). n ≤ 9) (numbersOk r) (cond-both (λ (n : ℕ). n ≤ 9) (turnOk r) (omega arith) (omega arith)) (omega arith))
-    (omega arith)
-
-push-nine : (st store r : List ℕ) → pushCheck st store r ≤ 9
-unfolding pushCheck
-push-nine st store r =
-    cond-both (λ (n : ℕ). n ≤ 9) (eqb (savedCheck st store) 0)
-    (cond-both (λ (n : ℕ). n ≤ 9) (eqb (rowCheck r) 0) (cond-both (λ (n : ℕ). n ≤ 9) (isFull st store r) (omega arith) (omega arith)) (row-nine r))
-    (saved-nine st store)
+use Rattle.demand_calls.specs.Places.{places}
+use Rattle.demand_calls.specs.SafeLaws.{done-safe, few-turned, kept-safe, kept-state, new-state, plain-turned}
 
 -- ---- start and seed
-kept-state : (n : ℕ) (st : List ℕ) → n ≤ 9 → SafeState (record { reply = plain n; state = st }) st
-kept-state n st h = record { turned = plain-turned n h; same = λ d. refl; long = refl }
-
-new-state : (st new : List ℕ) → length new ≡ length st → SafeState (record { reply = plain 0; state = new }) st
-new-state st new e = record { turned = plain-turned 0 (omega arith); same = λ d. absurd (d refl); long = e }
-
 start-safe : (st : List ℕ) (tol : ℕ) (axes : List ℕ) → SafeState (startSpec st tol axes) st
 unfolding startSpec fresh
 start-safe st tol axes =
@@ -94,31 +59,26 @@ seed-safe st code x =
 -- ---- push and close
 untouched-safe : (p : Reply) (st store rows : List ℕ) → Turned p → Safe (untouched p st store rows) st store rows
 unfolding untouched
-untouched-safe p st store rows t = record { turned = t; same = λ d. (refl, refl, refl); long = (refl, refl, refl) }
+untouched-safe p st store rows t = kept-safe p st store rows t
 
-push-done : (st store rows r : List ℕ) → pushCheck st store r ≡ 0 → fits (pushRows st store r) rows ≡ true
+push-done : (st store rows r : List ℕ) → pushCheck st store r ≡ 0 → length (pushRows st store r) ≤ places rows
     → Safe (pushDone st store rows r (pushRows st store r)) st store rows
 unfolding pushDone
 push-done st store rows r e f =
     let p : Pushed st store r = pushed st store r e in
-    record {
-      turned = done-turned _ refl;
-      same = λ d. absurd (d refl);
-      long = (
-        pushState-length st r (p .saved .words) ∙ sym (p .saved .words),
-        pushStore-length st store r p,
-        spliced-rows (pushRows st store r) rows (pushRows-long st store r) f,
-      );
-    }
+    done-safe _ st store rows refl
+    (pushState-length st r (p .saved .words) ∙ sym (p .saved .words))
+    (pushStore-length st store r p)
+    (spliced-rows (pushRows st store r) rows (pushRows-long st store r) f)
 
 push-safe : (st store rows r : List ℕ) → Safe (pushSpec st store rows r) st store rows
 unfolding pushSpec
 push-safe st store rows r =
     by-bit (eqb (pushCheck st store r) 0)
     (λ a. by-bit (fits (pushRows st store r) rows)
-    (λ b. rw (a, b) (push-done st store rows r (eqb-true _ 0 a) b))
+    (λ b. rw (a, b) (push-done st store rows r (eqb-true _ 0 a) (leb-true _ _ b)))
     (λ b. rw (a, b) (untouched-safe (tooFew _) st store rows (few-turned _))))
-    (λ a. rw a (untouched-safe (plain _) st store rows (plain-turned _ (push-nine st store r))))
+    (λ a. rw a (untouched-safe (plain _) st store rows (plain-turned _ (push-number st store r .low))))
 
 closeState-length : (st : List ℕ) → length st ≡ stateWords → length (closeState st) ≡ stateWords
 unfolding closeState
@@ -130,13 +90,10 @@ close-safe st store rows =
     by-bit (eqb (savedCheck st store) 0)
     (λ a. by-bit (fits (closeRows st store) rows)
     (λ b. let s : Saved st store = saved st store (eqb-true _ 0 a) in
-    rw (a, b) (record {
-      turned = done-turned _ refl;
-      same = λ d. absurd (d refl);
-      long = (closeState-length st (s .words) ∙ sym (s .words), refl, spliced-rows (closeRows st store) rows (closeRows-long st store) b);
-    }))
+    rw (a, b) (done-safe _ st store rows refl
+    (closeState-length st (s .words) ∙ sym (s .words)) refl (spliced-rows (closeRows st store) rows (closeRows-long st store) (leb-true _ _ b))))
     (λ b. rw (a, b) (untouched-safe (tooFew _) st store rows (few-turned _))))
-    (λ a. rw a (untouched-safe (plain _) st store rows (plain-turned _ (saved-nine st store))))
+    (λ a. rw a (untouched-safe (plain _) st store rows (plain-turned _ (saved-number st store .low))))
 
 pub demand1 : Demand1
 demand1 = record { start = start-safe; seeds = seed-safe; push = push-safe; close = close-safe }

@@ -1,4 +1,4 @@
--- Demand 3 holds of the four calls. Assumes nothing.
+-- LAWS. Demand 3 holds of the four calls. Assumes nothing.
 use Prim.Native.Nat.{ℕ}
 use mathlib.Core.Path.{_≡_, refl, sym, _∙_, ap, subst}
 use mathlib.Core.Bool.{true}
@@ -12,14 +12,17 @@ use Rattle.floats.specs.Truth.{by-bit}
 use Rattle.saved_state.specs.State.{tolOk, codesOk}
 use Rattle.call_start.specs.Start.{fresh, startSpec}
 use Rattle.call_close.specs.Close.{closeSpec}
-use Rattle.demands.specs.Groups.{Event, seed, block, closed, blocksOf, Standing, atFirst, withBlock, withSeed, withClose, Piece, pieceOf, piecesFrom}
-use Rattle.demands.specs.Groups.{pieces}
-use Rattle.demands.specs.Demands.{wrote, Ran, run, Written, Demand3}
-use Rattle.demands.specs.Stands.{Stands, small-axes, fresh-stands}
+use Rattle.demand_calls.specs.Runs.{Event, seed, block, closed, blocksOf, wrote, run}
+use Rattle.demand_groups.specs.Written.{Piece, Written, groups}
+use Rattle.demand_state.specs.Fresh.{small-axes}
+use Rattle.demand_standing.specs.Standing.{Standing, atFirst, withBlock, withSeed, withClose}
+use Rattle.demand_standing.specs.Stands.{Stands, fresh-stands}
+use Rattle.demands.specs.Demands.{Demand3, answer}
+use Rattle.demands.specs.Each.{ranged-first, each-group}
 use Rattle.demands.specs.Pending.{toCome, come-empty}
-use Rattle.demands.specs.Written.{words, run-groups}
+use Rattle.demands.specs.Pieces.{pieceOf, piecesFrom, pieces}
 use Rattle.demands.specs.Sound.{sound-run}
-use Rattle.demands.specs.Each.{keeps-first, each-group}
+use Rattle.demands.specs.Steps.{words, run-groups}
 
 -- an accepted start
 started : (old : List ℕ) (tol : ℕ) (axes : List ℕ) → startSpec old tol axes .reply .code ≡ 0
@@ -48,16 +51,17 @@ at-first tol axes es = come-empty tol (geometricOf axes) atFirst es refl
 
 pub demand3 : Demand3
 unfolding pieces
-demand3 old tol axes store cs rows z x e c =
+demand3 old tol axes store cs rows z =
     let ok : (codesOk axes ≡ true) × (startSpec old tol axes .state ≡ fresh tol axes) = started old tol axes z in
-    let g : x ≡ run (fresh tol axes) store cs = e ∙ ap (λ (st : List ℕ). run st store cs) (ok .1) in
     let t : Stands tol (geometricOf axes) atFirst (fresh tol axes) store = fresh-stands tol axes (ok .0) store in
     subst
-    (λ (y : Ran). closeSpec (y .state) (y .store) rows .reply .code ≡ 0 → Written tol axes (y .events) (y .out ++ wrote (closeSpec (y .state) (y .store) rows)))
-    (sym g)
+    (λ (st : List ℕ).
+    let y = run answer st store cs in
+    let last = closeSpec (y .state) (y .store) rows in
+    last .reply .code ≡ 0 → Written (geometricOf axes) (blocksOf (y .events)) (pieces tol axes (y .events)) (y .out ++ wrote last))
+    (sym (ok .1))
     (λ d. record {
-      groups = run-groups cs rows t d ∙ ap words (at-first tol axes (run (fresh tol axes) store cs .events));
-      order = in-order tol (geometricOf axes) atFirst (run (fresh tol axes) store cs .events);
-      each = each-group tol (geometricOf axes) (small-axes axes) (keeps-first (geometricOf axes)) (sound-run cs rows t d);
+      groups = run-groups cs rows t d ∙ ap words (at-first tol axes (run answer (fresh tol axes) store cs .events));
+      order = in-order tol (geometricOf axes) atFirst (run answer (fresh tol axes) store cs .events);
+      each = each-group tol (geometricOf axes) (small-axes axes) (ranged-first (geometricOf axes)) (sound-run cs rows t d);
     })
-    c

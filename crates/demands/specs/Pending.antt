@@ -1,4 +1,4 @@
--- The groups that are still to be written when some events are to come: those of the open spline's blocks, then those of the events. Assumes nothing.
+-- LAWS. The groups that are still to be written when some events are to come: those of the open spline's blocks, then those of the events. Assumes nothing.
 use Prim.Native.Nat.{ℕ, suc, _+_}
 use mathlib.Core.Path.{_≡_, refl, sym, _∙_, ap, ap₂}
 use mathlib.Core.Bool.{true, false}
@@ -12,13 +12,16 @@ use borrow.Author.Tests.{eqb-true, eqb-false, ne-eqb}
 use Rattle.floats.specs.Numbers.{num}
 use Rattle.floats.specs.Fill.{length-upto}
 use Rattle.motion.specs.Motion.{isSpline, kindOf}
-use Rattle.row_cells.specs.Row.{motionOf, outRow}
+use Rattle.saved_state.specs.State.{plainDegree}
+use Rattle.row_cells.specs.Row.{outRow}
 use Rattle.floats.specs.Truth.{by-bit, cond-t, cond-f}
 use Rattle.spline_emission.specs.Emission.{Spline, splineGroups}
-use Rattle.push_check.specs.Blocks.{orNow}
 use Rattle.push_rows.specs.Answer.{answerAs}
-use Rattle.demands.specs.Groups.{Event, seed, block, closed, Standing, motionWith, goesOn, withBlock, withSeed, withClose, together, degreeFrom}
-use Rattle.demands.specs.Groups.{splineWith, pieceOf, piecesFrom, groups}
+use Rattle.demand_calls.specs.Runs.{Event, seed, block, closed}
+use Rattle.demand_groups.specs.Written.{groups}
+use Rattle.demand_standing.specs.Standing.{Standing, motionWith, goesOn, withBlock, withSeed, withClose, degreeFrom, together}
+use Rattle.demands.specs.Pieces.{splineWith, pieceOf, piecesFrom}
+use Rattle.demand_standing.specs.Together.{close-ends, ends-here, goes-on}
 
 pub spline-length : (sp : Spline) → length (splineGroups sp) ≡ length (sp .blocks)
 unfolding splineGroups
@@ -70,7 +73,7 @@ module _ (tol : ℕ) (gs : List ℕ) where
   pub come-closed : (s : Standing) (es : List Event) → toCome tol gs s (closed ∷ es) ≡ opened tol gs s ++ toCome tol gs (withClose s) es
   unfolding toCome piecesFrom together withClose
   come-closed s es =
-      ap (λ (l : List (List (List ℕ))). l ++ groups (piecesFrom tol gs (withClose s) es)) (pending-ends s (closed ∷ es) refl)
+      ap (λ (l : List (List (List ℕ))). l ++ groups (piecesFrom tol gs (withClose s) es)) (pending-ends s (closed ∷ es) (close-ends (s .motion) es))
       ∙ ap (λ (l : List (List (List ℕ))). opened tol gs s ++ l) (sym (come-empty (withClose s) es refl))
 
   -- ---- a block, and what comes after it
@@ -92,20 +95,6 @@ module _ (tol : ℕ) (gs : List ℕ) where
     spline-size : length spline ≡ length (withBlock gs s r .curve) + length (together (withBlock gs s r .motion) es)
     unfolding spline
     spline-size = with-length tol gs (withBlock gs s r) _ ∙ length-append (withBlock gs s r .curve) (together (withBlock gs s r .motion) es)
-
-    pub goes-on : eqb (motionWith s r) (s .motion) ≡ true → together (s .motion) (block r ∷ es) ≡ r ∷ together (s .motion) es
-    unfolding together motionWith orNow
-    goes-on e =
-        by-bit (eqb (motionOf r) 0)
-        (λ b. rw b)
-        (λ b. let q : eqb (motionOf r) (s .motion) ≡ true = ap (λ (m : ℕ). eqb m (s .motion)) (sym (cond-f (s .motion) (motionOf r) b)) ∙ e in rw (b, q))
-
-    pub ends-here : eqb (motionWith s r) (s .motion) ≡ false → together (s .motion) (block r ∷ es) ≡ []
-    unfolding together motionWith orNow
-    ends-here e =
-        by-bit (eqb (motionOf r) 0)
-        (λ b. absurd (eqb-false _ _ e (cond-t (s .motion) (motionOf r) b)))
-        (λ b. let q : eqb (motionOf r) (s .motion) ≡ false = ap (λ (m : ℕ). eqb m (s .motion)) (sym (cond-f (s .motion) (motionOf r) b)) ∙ e in rw (b, q))
 
     module _ (y : isSpline (motionWith s r) ≡ true) where
       its-group : its ≡ getD spline (length (goesOn s r)) []
@@ -148,7 +137,7 @@ module _ (tol : ℕ) (gs : List ℕ) where
 
         same-blocks : s .curve ++ together (s .motion) (block r ∷ es) ≡ withBlock gs s r .curve ++ together (withBlock gs s r .motion) es
         same-blocks =
-            ap (λ (l : List (List ℕ)). s .curve ++ l) (goes-on e)
+            ap (λ (l : List (List ℕ)). s .curve ++ l) (goes-on s r es e)
             ∙ sym (append-snoc (s .curve) r (together (s .motion) es))
             ∙ ap₂ (λ (a : List (List ℕ)) (m : ℕ). a ++ together m es) (ap (λ (l : List (List ℕ)). l ++ (r ∷ [])) (sym on-is) ∙ sym curve-is) (sym same-motion)
 
@@ -156,7 +145,7 @@ module _ (tol : ℕ) (gs : List ℕ) where
         unfolding spline splineWith
         same-spline d = ap splineGroups (λ i. record {
           motion = sym same-motion i;
-          power = degreeFrom 3 (same-blocks i);
+          power = degreeFrom plainDegree (same-blocks i);
           tol = num tol;
           axes = gs;
           start = sym (same-start d) i;
@@ -184,7 +173,7 @@ module _ (tol : ℕ) (gs : List ℕ) where
         pub come-other : toCome tol gs s (block r ∷ es) ≡ opened tol gs s ++ toCome tol gs (withBlock gs s r) es
         come-other =
             come-block
-            ∙ ap (λ (l : List (List (List ℕ))). l ++ (its ∷ later)) (pending-ends s (block r ∷ es) (ends-here e))
+            ∙ ap (λ (l : List (List (List ℕ))). l ++ (its ∷ later)) (pending-ends s (block r ∷ es) (ends-here s r es e))
             ∙ ap (λ (l : List (List (List ℕ))). opened tol gs s ++ l) (sym (with-block ∙ ap (λ (n : ℕ). take n spline ++ (its ∷ later)) (ap length on-none)))
 
     -- the block is no spline's
@@ -212,5 +201,5 @@ module _ (tol : ℕ) (gs : List ℕ) where
           → toCome tol gs s (block r ∷ es) ≡ opened tol gs s ++ (ownRows tol gs s r ∷ toCome tol gs (withBlock gs s r) es)
       come-own-other e =
           come-block
-          ∙ ap (λ (l : List (List (List ℕ))). l ++ (its ∷ later)) (pending-ends s (block r ∷ es) (ends-here e))
+          ∙ ap (λ (l : List (List (List ℕ))). l ++ (its ∷ later)) (pending-ends s (block r ∷ es) (ends-here s r es e))
           ∙ ap (λ (l : List (List (List ℕ))). opened tol gs s ++ l) after-own

@@ -1,21 +1,23 @@
--- Every row that a call writes has a row's words, whatever motion it comes from. Assumes nothing.
+-- LAWS. Every row that a call writes has a row's words, whatever motion it comes from. Assumes nothing.
 use Prim.Native.Nat.{ℕ, _+_}
-use mathlib.Core.Path.{_≡_, refl, _∙_}
-use mathlib.Core.Bool.{Bool, true, false, cond, false≢true}
-use mathlib.Core.List.{List, [], map}
-use mathlib.Core.Option.{Option, none, some, Option·getD}
-use native.Mathlib.Omega.{arith}
-use lib.ListN.{length, getD, length-map}
+use mathlib.Core.Path.{_≡_, refl}
+use mathlib.Core.Bool.{Bool, true, false, false≢true}
+use mathlib.Core.List.{List, []}
+use mathlib.Core.Option.{Option, none, some}
+use lib.ListN.{length, getD}
 use lib.Dec.{eqb}
 use lib.Ieee.{Float}
-use Rattle.floats.specs.Lists.{upto, flatten}
-use Rattle.floats.specs.Fill.{length-upto}
-use Rattle.layout.specs.Layout.{rowWords, cells}
+use Rattle.floats.specs.Lists.{flatten}
 use Rattle.motion.specs.Motion.{splineKind}
 use Rattle.motion.specs.declared.Kind.{Kind}
 use Rattle.motion.specs.declared.Kind.the-variants.{Same, Linear, Clockwise, Counter, Akima, Basis, Cubic, Other, Refused}
-use Rattle.row_cells.specs.Row.{rowOf, outRow, cell, lineOf, motionOf, planeOf, carryOf, hasPoint}
-use Rattle.row_put.specs.Made.{madeRow, withRiders}
+use Rattle.row_cells.specs.Row.{outRow, hasPoint}
+use Rattle.row_cells.specs.RowLaws.{length-out}
+use Rattle.row_put.specs.MadeLaws.{length-made}
+use Rattle.demand_calls.specs.Every.{Every, nil, more}
+use Rattle.demand_calls.specs.Laws.{cond-both, every-append, every-upto, every-flatten}
+use Rattle.demand_calls.specs.PlaceLaws.{Long}
+use Rattle.row_put.specs.Made.{madeRow}
 use Rattle.arc_rows.specs.Arc.{Answer, silent, passed, arcAnswer, fromStart, fromCentre, arcRows, arcRow, Centre, centred, warned, Ends, Arc}
 use Rattle.spline_emission.specs.Emission.{Spline, splineGroups, heldGroup, pointGroup}
 use Rattle.saved_state.specs.State.{held}
@@ -24,34 +26,21 @@ use Rattle.push_check.specs.Blocks.{emits}
 use Rattle.call_close.specs.Held.{emission}
 use Rattle.call_push.specs.Push.{pushRows}
 use Rattle.call_close.specs.Close.{closeRows}
-use Rattle.demands.specs.Laws.{cond-both, Every, nil, more, every-append, every-upto, every-flatten}
 
-pub record Long (row : List ℕ) : Type 0 where
-  pub words : length row ≡ rowWords
+out-long : (r : List ℕ) → Long (outRow r)
+out-long r = record { words = length-out r }
 
-rowOf-long : (line motion plane mark carry : ℕ) (f : ℕ → Option ℕ) → Long (rowOf line motion plane mark carry (upto f cells))
-unfolding rowOf
-rowOf-long line motion plane mark carry f =
-    let e : length (map (λ (c : Option ℕ). Option·getD c 0) (upto f cells)) ≡ cells = length-map (upto f cells) _
-    ∙ length-upto f cells in record { words = omega arith }
-
-pub outRow-long : (r : List ℕ) → Long (outRow r)
-unfolding outRow
-outRow-long r = rowOf-long (lineOf r) (motionOf r) (planeOf r) 0 (carryOf r) (cell r)
-
-pub madeRow-long : (gs r : List ℕ) (first : Bool) (motion : ℕ) (marked : Bool) (f : ℕ → Option ℕ) → Long (madeRow gs r first motion marked f)
-unfolding madeRow
-madeRow-long gs r true motion marked f = rowOf-long (lineOf r) motion (planeOf r) (cond marked 1 0) (carryOf r) (withRiders gs r f)
-madeRow-long gs r false motion marked f = rowOf-long (lineOf r) 0 0 (cond marked 1 0) 0 f
+made-long : (gs r : List ℕ) (first : Bool) (motion : ℕ) (marked : Bool) (f : ℕ → Option ℕ) → Long (madeRow gs r first motion marked f)
+made-long gs r first motion marked f = record { words = length-made gs r first motion marked f }
 
 -- ---- the rows of a block of no spline
 passed-long : (w : ℕ) (r : List ℕ) → Every Long (passed w r .rows)
 unfolding passed
-passed-long w r = more (outRow-long r) nil
+passed-long w r = more (out-long r) nil
 
 arcRow-long : (gs : List ℕ) (plane : ℕ) (pos : ℕ → Option ℕ) (r : List ℕ) (e : Ends) (c : Arc) (n k : ℕ) → Long (arcRow gs plane pos r e c n k)
 unfolding arcRow
-arcRow-long gs plane pos r e c n k = cond-both Long (eqb k n) (madeRow-long gs r _ _ _ _) (madeRow-long gs r _ _ _ _)
+arcRow-long gs plane pos r e c n k = cond-both Long (eqb k n) (made-long gs r _ _ _ _) (made-long gs r _ _ _ _)
 
 module _ (tol : Float) (gs : List ℕ) (plane : ℕ) (cw : Bool) (pos : ℕ → Option ℕ) (r : List ℕ) where
   centre-long : (e : Ends) (c : Centre) → Every Long (fromCentre tol gs plane cw pos r e c .rows)
@@ -85,11 +74,11 @@ own-long Refused tol gs plane pos r = passed-long 0 r
 point-long : (s : Spline) (cs : List ℕ) (n j : ℕ) (run : List (List Float)) (r : List ℕ) → Every Long (pointGroup s cs n j run r)
 unfolding pointGroup
 point-long s cs n j run r =
-    cond-both (Every Long) (eqb (length run) 0) (more (madeRow-long (s .axes) r _ _ _ _) nil) (every-upto _ _ (λ i l. madeRow-long (s .axes) r _ _ _ _))
+    cond-both (Every Long) (eqb (length run) 0) (more (made-long (s .axes) r _ _ _ _) nil) (every-upto _ _ (λ i l. made-long (s .axes) r _ _ _ _))
 
 held-long : (s : Spline) (runs : List (List (List Float))) (i : ℕ) → Every Long (heldGroup s runs i)
 unfolding heldGroup
-held-long s runs i = cond-both (Every Long) (hasPoint (s .axes) (getD (s .blocks) i [])) (point-long s _ _ _ _ _) (more (outRow-long _) nil)
+held-long s runs i = cond-both (Every Long) (hasPoint (s .axes) (getD (s .blocks) i [])) (point-long s _ _ _ _ _) (more (out-long _) nil)
 
 spline-long : (s : Spline) → Every Long (flatten (splineGroups s))
 unfolding splineGroups

@@ -1,13 +1,11 @@
 -- LAWS. 8.12: five wrong programs, each shut out by what a push has to answer. Assumes nothing.
-use Prim.Native.Nat.{ℕ, _*_, _≤_, _<_}
+use Prim.Native.Nat.{ℕ}
 use mathlib.Core.Path.{_≡_, refl, sym, _∙_, ap}
 use mathlib.Core.List.{List, [], _∷_}
 use native.Mathlib.Omega.{arith}
-use lib.ListN.{length, getD, replicate, set, length-append, length-map}
+use lib.ListN.{length, getD, replicate, set}
 use Rattle.row_cells.specs.Codes.{geometricOf}
-use Rattle.demands.specs.Demands.{Group, rowAt, Written}
-use Rattle.demands.specs.Groups.{Event, Piece, pieces, groups, blocksOf}
-use Rattle.demands.specs.Laws.{Every, nil, more, flatten-append}
+use Rattle.demands.specs.Answers.{push-count}
 use Rattle.layout.specs.Layout.{rowWords, rLine}
 use Rattle.floats.specs.Lists as Lists
 use Rattle.floats.specs.Lists.{spliced, flatten}
@@ -26,7 +24,6 @@ use Rattle.push_check.specs.Blocks as Blocks
 use Rattle.push_state.specs.Pushed as Pushed
 use Rattle.push_rows.specs.Answer as Own
 use Rattle.call_push.specs.Push.{pushRows, pushSpec}
-use Rattle.demands.specs.Answers.{push-count}
 
 -- a program's push
 abbrev pub Program : Type 0
@@ -73,11 +70,11 @@ module _ (f : Program) (m : Meets f) where
   rowsOf : (st store rows r : List ℕ) → f st store rows r .rows ≡ pushSpec st store rows r .rows
   rowsOf st store rows r = ap (λ (a : After). a .rows) (m st store rows r)
 
-  -- "Refusing always"
+  -- refusing always
   pub refusing-always : ((st store rows r : List ℕ) → f st store rows r .reply .code ≡ 0 → ⊥) → ⊥
   refusing-always h = h begun [] room (line 1) (ap (λ (a : After). a .reply .code) (m begun [] room (line 1)) ∙ word 0)
 
-  -- "writing nothing"
+  -- writing nothing
   pub writing-nothing : ((st store rows r : List ℕ) → f st store rows r .rows ≡ rows) → ⊥
   writing-nothing h =
       let e : _≡_ {A = ℕ} 7 1 = ap (λ (l : List ℕ). getD l 0 0) (sym (h begun [] room (line 1)) ∙ rowsOf begun [] room (line 1)) ∙ word 1 in
@@ -109,58 +106,8 @@ module _ (f : Program) (m : Meets f) where
       ∙ word 3 in
       omega arith
 
-  -- "an invented needed-count": with 7 the count is that of the rows of the call
+  -- a count made up: with 7 the count is that of the rows of the call
   pub no-invented-count : (st store rows r : List ℕ) → f st store rows r .reply .code ≡ 7 → f st store rows r .reply .count ≡ length (pushRows st store r)
   no-invented-count st store rows r z =
       ap (λ (a : After). a .reply .count) (m st store rows r)
       ∙ push-count st store r rows (sym (ap (λ (a : After). a .reply .code) (m st store rows r)) ∙ z) .1
-
--- ---- Demand 3 by itself: whatever program wrote `out` for these events, if it is as the demand says
-each-wide : {gs : List ℕ} (p : Piece) → Group gs p → rowWords ≤ length (flatten (p .rows))
-unfolding flatten
-each-wide p g = first-wide (p .rows) (g .filled) (g .formed 0 (g .filled) .wide)
-  where
-    first-wide : (rows : List (List ℕ)) → 0 < length rows → length (rowAt rows 0) ≡ rowWords → rowWords ≤ length (flatten rows)
-    first-wide [] h e = absurd (omega arith)
-    first-wide (x ∷ xs) h e = omega (arith, e, length-append x (flatten xs))
-
-all-wide : {gs : List ℕ} (ps : List Piece) → Every (Group gs) ps → length ps * rowWords ≤ length (flatten (flatten (groups ps)))
-unfolding flatten
-all-wide [] nil = omega arith
-all-wide (p ∷ ps) (more g gs) =
-    omega (
-      arith,
-      each-wide p g,
-      all-wide ps gs,
-      ap length (flatten-append (p .rows) (flatten (groups ps))),
-      length-append (flatten (p .rows)) (flatten (flatten (groups ps))),
-    )
-
-module _ (tol : ℕ) (axes : List ℕ) (es : List Event) (out : List ℕ) (w : Written tol axes es out) where
-  as-many : length (pieces tol axes es) ≡ length (blocksOf es)
-  as-many = sym (length-map (pieces tol axes es) (λ (p : Piece). p .block)) ∙ ap length (w .order)
-
-  -- each block has a row at least
-  pub a-row-each : length (blocksOf es) * rowWords ≤ length out
-  a-row-each = rw (w .groups, sym as-many) (all-wide (pieces tol axes es) (w .each))
-
-  -- writing nothing
-  pub nothing-written : 0 < length (blocksOf es) → out ≡ [] → ⊥
-  nothing-written h e = omega (arith, a-row-each, ap length e)
-
-  -- writing only the first block's rows
-  pub only-first-written : 1 < length (blocksOf es) → out ≡ flatten (getD (groups (pieces tol axes es)) 0 []) → ⊥
-  unfolding flatten
-  only-first-written h e = first-alone (pieces tol axes es) (w .each) (omega (arith, as-many)) (sym (w .groups) ∙ e)
-    where
-      first-alone : (ps : List Piece) → Every (Group (geometricOf axes)) ps → 1 < length ps
-          → flatten (flatten (groups ps)) ≡ flatten (getD (groups ps) 0 []) → ⊥
-      first-alone [] nil l q = omega arith
-      first-alone (p ∷ ps) (more g gs) l q =
-          omega (
-            arith,
-            all-wide ps gs,
-            ap length q,
-            ap length (flatten-append (p .rows) (flatten (groups ps))),
-            length-append (flatten (p .rows)) (flatten (flatten (groups ps))),
-          )

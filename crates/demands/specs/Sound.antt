@@ -1,4 +1,4 @@
--- The events that calls accept before an accepted close: rows and numbers that no refusal is due for, and splines of at most 256 blocks. Assumes nothing.
+-- LAWS. The events that calls accept before an accepted close: rows and numbers that no refusal is due for, and splines of at most 256 blocks. Assumes nothing.
 use Prim.Native.Nat.{ℕ, suc, _+_, _≤_}
 use mathlib.Core.Path.{_≡_, _∙_, ap}
 use mathlib.Core.Bool.{Bool, true, false, cond, _||_}
@@ -12,14 +12,15 @@ use Rattle.motion.specs.Motion.{isSpline}
 use Rattle.row_cells.specs.Row.{motionOf}
 use Rattle.row_check.specs.Check.{within}
 use Rattle.floats.specs.Truth.{by-bit, cond-t}
-use Rattle.demands.specs.Laws.{Every, nil, more}
-use Rattle.demands.specs.Groups.{Event, seed, block, closed, Standing, motionWith, goesOn, withBlock, withSeed, withClose, together}
-use Rattle.demands.specs.Demands.{Call, answer, taken, run}
-use Rattle.demands.specs.Accepted.{Saved, saved, Pushed, Fine, held-most}
+use Rattle.demand_calls.specs.Every.{Every, nil, more}
+use Rattle.demand_calls.specs.Runs.{Event, seed, block, closed, Call, taken, run}
+use Rattle.demand_state.specs.Accepted.{Saved, saved, Pushed, Fine, held-most}
+use Rattle.demand_standing.specs.Standing.{Standing, motionWith, goesOn, withBlock, withSeed, withClose, together}
+use Rattle.demand_standing.specs.Stands.{Stands}
+use Rattle.demand_standing.specs.Together.{goes-on, ends-here}
 use Rattle.demands.specs.Answers.{close-accepted}
-use Rattle.demands.specs.Stands.{Stands}
-use Rattle.demands.specs.Pending.{goes-on, ends-here}
-use Rattle.demands.specs.Written.{How, stays, pushes, seeds, closes, step, closing-after}
+use Rattle.demands.specs.Demands.{answer}
+use Rattle.demands.specs.Steps.{How, stays, pushes, seeds, closes, step, closing-after}
 
 -- events that no refusal is due for
 pub data Sound (gs : List ℕ) : Standing → List Event → Type 0 where
@@ -67,10 +68,10 @@ module _ {tol : ℕ} {gs : List ℕ} {s : Standing} {st store : List ℕ} (t : S
       by-bit (eqb (motionWith s r) (s .motion))
       (λ e. let m : withBlock gs s r .motion ≡ s .motion = same-motion gs s r e in
       let c : length (withBlock gs s r .curve) ≡ length (s .curve) + 1 = one-more gs s r e y in
-      let g : length (together (s .motion) (block r ∷ es)) ≡ suc (length (together (s .motion) es)) = ap length (goes-on tol gs s r es e) in
+      let g : length (together (s .motion) (block r ∷ es)) ≡ suc (length (together (s .motion) es)) = ap length (goes-on s r es e) in
       let l : length (together (withBlock gs s r .motion) es) ≡ length (together (s .motion) es) = ap (λ (n : ℕ). length (together n es)) m in
       omega (arith, ih (ap isSpline m ∙ y)))
-      (λ e. let g : length (together (s .motion) (block r ∷ es)) ≡ 0 = ap length (ends-here tol gs s r es e) in
+      (λ e. let g : length (together (s .motion) (block r ∷ es)) ≡ 0 = ap length (ends-here s r es e) in
       omega (arith, few-open (p .saved)))
 
   few-step : (es l : List Event) (n : Standing) → How gs s st store l n
@@ -83,13 +84,13 @@ module _ {tol : ℕ} {gs : List ℕ} {s : Standing} {st store : List ℕ} (t : S
   few-step es l n (closes p) ih y = omega (arith, few-open p)
 
 few-run : {tol : ℕ} {gs : List ℕ} {s : Standing} {st store : List ℕ} (cs : List Call) (rows : List ℕ) → Stands tol gs s st store
-    → closing-after (run st store cs) rows .reply .code ≡ 0
-    → isSpline (s .motion) ≡ true → length (s .curve) + length (together (s .motion) (run st store cs .events)) ≤ mostHeld
+    → closing-after (run answer st store cs) rows .reply .code ≡ 0
+    → isSpline (s .motion) ≡ true → length (s .curve) + length (together (s .motion) (run answer st store cs .events)) ≤ mostHeld
 unfolding run together
 few-run {st = st} {store = store} [] rows t z y = omega (arith, few-open t (saved st store (close-accepted st store rows z .0)))
 few-run {st = st} {store = store} (c ∷ cs) rows t z y =
     let w = step t c in
-    few-step t (run (answer st store c .state) (answer st store c .store) cs .events) (taken (answer st store c) c) (w .next) (w .how)
+    few-step t (run answer (answer st store c .state) (answer st store c .store) cs .events) (taken (answer st store c) c) (w .next) (w .how)
     (few-run cs rows (w .stands) z) y
 
 -- ---- the accepted events
@@ -102,10 +103,10 @@ sound-step es l n (seeds c x w) few rest = by-seed c x w rest
 sound-step es l n (closes p) few rest = by-close rest
 
 pub sound-run : {tol : ℕ} {gs : List ℕ} {s : Standing} {st store : List ℕ} (cs : List Call) (rows : List ℕ) → Stands tol gs s st store
-    → closing-after (run st store cs) rows .reply .code ≡ 0 → Sound gs s (run st store cs .events)
+    → closing-after (run answer st store cs) rows .reply .code ≡ 0 → Sound gs s (run answer st store cs .events)
 unfolding run
 sound-run [] rows t z = over
 sound-run {st = st} {store = store} (c ∷ cs) rows t z =
     let w = step t c in
-    sound-step (run (answer st store c .state) (answer st store c .store) cs .events) (taken (answer st store c) c) (w .next) (w .how)
+    sound-step (run answer (answer st store c .state) (answer st store c .store) cs .events) (taken (answer st store c) c) (w .next) (w .how)
     (few-run cs rows (w .stands) z) (sound-run cs rows (w .stands) z)

@@ -1,8 +1,8 @@
--- The group of a held block has the shape that demand 3 asks for: unchanged, its point, or its samples. Assumes nothing.
+-- LAWS. The group of a held block is as demand 3 asks: unchanged, its point, or its samples. Assumes nothing.
 use Prim.Native.Nat.{ℕ, suc, _+_, _-_, _*_, _≤_, _<_}
 use mathlib.Core.Path.{_≡_, refl, sym, _∙_, ap, subst}
 use mathlib.Core.Bool.{Bool, true, false, cond, _&&_, _||_, not, false≢true}
-use mathlib.Core.List.{List, [], _∷_, _++_, map}
+use mathlib.Core.List.{List, [], _∷_, _++_, map, map-append}
 use mathlib.Core.Option.{none, some}
 use mathlib.Core.Logic.{⊎-elim}
 use native.Mathlib.Omega.{arith}
@@ -28,22 +28,22 @@ use Rattle.curve_metric.specs.Metric.{pointOf}
 use Rattle.curve_metric.specs.Ends.{EndsWith, ends-last}
 use Rattle.fit_knots.specs.Fit.{fitRuns}
 use Rattle.bspline_tables.specs.Basis.{basisRuns, basisOf, spansOf, evalBasis}
-use Rattle.bspline_tables.specs.Joins.{map-append, keep-append, keep-here}
+use Rattle.bspline_tables.specs.Joins.{keep-append, keep-here}
 use Rattle.bspline_tables.specs.BasisLaws.{runs-length}
 use Rattle.bspline_tables.specs.LastRun.{last-run}
 use Rattle.bspline_tables.specs.EndPoint.{end-point}
 use Rattle.curve_runs.specs.Runs.{curveRuns}
 use Rattle.spline_emission.specs.Emission.{Spline, isBspline, pointRows, channels, startPoint, pointsFrom, metricOf, weightOf, runsOf, placeOf, sampleCell}
 use Rattle.spline_emission.specs.Emission.{ownCell, isMarked, pointGroup, heldGroup}
-use Rattle.demands.specs.Demands.{Bare}
-use Rattle.demands.specs.Laws.{some-same, none-some, Every, every-head, every-tail, every-keep}
-use Rattle.demands.specs.Accepted.{Fine}
-use Rattle.demands.specs.InRange.{in-range, tidy-eq, num-bits, shown-bits}
-use Rattle.demands.specs.Shapes.{Shaped, one-shaped, upto-shaped, made-line, made-mark, made-formed, made-shows, made-bare, made-carries, out-shaped}
-use Rattle.demands.specs.Shapes.{programmed}
-use Rattle.demands.specs.Shapes.{same-number}
-use Rattle.demands.specs.SplineRuns.{fit-length, fit-ends, points-length, PointOf, point-of, place-of, Placed, point-number}
+use Rattle.demand_calls.specs.Every.{Every}
+use Rattle.demand_calls.specs.Laws.{some-same, none-some, every-head, every-tail, every-keep}
+use Rattle.demand_groups.specs.Group.{Bare, Group}
+use Rattle.demand_groups.specs.InRange.{in-range, tidy-eq, num-bits, shown-bits}
+use Rattle.demand_groups.specs.Shapes.{one-shaped, upto-shaped, made-line, made-mark, made-formed, made-shows, made-bare, made-carries, out-shaped}
+use Rattle.demand_groups.specs.Shapes.{programmed, same-number}
+use Rattle.demand_state.specs.Accepted.{Fine}
 use Rattle.demands.specs.SplinePoints.{channels-listed, Word, word-modest, word-fits, Words, start-words, all-words, all-weights}
+use Rattle.demands.specs.SplineRuns.{fit-length, fit-ends, points-length, PointOf, point-of, place-of, Placed, point-number}
 
 -- a weight that equals 1 is 1
 one-only : (y : Float) → T (fits binary64 y) → eq y one ≡ true → y ≡ one
@@ -260,9 +260,10 @@ module _ (sp : Spline) (B : List (List ℕ)) (r : List ℕ) (M : List (List ℕ)
           (div-fits binary64 _ _)
 
       -- ---- the group
-      module _ {asks : Type 0} (ask : isBspline sp ≡ true → length Y ≡ 0 → asks → eq (weightOf r) f1 ≡ true) where
-        end-number : (isBspline sp && not (eqb (length X + 1) (length (runsOf sp)))) ≡ false → (length run ≡ 0 → ⊥) → asks → (k v : ℕ)
-            → member k (channels sp) ≡ true → member k (sp .axes) ≡ true → cell r k ≡ some v → eq (num (bits (at end (placeOf k (channels sp))))) (num v) ≡ true
+      module _ {last : Bool} (is-last : isBspline sp ≡ true → length Y ≡ 0 → last ≡ true) where
+        end-number : (isBspline sp && not (eqb (length X + 1) (length (runsOf sp)))) ≡ false → (length run ≡ 0 → ⊥)
+            → (last ≡ true → eq (weightOf r) f1 ≡ true) → (k v : ℕ) → member k (channels sp) ≡ true → member k (sp .axes) ≡ true → cell r k ≡ some v
+            → eq (num (bits (at end (placeOf k (channels sp))))) (num v) ≡ true
         end-number f has a k v m g e =
             let low-code : k < axisCodes = small k g in
             let passes : within v ≡ true = programmed (sp .axes) r fine k v (omega arith) e in
@@ -273,12 +274,13 @@ module _ (sp : Spline) (B : List (List ℕ)) (r : List ℕ) (M : List (List ℕ)
             let n : length X + 1 ≡ length (runsOf sp) = eqb-true (length X + 1) (length (runsOf sp)) t in
             let z : length Y ≡ 0 = omega (arith, runs-size, rows-length y) in
             ap (λ (x : Float). eq x (num v)) (num-bits (at end (placeOf k (channels sp))) (basis-fits b z k m))
-            ∙ tidy-eq (at end (placeOf k (channels sp))) (num v) (basis-number b z (ask b z a) k v m e) (in-range v passes))
+            ∙ tidy-eq (at end (placeOf k (channels sp))) (num v) (basis-number b z (a (is-last b z)) k v m e) (in-range v passes))
             (λ b. ap (λ (x : Float). eq (num (bits x)) (num v)) (ap (λ (p : List Float). at p (placeOf k (channels sp))) (fit-end b has) ∙ own-point k v m e)
             ∙ shown-bits v passes)
 
-        end-shows : (isBspline sp && not (eqb (length X + 1) (length (runsOf sp)))) ≡ false → (length run ≡ 0 → ⊥) → asks → (k v w : ℕ)
-            → member k (sp .axes) ≡ true → cell r k ≡ some v → sampleCell (channels sp) end k ≡ some w → eq (num w) (num v) ≡ true
+        end-shows : (isBspline sp && not (eqb (length X + 1) (length (runsOf sp)))) ≡ false → (length run ≡ 0 → ⊥)
+            → (last ≡ true → eq (weightOf r) f1 ≡ true) → (k v w : ℕ) → member k (sp .axes) ≡ true → cell r k ≡ some v
+            → sampleCell (channels sp) end k ≡ some w → eq (num w) (num v) ≡ true
         unfolding sampleCell
         end-shows f has a k v w g e c =
             by-bit (member k (channels sp))
@@ -324,7 +326,7 @@ module _ (sp : Spline) (B : List (List ℕ)) (r : List ℕ) (M : List (List ℕ)
             (eq-eqb (length run - 1 + 1) (length run) i))
             ∙ u)
 
-        made-shaped : (length run ≡ 0 → ⊥) → Shaped (sp .axes) r asks (upto row (length run))
+        made-shaped : (length run ≡ 0 → ⊥) → Group (sp .axes) r last (upto row (length run))
         unfolding row end
         made-shaped has =
             let p : 0 < length run = omega (arith, has) in
@@ -332,7 +334,7 @@ module _ (sp : Spline) (B : List (List ℕ)) (r : List ℕ) (M : List (List ℕ)
             (made-carries (sp .axes) r word0 _ _) (λ i q h. row-bare i q) row-marked
             (λ u a. made-shows (sp .axes) r fine _ word0 _ _ (off end) (end-shows (row-end p u) has a))
 
-        bare-shaped : Shaped (sp .axes) r asks (madeRow (sp .axes) r true word0 false (ownCell sp r) ∷ [])
+        bare-shaped : Group (sp .axes) r last (madeRow (sp .axes) r true word0 false (ownCell sp r) ∷ [])
         unfolding ownCell
         bare-shaped =
             one-shaped _ (made-formed (sp .axes) r _ _ _ _) (made-line (sp .axes) r _ _ _ _) (made-carries (sp .axes) r word0 false (ownCell sp r))
@@ -343,20 +345,20 @@ module _ (sp : Spline) (B : List (List ℕ)) (r : List ℕ) (M : List (List ℕ)
             (λ b. same-number (sp .axes) r fine k v w (omega arith) e (sym (cond-t (cell r k) none b) ∙ c))
             (λ b. absurd (none-some (sym (cond-f (cell r k) none b) ∙ c)))))
 
-        point-shaped : Shaped (sp .axes) r asks (pointGroup sp (channels sp) (length (runsOf sp)) (length X) run r)
+        point-shaped : Group (sp .axes) r last (pointGroup sp (channels sp) (length (runsOf sp)) (length X) run r)
         unfolding pointGroup row word0
         point-shaped =
             by-bit (eqb (length run) 0)
-            (λ b. subst (Shaped (sp .axes) r asks) (sym (cond-t _ _ b)) bare-shaped)
-            (λ b. subst (Shaped (sp .axes) r asks) (sym (cond-f _ _ b)) (made-shaped (eqb-false _ 0 b)))
+            (λ b. subst (Group (sp .axes) r last) (sym (cond-t _ _ b)) bare-shaped)
+            (λ b. subst (Group (sp .axes) r last) (sym (cond-f _ _ b)) (made-shaped (eqb-false _ 0 b)))
 
     -- a held block of a spline
-    pub held-shaped : {asks : Type 0}
-        → (isBspline sp ≡ true → hasPoint (sp .axes) r ≡ true → length (keep (hasPoint (sp .axes)) M) ≡ 0 → asks → eq (weightOf r) f1 ≡ true)
-        → Shaped (sp .axes) r asks (heldGroup sp (runsOf sp) (length B))
+    pub held-shaped : {last : Bool}
+        → (isBspline sp ≡ true → hasPoint (sp .axes) r ≡ true → length (keep (hasPoint (sp .axes)) M) ≡ 0 → last ≡ true)
+        → Group (sp .axes) r last (heldGroup sp (runsOf sp) (length B))
     unfolding run Y P
-    held-shaped {asks} ask =
-        subst (Shaped (sp .axes) r asks) (sym (held-at (runsOf sp)))
+    held-shaped {last} is-last =
+        subst (Group (sp .axes) r last) (sym (held-at (runsOf sp)))
         (by-bit (hasPoint (sp .axes) r)
-        (λ y. subst (Shaped (sp .axes) r asks) (sym (cond-t _ _ y)) (point-shaped y (λ b z a. ask b y z a)))
-        (λ y. subst (Shaped (sp .axes) r asks) (sym (cond-f _ _ y)) (out-shaped (sp .axes) r fine)))
+        (λ y. subst (Group (sp .axes) r last) (sym (cond-t _ _ y)) (point-shaped y (λ b z. is-last b y z)))
+        (λ y. subst (Group (sp .axes) r last) (sym (cond-f _ _ y)) (out-shaped (sp .axes) r fine)))

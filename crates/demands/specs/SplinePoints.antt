@@ -1,4 +1,4 @@
--- The channels of a spline are geometric axes; its points and weights are numbers that refusal 3 lets pass. Assumes nothing.
+-- LAWS. The channels of a spline are geometric axes; its points and weights are numbers that refusal 3 lets pass. Assumes nothing.
 use Prim.Native.Nat.{ℕ, zero, suc, _<_}
 use mathlib.Core.Path.{_≡_, refl, sym, _∙_, ap, subst}
 use mathlib.Core.Bool.{Bool, true, _&&_, _||_, not, false≢true}
@@ -23,9 +23,10 @@ use Rattle.row_cells.specs.Masks.{member-append, member-keep}
 use Rattle.row_check.specs.CheckLaws.{check-cell-within}
 use Rattle.curve_metric.specs.Metric.{pointOf}
 use Rattle.spline_emission.specs.Emission.{channelsFrom, firstCell, nextPoint, pointsFrom, weightOf}
-use Rattle.demands.specs.Laws.{Every, every-head, every-tail}
-use Rattle.demands.specs.Accepted.{Fine, fine-check}
-use Rattle.demands.specs.InRange.{in-range}
+use Rattle.demand_calls.specs.Every.{Every}
+use Rattle.demand_calls.specs.Laws.{every-head, every-tail}
+use Rattle.demand_groups.specs.InRange.{in-range}
+use Rattle.demand_state.specs.Accepted.{Fine}
 
 -- ---- channels
 channel-listed : (gs cs : List ℕ) (rs : List (List ℕ)) → ((k : ℕ) → member k cs ≡ true → member k gs ≡ true)
@@ -77,7 +78,7 @@ cell-word r f k h y w = by-cell (cell r k) refl
   where
     by-cell : (o : Option ℕ) → cell r k ≡ o → Word (Option·getD (opt num o) y)
     by-cell none e = w
-    by-cell (some x) e = record { word = x; passes = check-cell-within r (fine-check r f) k x h e; is = refl }
+    by-cell (some x) e = record { word = x; passes = check-cell-within r f k x h e; is = refl }
 
 first-passes : (k : ℕ) (rs : List (List ℕ)) → Every Fine rs → k < cells → within (firstCell k rs) ≡ true
 unfolding firstCell within
@@ -86,7 +87,7 @@ first-passes k (r ∷ rs) fs h = by-cell (cell r k) refl (first-passes k rs (eve
   where
     by-cell : (o : Option ℕ) → cell r k ≡ o → within (firstCell k rs) ≡ true → within (Option·getD o (firstCell k rs)) ≡ true
     by-cell none e rest = rest
-    by-cell (some x) e rest = check-cell-within r (fine-check r (every-head fs)) k x h e
+    by-cell (some x) e rest = check-cell-within r (every-head fs) k x h e
 
 -- the numbers of a point
 abbrev pub Words : ℕ → List Float → Type 0

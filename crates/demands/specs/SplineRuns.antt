@@ -1,4 +1,4 @@
--- The runs of a spline end where its blocks ask: a fit's runs on their programmed points. Assumes nothing.
+-- LAWS. The runs of a spline end where its blocks ask: a fit's runs on their programmed points. Assumes nothing.
 use Prim.Native.Nat.{ℕ, suc, _+_, _-_, _<_}
 use mathlib.Core.Path.{_≡_, refl, sym, _∙_, ap, subst}
 use mathlib.Core.Bool.{Bool, true, false, false≢true}

@@ -30,8 +30,9 @@ use Rattle.push_check.specs.Blocks as Blocks
 use Rattle.push_state.specs.Pushed as Pushed
 use Rattle.push_rows.specs.Answer as Own
 use Rattle.call_close.specs.Close as Close
+use Rattle.demand_calls.specs.Runs as Calls
 use Rattle.demands.specs.Demands as Demands
-use Rattle.demands.specs.Demands.{Call, pushing, closing}
+use Rattle.demand_calls.specs.Runs.{Call, pushing, closing}
 
 -- 0, 10, -10, 0.1, 30, 100
 abbrev pub w10 : ℕ
@@ -64,7 +65,7 @@ unfoldable pub lastOf : List ℕ → List ℕ → List Call → List ℕ
 lastOf st store [] = []
 lastOf st store (c ∷ []) =
     let a = Demands.answer st store c in
-    a .reply .code ∷ a .reply .count ∷ a .reply .warning ∷ Demands.wrote a
+    a .reply .code ∷ a .reply .count ∷ a .reply .warning ∷ Calls.wrote a
 lastOf st store (c ∷ d ∷ cs) = let a = Demands.answer st store c in lastOf (a .state) (a .store) (d ∷ cs)
 
 abbrev pub xyz : List ℕ
@@ -89,7 +90,7 @@ unfolding Lists.upto Lists.keep Lists.member Lists.anyOf Lists.flatten Lists.row
     Start.freshWord Start.fresh Start.startSpec Held.heldSpline Blocks.orNow Blocks.emits Blocks.kept Held.emission Own.answerAs Own.ownAnswer Blocks.news
     Pushed.trackTo Pushed.forgotten Pushed.opened Pushed.degreeWith Pushed.buffered Pushed.pushState Pushed.pushStore Push.pushRows Blocks.isFull
     Blocks.pushCheck Close.untouched Replies.tooFew Push.pushDone Push.pushSpec Close.closeRows Close.closeState Close.closeSpec Demands.answer
-    Demands.wrote Ieee.add Ieee.sub Ieee.mul Ieee.div Ieee.rem Ieee.neg Ieee.lt Ieee.le Ieee.eq Ieee.ofBits Ieee.toBits Ieee.ofInt lastOf
+    Calls.wrote Ieee.add Ieee.sub Ieee.mul Ieee.div Ieee.rem Ieee.neg Ieee.lt Ieee.le Ieee.eq Ieee.ofBits Ieee.toBits Ieee.ofInt lastOf
 asked t cs = lastOf (Start.startSpec (replicate stateWords 7) t xyz .state) (replicate (4 * rowWords) 0) cs
 
 -- X and Y programmed on a line, with room for one row

@@ -8,7 +8,7 @@ use lib.Ieee.{Float, lt, le, neg}
 use Rattle.floats.specs.Numbers.{_⊕_, _⊖_, _⊗_, _⊘_, f0, f1, f2, f3, 1e-12, heldIn, at}
 use Rattle.floats.specs.Lists.{upto}
 use Rattle.curve_metric.specs.Metric.{pointOf, chords}
-use Rattle.curve_metric.specs.Walk.{Sample, samples}
+use Rattle.curve_metric.specs.Walk.{Sample, depth, samples}
 use Rattle.fit_slopes.specs.Slopes.{step, akimaSlope, cubicSlope}
 
 -- ---- the fit: the points kept, each more than 1e-12 of chord sum after the one kept before it
@@ -72,7 +72,7 @@ evalFit fit t =
 -- the run of points that ends at point i + 1: that point alone where the chord sum hardly grows
 unfoldable pub fitRun : Fit → List ℕ → Float → List (List Float) → List Float → ℕ → List (List Float)
 fitRun fit ms tol pts ts i =
-    let walk = map (λ (s : Sample). s .point) (samples (evalFit fit) ms tol 20 (at ts i) (pointOf pts i) (at ts (i + 1)) (pointOf pts (i + 1))) in
+    let walk = map (λ (s : Sample). s .point) (samples (evalFit fit) ms tol depth (at ts i) (pointOf pts i) (at ts (i + 1)) (pointOf pts (i + 1))) in
     cond (le (at ts (i + 1) ⊖ at ts i) 1e-12) (pointOf pts (i + 1) ∷ []) walk
 
 -- where the whole sum hardly grows no point but the start is kept, and no run has a sample: the sums never fall

@@ -2,8 +2,8 @@
 use mathlib.Core.Path.{_≡_}
 use mathlib.Core.Bool.{true}
 use mathlib.Core.List.{List, []}
-use Prim.Native.Nat.{ℕ, _+_, _*_, _<_, _≤_}
-use lib.ListN.{length, getD}
+use Prim.Native.Nat.{ℕ, _+_, _-_, _*_, _<_, _≤_}
+use lib.ListN.{length, getD, take, drop}
 use lib.Ieee.{Float, le}
 use Rattle.floats.specs.Numbers.{_⊖_, _⊘_, f0, f1, heldIn, at}
 use Rattle.floats.specs.Lists.{row}
@@ -45,3 +45,13 @@ unfoldable pub fitAt : List Float → List Float → List Float → ℕ → ℕ 
 fitAt fts fps slopes m ch t c =
     let w = pieceOf fts m t in
     pieceAt t (at fts w) (at fts (w + 1)) (at fps (w * ch + c)) (at slopes (c * m + w)) (at fps ((w + 1) * ch + c)) (at slopes (c * m + (w + 1)))
+
+-- ---- the tables of a fit of n points: n chord sums, then as many times; the w numbers of the points, then as many slopes
+abbrev pub fitTimes : ℕ → List Float → List Float
+fitTimes n ks = take (n + n - n) (drop n ks)
+
+abbrev pub fitPoints : ℕ → List Float → List Float
+fitPoints w cs = take w cs
+
+abbrev pub fitSlopes : ℕ → List Float → List Float
+fitSlopes w cs = take (w + w - w) (drop w cs)

@@ -1,5 +1,5 @@
 -- LAWS. The fit in memory is evaluated as the fit. Assumes nothing.
-use mathlib.Core.Path.{_≡_, refl, _∙_, fun-ext}
+use mathlib.Core.Path.{_≡_, refl, _∙_}
 use mathlib.Core.Bool.{Bool, true, false, cond}
 use mathlib.Core.List.{List, []}
 use Prim.Native.Nat.{ℕ, zero, suc, _+_, _*_, _-_, _<_, _≤_}
@@ -84,6 +84,3 @@ module _ {fit : Fit} {fts fps slopes : List Float} {m ch : ℕ} (held : FitHeld 
       let h = piece-below fts m t (held .room .two) in
       eval-piece fit t
       ∙ rw (found, wide (pieceOf fts m t) (omega arith)) (upto-below (evalPiece fit (pieceOf fts m t) t) _ ch (λ c l. at-piece t (pieceOf fts m t) h c l))
-
-  pub eval-same : evalFit fit ≡ (λ (t : Float). upto (fitAt fts fps slopes m ch t) ch)
-  eval-same = fun-ext eval-is

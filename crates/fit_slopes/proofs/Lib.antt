@@ -1,2 +1,1 @@
-pub mod Cubics
 pub mod Slopes

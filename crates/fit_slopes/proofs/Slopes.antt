@@ -1,22 +1,20 @@
 -- LAWS. Two knots, or more, for either kind of slope. Assumes nothing.
-use mathlib.Core.Path.{_≡_, refl, sym, ap}
-use mathlib.Core.List.{List, _++_}
-use Prim.Native.Nat.{ℕ, _+_, _-_, _<_, _≤_}
+use mathlib.Core.Path.{_≡_, refl, sym}
+use mathlib.Core.List.{List}
+use Prim.Native.Nat.{ℕ, _-_, _≤_}
 use native.Mathlib.Omega.{arith}
-use lib.ListN.{length, set, drop}
+use lib.ListN.{length, set}
 use lib.Ieee.{Float}
 use borrow.Author.Tests.{eq-eqb, ne-eqb}
 use Rattle.floats.specs.Lists.{filled}
-use Rattle.floats.specs.Fill.{filling-none, filling-more, upto-same}
-use Rattle.fit_slopes.specs.Slopes.{secant, widened, akimaAt, akimaSlope, bent, cubicSlope}
+use Rattle.floats.specs.Fill.{filling-none, filling-more}
+use Rattle.fit_slopes.specs.Slopes.{secant, widened, akimaAt, akimaSlope}
+use Rattle.fit_slopes.specs.Filled.{filled-same-as}
 
 pub both-filled : {v : Float} (l : List Float) {u : Float} → 2 ≤ length l → v ≡ u → set (set l 0 v) 1 v ≡ filled (λ (k : ℕ). u) 2 l
 both-filled {v} l {u} h e =
     let f : ℕ → Float = λ (k : ℕ). u in
     filling-more {f = f} {i = 1} (filling-more {f = f} {i = 0} (filling-none {f = f} {l = l}) (omega arith) e) (omega arith) e .is
-
-filled-same-as : (f g : ℕ → Float) (m n : ℕ) (l : List Float) → m ≡ n → ((k : ℕ) → f k ≡ g k) → filled f m l ≡ filled g n l
-filled-same-as f g m n l e h = rw e (ap (λ (u : List Float). u ++ drop n l) (upto-same f g h n))
 
 module _ (ts ys : List Float) (n : ℕ) (l : List Float) where
   akima-two : n ≡ 2 → (k : ℕ) → secant ts ys 0 ≡ akimaSlope ts ys n k
@@ -27,22 +25,8 @@ module _ (ts ys : List Float) (n : ℕ) (l : List Float) where
   unfolding akimaSlope
   akima-more e k = rw (ne-eqb n 2 e)
 
-  cubic-two : n ≡ 2 → (k : ℕ) → secant ts ys 0 ≡ cubicSlope ts ys n k
-  unfolding cubicSlope
-  cubic-two e k = rw (eq-eqb n 2 e)
-
-  cubic-more : (n ≡ 2 → ⊥) → (k : ℕ) → bent ts ys (n - 1) k ≡ cubicSlope ts ys n k
-  unfolding cubicSlope
-  cubic-more e k = rw (ne-eqb n 2 e)
-
   pub akima-straight : n ≡ 2 → filled (λ (k : ℕ). secant ts ys 0) 2 l ≡ filled (akimaSlope ts ys n) n l
   akima-straight e = filled-same-as (λ (k : ℕ). secant ts ys 0) (akimaSlope ts ys n) 2 n l (sym e) (akima-two e)
 
   pub akima-many : (n ≡ 2 → ⊥) → filled (akimaAt (widened ts ys n)) n l ≡ filled (akimaSlope ts ys n) n l
   akima-many e = filled-same-as (akimaAt (widened ts ys n)) (akimaSlope ts ys n) n n l refl (akima-more e)
-
-  pub cubic-straight : n ≡ 2 → filled (λ (k : ℕ). secant ts ys 0) 2 l ≡ filled (cubicSlope ts ys n) n l
-  cubic-straight e = filled-same-as (λ (k : ℕ). secant ts ys 0) (cubicSlope ts ys n) 2 n l (sym e) (cubic-two e)
-
-  pub cubic-many : (n ≡ 2 → ⊥) → 0 < n → filled (bent ts ys (n - 1)) (n - 1 + 1) l ≡ filled (cubicSlope ts ys n) n l
-  cubic-many e h = let g : n - 1 + 1 ≡ n = omega arith in filled-same-as (bent ts ys (n - 1)) (cubicSlope ts ys n) (n - 1 + 1) n l g (cubic-more e)

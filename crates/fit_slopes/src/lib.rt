@@ -1,5 +1,4 @@
-// ASPLINE and CSPLINE: the slopes at the knots, for one channel of numbers.
+// ASPLINE: the slopes at the knots, for one channel of numbers; and the steps that CSPLINE takes too.
 pub mod akima;
-pub mod cubic;
 pub mod sizes;
 pub mod steps;

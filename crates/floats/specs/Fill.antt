@@ -3,7 +3,7 @@ use mathlib.Core.Path.{_≡_, refl, sym, _∙_, ap}
 use mathlib.Core.List.{List, [], _∷_, _++_, append-nil}
 use Prim.Native.Nat.{ℕ, zero, suc, _+_, _*_, _-_, _<_, _≤_}
 use native.Mathlib.Numerals.{add-one}
-use native.Mathlib.Nat.{suc-mul, mul-le-mul-right, le-trans, eq-or-lt-of-le, ne-of-gt, ne-of-lt}
+use native.Mathlib.Nat.{suc-mul, mul-le-mul-right, le-trans, eq-or-lt-of-le, ne-of-gt}
 use mathlib.Core.Logic.{_⊎_, inl, inr, ⊎-elim}
 use native.Mathlib.Omega.{arith}
 use lib.ListN.{length, getD, drop, set, length-append, length-drop, length-set, List·getD-append}
@@ -128,31 +128,6 @@ pub upto-below : {A : Type 0} (f g : ℕ → A) (n : ℕ) → ((k : ℕ) → k <
 unfolding upto
 upto-below f g zero e = refl
 upto-below f g (suc n) e = rw (upto-below f g n (λ k h. e k (omega arith)), e n (omega arith))
-
--- A loop's invariant for a change in place from the back: of xs, which was l, those from i on are f i, f (i + 1), .., and those before i are as they were.
-pub record Lowering {A : Type 0} (d : A) (f : ℕ → A) (i : ℕ) (l xs : List A) : Type 0 where
-  pub same : length xs ≡ length l
-  pub done : (k : ℕ) → i ≤ k → k < length l → getD xs k d ≡ f k
-  pub todo : (k : ℕ) → k < i → getD xs k d ≡ getD l k d
-
-module _ {A : Type 0} {d : A} {f : ℕ → A} where
-  pub lowering-none : (l : List A) → Lowering d f (length l) l l
-  lowering-none l = record { same = refl; done = λ k h g. absurd (omega arith); todo = λ k h. refl }
-
-  pub lowering-more : {i j : ℕ} {l xs : List A} {v : A} → Lowering d f j l xs → j ≡ i + 1 → i < length l → v ≡ f i → Lowering d f i l (set xs i v)
-  lowering-more {i} {j} {l} {xs} {v} b ej lt e = record {
-    same = length-set xs i v ∙ b .same;
-    done = λ k h g. ⊎-elim
-        (λ ek. rw (← ek) (getD-set-same xs i v d (omega (arith, b .same)) ∙ e))
-        (λ ik. getD-set-other xs i k v d (ne-of-gt ik) ∙ b .done k (omega arith) g)
-        (eq-or-lt-of-le h);
-    todo = λ k h. getD-set-other xs i k v d (ne-of-lt h) ∙ b .todo k (omega arith);
-  }
-
-  pub lowering-end : {i : ℕ} {l xs : List A} → Lowering d f i l xs → ((k : ℕ) → k < i → getD l k d ≡ f k) → xs ≡ upto f (length l)
-  lowering-end {i} {l} {xs} b low = ext-getD d xs (upto f (length l)) (b .same ∙ sym (length-upto f (length l))) (λ k h.
-      let g : k < length l = omega (arith, b .same) in
-      ⊎-elim (λ lt. b .todo k lt ∙ low k lt) (λ ge. b .done k ge g) (lt-or-le k i) ∙ sym (at-upto f (length l) k d g))
 
 -- a slice filled to its end
 pub filled-all : {A : Type 0} (f : ℕ → A) (l : List A) {i : ℕ} {xs : List A} → i ≡ length l → xs ≡ filled f i l → xs ≡ upto f (length l)

@@ -1,6 +1,6 @@
 -- LAWS. The rounded operations where they are exact: by one, by zero, of a number with itself, of whole numbers. Assumes nothing.
 use mathlib.Core.Path.{_≡_, refl, sym, ap, _∙_, subst}
-use mathlib.Core.Logic.{_⊎_, ⊎-elim}
+use mathlib.Core.Logic.{⊎-elim}
 use Prim.Native.Nat.{ℕ, zero, suc, _+_, _-_, _*_, _/_, _%_, _^_, _≤_, _<_}
 use native.Mathlib.Nat.{mul-assoc, mul-comm, mul-right-comm, mul-one, one-mul, zero-mul, mul-pos, zero-lt-suc, not-le-of-lt, lt-irrefl}
 use native.Mathlib.Nat.{eq-of-mul-eq-mul-right, lt-of-mul-lt-mul-right, mul-lt-mul-of-pos-right, mul-le-mul-right, mul-le-mul}
@@ -12,7 +12,7 @@ use lib.Dec.{T, leb, ltb, eqb, ltb→lt, leb→le}
 use lib.Pow.{pow-add, pow-pos, pow-lt}
 use lib.Ieee.{Float, nan, inf, fin, Format, binary32, binary64, prec, emax, low, unlike, up, down, round, sum, add, sub, mul, div, neg, lt}
 use lib.Ieee.{le, odd, units, fits, toBits, ofBits, ofInt}
-use lib.Ieee.Fits.{down-pos, up-pos, and-l, and-r, round-fits, ofInt-fits}
+use lib.Ieee.Fits.{down-pos, up-pos, and-l, and-r, round-fits}
 use lib.Ieee.Bits.{ofBits-toBits}
 use lib.Ieee.Exact.{HasValue, round-exact}
 use lib.Ieee.Nearest.{div-same}
@@ -20,7 +20,7 @@ use lib.Ieee.Scale.{finite, round-same}
 use lib.Ieee.Back.{round-whole}
 use lib.Ieee.Order.{round-mono}
 use borrow.Author.Tests.{lt-ltb, le-ltb, ne-eqb, eq-eqb}
-use Rattle.floats.specs.Numbers.{_⊕_, _⊖_, _⊗_, f0, f1}
+use Rattle.floats.specs.Numbers.{_⊕_, _⊖_, _⊗_, f1}
 
 -- ---- a value that fits is written in one way
 
@@ -116,10 +116,6 @@ naught s = fin s 0 (pos 0)
 pub one-is : f1 ≡ one
 unfolding ofBits
 one-is = refl
-
-pub naught-is : f0 ≡ naught false
-unfolding ofBits
-naught-is = refl
 
 -- the number without the sign of a zero
 abbrev pub tidy : Float → Float
@@ -385,13 +381,6 @@ whole-lt-of a b (fin false m e) (fin false n d) p q =
 
 pub whole-lt : (a b : ℕ) → a ≤ far → b ≤ far → lt (whole a) (whole b) ≡ ltb a b
 whole-lt a b h l = whole-lt-of a b (whole a) (whole b) (whole-value a h) (whole-value b l)
-
-pub whole-fits : (n : ℕ) → T (fits binary64 (whole n))
-whole-fits n = ofInt-fits binary64 (pos n)
-
-pub whole-one : whole 1 ≡ one
-unfolding ofInt
-whole-one = refl
 
 le-self : (x : Float) → T (finite x) → le x x ≡ true
 unfolding le

@@ -1,6 +1,5 @@
 pub mod Numbers
 pub mod Lists
-pub mod Words
 pub mod Fill
 pub mod Splice
 pub mod FloatLaws

@@ -1,7 +1,6 @@
 // Numbers and their bits, with nothing asked of either, and their sizes.
 ghost use mathlib.Core.Path.{_≡_};
 ghost use Rattle.floats.specs.Numbers.{absOf, largerOf, heldIn};
-ghost use Rattle.floats.specs.Words.{finiteBits};
 ghost use lib.Ieee as Ieee;
 ghost use lib.Ieee.{binary64};
 
@@ -28,13 +27,6 @@ pub fn of_bits(n: u64) -> f64
     } else {
         f64::from_bits(n)
     }
-}
-
-// Whether a pattern stands for a finite number.
-pub fn is_finite(n: u64) -> bool
-    ensures { λ r. ⌜ r ≡ finiteBits n ⌝ }
-{
-    n % 0x8000000000000000 < 0x7ff0000000000000
 }
 
 pub fn abs(x: f64) -> f64

@@ -1,5 +1,5 @@
 -- DEFINITIONS. The layout: each number of a row, a saved state and a store, named once. Assumes nothing.
-use Prim.Native.Nat.{ℕ, _+_, _^_}
+use Prim.Native.Nat.{ℕ, _+_, _-_, _^_}
 
 -- ---- What is chosen; the rest of this file follows from it.
 -- X Y Z A B C U V W E
@@ -23,7 +23,7 @@ abbrev pub listCodes : ℕ
 listCodes = axisCodes + riderCodes
 
 abbrev pub lastCode : ℕ
-lastCode = axisCodes + 4
+lastCode = listCodes - 1
 
 -- I, then J, then K, as the axes X, Y, Z
 abbrev pub cOffset : ℕ

@@ -1,4 +1,9 @@
 // The layout: each number of a row, a saved state and a store, named once, as specs/Layout has them.
+ghost use mathlib.Core.Path.{_≡_};
+ghost use Prim.Native.Nat.{_/_};
+ghost use lib.Dec.{eqb};
+ghost use lib.ListN.{length};
+ghost use Rattle.layout.specs.Layout.{rowWords, stateWords};
 
 // X Y Z A B C U V W E.
 pub const AXIS_CODES: usize = 10;
@@ -83,3 +88,17 @@ pub const STATE_WORDS: usize = W_HELD + 1;
 
 // Points of a curve: its start, and one for each block.
 pub const MOST_POINTS: usize = MOST_HELD as usize + 1;
+
+// Whether words are as many as a saved state has.
+pub fn is_state(words: &[u64]) -> bool
+    ensures { λ r. ⌜ r ≡ eqb (length (now (words .entry))) stateWords ⌝ }
+{
+    words.len() == STATE_WORDS
+}
+
+// How many whole rows words have room for.
+pub fn whole_rows(words: &[u64]) -> usize
+    ensures { λ r. ⌜ r ≡ length (now (words .entry)) / rowWords ⌝ }
+{
+    words.len() / ROW_WORDS
+}

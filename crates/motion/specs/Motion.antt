@@ -1,6 +1,5 @@
 -- DEFINITIONS. What a motion word says: the one place that judges its number. Assumes nothing.
 use Prim.Native.Nat.{ℕ}
-use mathlib.Core.Path.{_≡_, sym, _∙_, ap}
 use mathlib.Core.Bool.{Bool, true, false, cond}
 use lib.Dec.{leb, eqb}
 use Rattle.motion.specs.declared.Kind.{Kind}
@@ -81,12 +80,3 @@ isBasis m = basisKind (kindOf m)
 
 unfoldable pub isCubic : ℕ → Bool
 isCubic m = cubicKind (kindOf m)
-
--- what code learns by asking the kind of a word
-pub spline-told : (m n : ℕ) (k : Kind) (b : Bool) → n ≡ m → k ≡ kindOf n → b ≡ splineKind k → isSpline m ≡ b
-unfolding isSpline
-spline-told m n k b e f g = ap (λ (z : ℕ). splineKind (kindOf z)) (sym e) ∙ ap splineKind (sym f) ∙ sym g
-
-pub other-told : (m : ℕ) (k : Kind) (b : Bool) → k ≡ kindOf m → b ≡ otherKind k → isOther m ≡ b
-unfolding isOther
-other-told m k b f g = ap otherKind (sym f) ∙ sym g

@@ -1,4 +1,4 @@
--- What the steps of a push ask of the state and the row, and the room of a block that is buffered. Assumes nothing.
+-- LAWS. A block that passes its checks has what the steps of a push ask; the room of one that is buffered. Assumes nothing.
 use Prim.Native.Nat.{ℕ, _+_, _*_, _/_, _%_, _<_, _≤_, min}
 use mathlib.Core.Path.{_≡_, sym, _∙_, ap}
 use mathlib.Core.Bool.{Bool, true, false, cond, not, _&&_, true≢false, false≢true}
@@ -8,28 +8,22 @@ use native.Mathlib.Nat.{div-add-mod'}
 use lib.Dec.{leb, eqb}
 use lib.ListN.{length, getD}
 use borrow.Author.Tests.{leb-false, eq-eqb, ne-eqb, eqb-true, eqb-false}
-use Rattle.layout.specs.Layout.{rowWords, stateWords, listCodes, mostHeld, wWarned}
-use Rattle.motion.specs.Motion.{kindOf, splineKind, isSpline, isOther, lastMotion}
+use Rattle.layout.specs.Layout.{rowWords, mostHeld, wWarned}
+use Rattle.motion.specs.Motion.{kindOf, splineKind, isSpline, isOther}
 use Rattle.row_cells.specs.Bits.{has}
 use Rattle.row_check.specs.Check.{rowCheck}
 use Rattle.row_cells.specs.Row.{motionOf}
 use Rattle.row_check.specs.CheckLaws.{check-length, check-motion}
 use Rattle.floats.specs.Truth.{by-bit, and-t, cond-t, cond-f}
-use Rattle.saved_state.specs.State.{axisCount, held, motionNow, stateOk, savedCheck, geometricMask}
+use Rattle.saved_state.specs.State.{held, motionNow, stateOk, savedCheck, geometricMask}
 use Rattle.saved_state.specs.Asks.{Listed}
 use Rattle.saved_state.specs.StateLaws.{Good, good, axes-few}
 use Rattle.push_check.specs.Blocks.{motionThen, planeThen, emits, kept, news, isFull, pushCheck}
+use Rattle.push_check.specs.Asks.{Block}
 use Rattle.push_check.specs.Resolved.{resolved, due}
 use Rattle.push_check.specs.declared.Resolved.{Resolved}
 use Rattle.push_check.specs.declared.Due.{Due}
 use Rattle.push_check.specs.declared.Due.the-variants.{Refused, Push}
-
--- what the steps of a push ask of the state and the row
-pub record Block (st r : List ℕ) : Type 0 where
-  pub long : length st ≡ stateWords
-  pub few : axisCount st ≤ listCodes
-  pub wide : length r ≡ rowWords
-  pub word : motionOf r ≤ lastMotion
 
 pub block : (st r : List ℕ) → stateOk st ≡ true → rowCheck r ≡ 0 → Block st r
 block st r p q =

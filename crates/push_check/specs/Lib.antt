@@ -1,3 +1,4 @@
 pub mod Blocks
+pub mod Asks
 pub mod BlockLaws
 pub mod Resolved

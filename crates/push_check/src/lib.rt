@@ -2,19 +2,19 @@
 use layout::MOST_HELD;
 use layout::R_MOTION;
 use layout::R_PLANE;
-use layout::ROW_WORDS;
 use layout::W_HELD;
 use layout::W_MOTION;
 use layout::W_PLANE;
 use layout::W_WARNED;
+use layout::whole_rows;
 use motion::Kind;
 use motion::is_other;
 use motion::is_spline;
 use motion::kind_of;
 use row_cells::has_bit;
 use row_check::check_row;
+use saved_check::saved_check;
 use saved_state::state::geometric_mask;
-use saved_state::state::saved_check;
 ghost use mathlib.Core.Path.{_≡_};
 ghost use mathlib.Core.Bool.{_&&_, not, cond};
 ghost use Prim.Native.Nat.{_/_, _≤_, min};
@@ -24,7 +24,7 @@ ghost use Rattle.layout.specs.Layout.{rowWords, mostHeld};
 ghost use Rattle.motion.specs.Motion.{splineKind, isOther, lastMotion};
 ghost use Rattle.row_cells.specs.Bits.{has};
 ghost use Rattle.push_check.specs.Blocks.{orNow};
-ghost use Rattle.push_check.specs.BlockLaws.{Block};
+ghost use Rattle.push_check.specs.Asks.{Block};
 ghost use Rattle.push_check.specs.Resolved.{resolved, due};
 
 // What a block comes to at a state: the motion then in force, its kind, the plane; whether the held spline goes out first
@@ -109,7 +109,7 @@ fn resolve(state: &[u64], row: &[u64]) -> Resolved
 fn block_room(store: &[u64]) -> u64
     ensures { λ r. ⌜ r ≡ min mostHeld (length (now (store .entry)) / rowWords) ⌝ }
 {
-    let n = store.len() / ROW_WORDS;
+    let n = whole_rows(store);
     if n < MOST_HELD as usize {
         return n as u64;
     }

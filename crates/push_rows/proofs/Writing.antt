@@ -1,4 +1,4 @@
--- A block's own rows, written by what the code has at hand. Assumes nothing.
+-- LAWS. A block's own rows, written by what the code has at hand. Assumes nothing.
 use Prim.Native.Nat.{ℕ, _+_, _*_, _≤_, _<_}
 use mathlib.Core.Path.{_≡_, sym, _∙_, ap}
 use mathlib.Core.List.{List, [], _∷_}

@@ -1,4 +1,4 @@
--- An arc's answer depends on the geometric axes only by which codes they have. Assumes nothing.
+-- LAWS. An arc's answer depends on the geometric axes only by which codes they have. Assumes nothing.
 use Prim.Native.Nat.{ℕ, zero, suc, _+_}
 use mathlib.Core.Path.{_≡_, refl, sym, _∙_, ap₂, subst, fun-ext}
 use mathlib.Core.Bool.{Bool, true, false, cond, false≢true}

@@ -1,4 +1,4 @@
--- A block's own rows are not too many. Assumes nothing.
+-- LAWS. A block's own rows are not too many. Assumes nothing.
 use Prim.Native.Nat.{ℕ, _≤_}
 use mathlib.Core.Bool.{Bool, true, false}
 use mathlib.Core.List.{List}
@@ -17,7 +17,7 @@ use Rattle.saved_state.specs.State.{tolerance, geometric, position}
 use Rattle.push_check.specs.Blocks.{motionThen, planeThen}
 use Rattle.push_rows.specs.Answer.{answerAs, ownAnswer}
 
--- "held in 1..100,000"
+-- 4.18: an arc has at most 100,000 rows
 few-centre : (tol : Float) (gs : List ℕ) (plane : ℕ) (cw : Bool) (pos : ℕ → Option ℕ) (r : List ℕ) (d : Ends) (m : Centre)
     → length (fromCentre tol gs plane cw pos r d m .rows) ≤ 100000
 unfolding fromCentre arcRows countOf passed

@@ -1,4 +1,4 @@
--- What the code plans for a block's own rows, and that it is the definition's answer. Assumes nothing.
+-- CONTRACTS. What the code plans for a block's own rows, with the laws that it is the definition's answer. Assumes nothing.
 use Prim.Native.Nat.{ℕ, _+_, _*_, _^_, _<_, _≤_}
 use mathlib.Core.Path.{_≡_, sym, _∙_, ap, subst, fun-ext}
 use mathlib.Core.Bool.{Bool, true, false, cond}
@@ -28,7 +28,8 @@ use Rattle.saved_state.specs.StateLaws.{good, point-small}
 use Rattle.saved_state.specs.Axes.{geometric-mask-small, mask-members}
 use Rattle.push_check.specs.Blocks.{motionThen, planeThen}
 use Rattle.push_rows.specs.Answer.{answerAs, ownAnswer}
-use Rattle.push_check.specs.BlockLaws.{Block, block}
+use Rattle.push_check.specs.Asks.{Block}
+use Rattle.push_check.specs.BlockLaws.{block}
 use Rattle.push_check.specs.declared.Resolved.{Resolved}
 use Rattle.push_check.specs.Resolved.{resolved}
 use Rattle.push_rows.specs.ArcSame.{arc-same}

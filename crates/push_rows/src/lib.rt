@@ -1,8 +1,8 @@
 // A block's own rows: what they come to at the positions before it, and their writing.
+use arc_group::plan_arc;
+use arc_group::write_arc;
 use arc_rows::Plan;
 use arc_rows::Way;
-use arc_rows::plan_arc;
-use arc_rows::write_arc;
 use floats::of_bits;
 use layout::AXIS_CODES;
 use layout::W_KNOWN;

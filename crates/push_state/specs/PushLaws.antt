@@ -1,4 +1,4 @@
--- Laws of a push: what each step of its state keeps, so that the next may read it. Assumes nothing.
+-- LAWS. A push: what each step of its state keeps, so that the next may read it. Assumes nothing.
 use Prim.Native.Nat.{ℕ, zero, suc, _+_, _-_, _<_, _≤_}
 use mathlib.Core.Path.{_≡_, refl, sym, _∙_, ap}
 use mathlib.Core.Bool.{Bool, true, false, _&&_, cond}
@@ -11,13 +11,13 @@ use lib.Dec.{eqb}
 use Rattle.floats.specs.Lists.{upto, member, spliced}
 use Rattle.floats.specs.Fill.{length-upto}
 use Rattle.floats.specs.Splice.{length-spliced}
-use Rattle.layout.specs.Layout.{axisCodes, rCells, wAxes, wMotion, wKnown, wStart, wDegree, wHeld, stateWords, cSD, listCodes}
+use Rattle.layout.specs.Layout.{axisCodes, rCells, wAxisCount, wAxes, wMotion, wKnown, wStart, wDegree, wHeld, stateWords, cSD, listCodes}
 use Rattle.row_cells.specs.Codes.{geometricOf}
 use Rattle.row_cells.specs.Bits.{has, withBit}
 use Rattle.row_cells.specs.Row.{presentOf, number}
 use Rattle.floats.specs.Truth.{by-bit}
-use Rattle.saved_state.specs.State.{axisCount, held, degree, geometric, position, placed}
-use Rattle.push_check.specs.BlockLaws.{Block}
+use Rattle.saved_state.specs.State.{plainDegree, axisCount, held, degree, geometric, position, placed}
+use Rattle.push_check.specs.Asks.{Block}
 use Rattle.push_state.specs.Pushed.{trackTo, forgotten, opened, buffered, degreeWith}
 
 -- ---- a word of a spliced list
@@ -53,7 +53,7 @@ pub record SameAxes (st st′ : List ℕ) : Type 0 where
 pub same-codes : (st st′ : List ℕ) → SameAxes st st′ → axisCount st ≤ listCodes → length st ≡ stateWords
     → take (axisCount st′) (drop wAxes st′) ≡ take (axisCount st) (drop wAxes st)
 same-codes st st′ s few long =
-    let n : axisCount st′ ≡ axisCount st = s .low 1 (omega arith) in
+    let n : axisCount st′ ≡ axisCount st = s .low wAxisCount (omega arith) in
     ap (λ (k : ℕ). take k (drop wAxes st′)) n
     ∙ ext-getD 0 (take (axisCount st) (drop wAxes st′)) (take (axisCount st) (drop wAxes st))
     (simp (length-take, length-drop, s .long))
@@ -112,7 +112,7 @@ to-keeps (suc n) st r j h a b =
 
 -- ---- each step keeps what the next one asks
 pub block-same : {st st′ r : List ℕ} → Block st r → SameAxes st st′ → Block st′ r
-block-same b s = record { long = s .long ∙ b .long; few = rw (s .low 1 (omega arith)) (b .few); wide = b .wide; word = b .word }
+block-same b s = record { long = s .long ∙ b .long; few = rw (s .low wAxisCount (omega arith)) (b .few); wide = b .wide; word = b .word }
 
 abbrev pub none-at : ℕ → ℕ
 none-at k = 0
@@ -151,7 +151,7 @@ pub same-opened : (st : List ℕ) → length st ≡ stateWords → SameAxes st (
 unfolding opened
 same-opened st h =
     same-trans (same-spliced st wStart (startWords st) (omega arith) (omega (arith, length-startWords st)))
-    (same-set (spliced st wStart (startWords st)) wDegree 3 (omega arith))
+    (same-set (spliced st wStart (startWords st)) wDegree plainDegree (omega arith))
 
 pub same-buffered : (st r : List ℕ) → length st ≡ stateWords → SameAxes st (buffered st r)
 unfolding buffered

@@ -12,7 +12,7 @@ use Rattle.layout.specs.Layout.{axisCodes, cSD, rCells, rowWords, wMotion, wPla
 use Rattle.motion.specs.Motion.{isSpline}
 use Rattle.row_cells.specs.Bits.{has, withBit}
 use Rattle.row_cells.specs.Row.{number, motionOf, presentOf, outRow}
-use Rattle.saved_state.specs.State.{degree, held, geometric, position, placed}
+use Rattle.saved_state.specs.State.{plainDegree, degree, held, geometric, position, placed}
 use Rattle.push_check.specs.Blocks.{motionThen, planeThen, emits, kept, news}
 
 -- ---- the state afterwards. 3.13: positions take the geometric cells present
@@ -26,7 +26,7 @@ forgotten st = set (spliced st wStart (upto (λ (k : ℕ). 0) (axisCodes + 1))) 
 
 -- 3.11: the positions become the curve start, the degree 3
 unfoldable pub opened : List ℕ → List ℕ
-opened st = set (spliced st wStart (getD st wKnown 0 ∷ upto (λ (k : ℕ). Option·getD (position st k) 0) axisCodes)) wDegree 3
+opened st = set (spliced st wStart (getD st wKnown 0 ∷ upto (λ (k : ℕ). Option·getD (position st k) 0) axisCodes)) wDegree plainDegree
 
 -- 3.12: the degree that SD sets
 unfoldable pub degreeWith : ℕ → Option Float → ℕ

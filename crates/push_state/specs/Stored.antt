@@ -10,7 +10,8 @@ use Rattle.motion.specs.Motion.{splineKind, isSpline}
 use Rattle.row_cells.specs.Row.{outRow}
 use Rattle.push_check.specs.declared.Resolved.{Resolved}
 use Rattle.push_check.specs.Blocks.{isFull}
-use Rattle.push_check.specs.BlockLaws.{Block, full-room}
+use Rattle.push_check.specs.Asks.{Block}
+use Rattle.push_check.specs.BlockLaws.{full-room}
 use Rattle.push_check.specs.Resolved.{resolved}
 use Rattle.push_state.specs.Pushed.{pushStore}
 

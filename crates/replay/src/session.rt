@@ -1,46 +1,20 @@
 // What a line asks for, done: a call and its answer, or a change of what is lent.
-use crate::answer::put_answer;
 use call_reply::Reply;
-use replay_text::ask::Ask;
-use replay_text::memory::MOST_LENGTH;
-use replay_text::memory::OLD_WORDS;
-use replay_text::memory::ROOM_WORDS;
-use replay_text::memory::STORE_WORDS;
-use replay_text::memory::TEXT_ROOM;
-use replay_text::memory::copy;
-use replay_text::memory::is_resting;
-use replay_text::memory::part;
-use replay_text::memory::rest;
-use replay_text::memory::row_words;
-use replay_text::memory::same;
-use replay_text::output::put_line_number;
-
-// The words lent from now on, and where the output stands.
-pub struct Lent {
-    pub state: usize,
-    pub store: usize,
-    pub rows: usize,
-    pub at: usize,
-}
-
-// The words of the state and the store as they are before a call.
-fn save(state: &[u64], store: &[u64], old: &mut [u64]) {
-    let n = part(MOST_LENGTH, old);
-    copy(state, &mut old[..n]);
-    copy(store, &mut old[n..]);
-}
-
-// Whether state, store and row buffer are as they were: `old` has the state's words and then the store's.
-fn is_untouched(state: &[u64], store: &[u64], rows: &[u64], old: &[u64]) -> bool {
-    if !same(state, old) {
-        return false;
-    }
-    let n = part(MOST_LENGTH, old);
-    if !same(store, &old[n..]) {
-        return false;
-    }
-    is_resting(rows)
-}
+use replay_answer::put_answer;
+use replay_ask::Ask;
+use replay_lent::Lent;
+use replay_lent::changed;
+use replay_lent::is_call;
+use replay_lent::is_kept;
+use replay_lent::lent_after;
+use replay_lent::save;
+use replay_lent::tidy;
+use replay_memory::MOST_LENGTH;
+use replay_memory::OLD_WORDS;
+use replay_memory::ROOM_WORDS;
+use replay_memory::STORE_WORDS;
+use replay_memory::TEXT_ROOM;
+use replay_memory::part;
 
 fn call_start(state: &mut [u64], lent: usize, tol: u64, codes: &[u64], count: u64) -> Reply {
     let n = part(lent, state);
@@ -80,16 +54,6 @@ fn call_close(state: &mut [u64], store: &[u64], rows: &mut [u64], lent: Lent) ->
     flattener::call::flat_close(&mut state[..n], &store[..m], &mut rows[..k])
 }
 
-fn is_call(ask: Ask) -> bool {
-    match ask {
-        Ask::Start { tol: _, count: _ } => true,
-        Ask::Seed { code: _, bits: _ } => true,
-        Ask::Push { count: _ } => true,
-        Ask::Close => true,
-        _ => false,
-    }
-}
-
 // What the call of a line answers.
 fn reply_to(
     ask: Ask,
@@ -104,21 +68,6 @@ fn reply_to(
         Ask::Seed { code, bits } => call_seed(state, lent.state, code, bits),
         Ask::Push { count } => call_push(state, store, rows, lent, words, count),
         _ => call_close(state, store, rows, lent),
-    }
-}
-
-// Whether a call left the memory alone that it may not write: any, where it refused.
-fn is_kept(r: Reply, state: &[u64], store: &[u64], rows: &[u64], old: &[u64]) -> bool {
-    if r.code == 0 {
-        return true;
-    }
-    is_untouched(state, store, rows, old)
-}
-
-// The row buffer is put to rest again behind a call that wrote rows.
-fn tidy(r: Reply, rows: &mut [u64]) {
-    if r.code == 0 {
-        rest(rows, row_words(r.count));
     }
 }
 
@@ -139,54 +88,6 @@ fn called(
     let at = put_answer(r, kept, rows, out, lent.at);
     tidy(r, rows);
     at
-}
-
-// Sets a word, where there is one at that place.
-fn poke(words: &mut [u64], place: u64, word: u64) -> bool {
-    let i = place as usize;
-    if i >= words.len() {
-        return false;
-    }
-    words[i] = word;
-    true
-}
-
-// Whether the line could be done that asks for no call.
-fn poked(ask: Ask, state: &mut [u64], store: &mut [u64]) -> bool {
-    match ask {
-        Ask::Bad => false,
-        Ask::Poke { place, word } => poke(state, place, word),
-        Ask::PokeStore { place, word } => poke(store, place, word),
-        _ => true,
-    }
-}
-
-// A line that cannot be done is answered by its number.
-fn changed(
-    ask: Ask,
-    number: u64,
-    at: usize,
-    state: &mut [u64],
-    store: &mut [u64],
-    out: &mut [u8],
-) -> usize {
-    if poked(ask, state, store) {
-        return at;
-    }
-    put_line_number(out, at, b"bad", number)
-}
-
-// What is lent behind the line, with the output at `at`.
-fn lent_after(ask: Ask, lent: Lent, at: usize) -> Lent {
-    let mut after = lent;
-    after.at = at;
-    match ask {
-        Ask::Room(n) => after.rows = row_words(n),
-        Ask::Blocks(n) => after.store = row_words(n),
-        Ask::Length(n) => after.state = n as usize,
-        _ => {}
-    }
-    after
 }
 
 // The line `number` of the input, done.

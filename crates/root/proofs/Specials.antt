@@ -12,7 +12,7 @@ use lib.Ieee.Fits.{down-pos}
 use lib.Ieee.Bits.{is-true, is-false}
 use lib.Ieee.Exact.{HasValue, odd-sign}
 use Rattle.root.specs.Root.{sqrt}
-use Rattle.root.proofs.Values.{fields}
+use Rattle.root.specs.Values.{fields}
 
 pub of-zero : 0 ≡ toBits binary64 (sqrt binary64 (ofBits binary64 0))
 unfolding toBits sqrt ofBits

@@ -1,15 +1,10 @@
 -- DEFINITIONS. The square root of IEEE 754 over `lib.Ieee`: the exact root to the format's nearest value, ties to the even one. Assumes nothing.
--- There are no real numbers here: a root is compared by squares of whole numbers.
-use Prim.Native.Nat.{ℕ, zero, suc, _+_, _-_, _*_, _/_, _^_, _≤_, _<_, compare}
+-- There are no real numbers here: a root is compared by squares of whole numbers. What the steps below come to is said without them in two laws
+-- of modules beside this one: Floor, `floor-root`; Closest, `sqrt-is-closest`.
+use Prim.Native.Nat.{ℕ, zero, suc, _-_, _*_, _/_, _^_, compare}
 use mathlib.Core.Bool.{false, cond}
 use lib.Dec.{leb}
 use lib.Ieee.{Float, binary64, nan, inf, fin, Format, prec, low, up, down, size, nearest, units}
-
--- r is the whole number nearest to √(m * 2 ^ 52): r - 1/2 < √(m * 2 ^ 52) < r + 1/2. No root of a whole number lies half way,
--- so both sides squared are these.
-pub record Nearest (m r : ℕ) : Type 0 where
-  pub above : m * 2 ^ 52 ≤ r * r + r
-  pub below : r * r < m * 2 ^ 52 + r
 
 -- The largest s with s * s ≤ n, for an n below 4 ^ d: a binary digit of s for each two of n.
 unfoldable pub floorRoot : ℕ → ℕ → ℕ

@@ -55,10 +55,6 @@ unfoldable pub rowOf : ℕ → ℕ → ℕ → ℕ → ℕ → List (Option ℕ)
 rowOf line motion plane mark carry cs =
     line ∷ motion ∷ plane ∷ mark ∷ carry ∷ maskOf cs ∷ map (λ (c : Option ℕ). Option·getD c 0) cs
 
--- the word that goes out for cell k
-abbrev pub cellWord : List ℕ → ℕ → ℕ
-cellWord r k = Option·getD (cell r k) 0
-
 -- the row that goes out unchanged
 unfoldable pub outRow : List ℕ → List ℕ
 outRow r = rowOf (lineOf r) (motionOf r) (planeOf r) 0 (carryOf r) (upto (cell r) cells)

@@ -12,7 +12,7 @@ use Rattle.floats.specs.Fill.{length-upto, at-upto}
 use Rattle.floats.specs.Truth.{by-bit}
 use Rattle.layout.specs.Layout.{cells, cellMasks, rCells, rowWords}
 use Rattle.row_cells.specs.Bits.{has, maskSum}
-use Rattle.row_cells.specs.Row.{cell, shown, lineOf, motionOf, planeOf, markOf, carryOf, presentOf, rowOf, cellWord, outRow, hasPoint}
+use Rattle.row_cells.specs.Row.{cell, shown, lineOf, motionOf, planeOf, markOf, carryOf, presentOf, rowOf, outRow, hasPoint}
 use Rattle.row_cells.specs.Masks.{mask-upto, mask-same, mask-has, has-mask}
 
 -- ---- a row of fields and cells
@@ -67,6 +67,10 @@ unfolding shown
 shown-there mask ws k = by-bit (has mask k) (λ b. rw b) (λ b. rw b)
 
 -- ---- a row that goes out unchanged
+-- the word that goes out for cell k
+abbrev pub cellWord : List ℕ → ℕ → ℕ
+cellWord r k = Option·getD (cell r k) 0
+
 pub out-words : (r : List ℕ)
     → outRow r ≡ (lineOf r ∷ motionOf r ∷ planeOf r ∷ 0 ∷ carryOf r ∷ presentOf r % cellMasks ∷ []) ++ upto (cellWord r) cells
 unfolding outRow

@@ -10,7 +10,14 @@ use Rattle.row_cells.specs.Bits.{has}
 use Rattle.row_cells.specs.Row.{presentOf, rawWord}
 use Rattle.row_cells.specs.Masks.{has-half, has-0, not-0, has-mod}
 use Rattle.row_check.specs.Check.{within, cellOk, numbersOk}
-use Rattle.row_check.specs.MaskCheck.{maskCellOk, maskOk, xyz, xyzMasks}
+use Rattle.row_check.specs.MaskCheck.{maskCellOk, maskOk}
+
+-- the mask of the cells X, Y and Z; masks of them are below the second
+abbrev xyz : ℕ
+xyz = 7
+
+abbrev xyzMasks : ℕ
+xyzMasks = 8
 
 pub absent-ok : (r : List ℕ) (mask k : ℕ) → has mask k ≡ false → maskCellOk r mask k ≡ true
 unfolding maskCellOk

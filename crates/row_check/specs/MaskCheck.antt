@@ -1,4 +1,4 @@
--- DEFINITIONS. Whether the cells of a mask are in range; the mask of X, Y and Z. Assumes nothing.
+-- CONTRACTS. Whether the cells of a mask are in range, as a walk over them answers. Assumes nothing.
 use Prim.Native.Nat.{ℕ}
 use mathlib.Core.Bool.{Bool, _||_, not}
 use mathlib.Core.List.{List}
@@ -14,10 +14,3 @@ maskCellOk r mask k = not (has mask k) || within (rawWord r k)
 
 unfoldable pub maskOk : List ℕ → ℕ → Bool
 maskOk r mask = all cells (maskCellOk r mask)
-
--- the mask of the cells X, Y and Z; masks of them are below the second
-abbrev pub xyz : ℕ
-xyz = 7
-
-abbrev pub xyzMasks : ℕ
-xyzMasks = 8

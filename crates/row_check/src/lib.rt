@@ -42,7 +42,7 @@ pub fn within_range(x: u64) -> bool
     x % SIGN_BIT <= MOST_NUMBER
 }
 
-pub fn is_above_1000(x: u64) -> bool
+fn is_above_1000(x: u64) -> bool
     ensures { λ r. ⌜ r ≡ above1000 x ⌝ }
 {
     x < SIGN_BIT && MOST_TURNS < x

@@ -20,10 +20,10 @@ use Rattle.floats.specs.Truth.{by-bit, and-t, and-f, cond-t, cond-f}
 use Rattle.layout.specs.Layout.{axisCodes, axisMasks, cells, cellMasks, lastCode, listCodes, listMasks, rowWords}
 use Rattle.layout.specs.Layout.{rCells, rLine, rMotion, rPlane, rMark, rCarry, rPresent}
 use Rattle.row_cells.specs.Bits.{has, maskSum}
-use Rattle.row_cells.specs.Row.{axesOf, cell, cellWord, rawWord, presentOf, shown, outRow}
+use Rattle.row_cells.specs.Row.{axesOf, cell, rawWord, presentOf, shown, outRow}
 use Rattle.row_cells.specs.Masks.{has-past, has-mod, below-bits, mask-of, member-small}
 use Rattle.row_cells.specs.BitOps.{has-and, has-or, has-not}
-use Rattle.row_cells.specs.RowLaws.{out-words}
+use Rattle.row_cells.specs.RowLaws.{cellWord, out-words}
 use Rattle.row_put.specs.declared.Head.{Head}
 use Rattle.row_put.specs.declared.Made.{Made}
 use Rattle.row_put.specs.Made.{rides, withRiders, madeHas, madeCell, madeWord, riders, overWord, zeros}

@@ -1,4 +1,4 @@
--- LAWS. Masks of codes: those seen in a list so far, and the axes of a list; a point by its mask. Assumes nothing.
+-- LAWS. Masks of codes: those seen in a list so far, and the axes of a list. Assumes nothing.
 use Prim.Native.Nat.{ℕ, _+_, _<_, _≤_}
 use mathlib.Core.Path.{_≡_, refl, sym, _∙_, ap}
 use mathlib.Core.Bool.{Bool, true, false, _&&_, _||_, not, cond, or-false, or-true, and-false, and-true}
@@ -11,13 +11,10 @@ use borrow.Author.Tests.{eqb-true, eqb-false, ne-eqb, ltb-true, ltb-false, lt-lt
 use Rattle.floats.specs.Lists.{member, all}
 use Rattle.layout.specs.Layout.{axisCodes, axisMasks, lastCode, listCodes, listMasks, wAxes}
 use Rattle.row_cells.specs.Bits.{has, maskSum, withBit}
-use Rattle.row_check.specs.Check.{within}
-use Rattle.floats.specs.Truth.{by-bit, and-t, and-i, and-left, or-t, or-f, all-intro}
+use Rattle.floats.specs.Truth.{by-bit, and-t, and-left}
 use Rattle.row_cells.specs.Masks.{mask-same, mask-of, has-none, with-same, with-other, with-lt}
-use Rattle.saved_state.specs.State.{axisCount, codeOk, pointAtOk, pointOk, geometricMask}
+use Rattle.saved_state.specs.State.{axisCount, codeOk, geometricMask}
 use Rattle.saved_state.specs.StateLaws.{member-geometric}
-use Rattle.saved_state.specs.Asks.{PointOf}
-use Rattle.saved_state.specs.Axes.{mask-has-axis}
 use Rattle.saved_state.specs.Walk.{from-here, member-end}
 
 -- ---- the codes of a list's first i
@@ -92,19 +89,3 @@ module _ (codes : List ℕ) (i m : ℕ) (s : Marking codes i m) where
 
 pub mask-of-codes : (st codes : List ℕ) → codes ≡ take (axisCount st) (drop wAxes st) → maskSum (λ (k : ℕ). member k codes) axisCodes ≡ geometricMask st
 mask-of-codes st codes e = mask-same _ _ axisCodes (λ k l. rw e (sym (member-geometric st k ∙ and-t _ (lt-ltb k axisCodes l))))
-
--- ---- a point of the state
-pub point-absent : (st : List ℕ) (w k : ℕ) → has (getD st w 0) k ≡ false → pointAtOk st w k ≡ true
-unfolding pointAtOk
-point-absent st w k h = or-t _ (ap not h)
-
-pub point-none : (st : List ℕ) (w : ℕ) → getD st w 0 ≡ 0 → pointOk st w ≡ true
-unfolding pointOk
-point-none st w e =
-    and-i (lt-ltb (getD st w 0) axisMasks (omega (arith, e)))
-    (all-intro axisCodes (pointAtOk st w) (λ k h. point-absent st w k (rw e (has-none k))))
-
-pub point-there : (st : List ℕ) (w gs k : ℕ) → PointOf st w gs → has (getD st w 0) k ≡ true → pointAtOk st w k ≡ (has gs k && within (getD st (w + 1 + k) 0))
-unfolding pointAtOk
-point-there st w gs k p h =
-    or-f _ (ap not h) ∙ ap (λ (b : Bool). b && within (getD st (w + 1 + k) 0)) (sym (ap (λ (m : ℕ). has m k) (p .axes) ∙ mask-has-axis st k))

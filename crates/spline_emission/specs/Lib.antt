@@ -1,9 +1,1 @@
 pub mod Emission
-pub mod Widths
-pub mod Words
-pub mod Emits
-pub mod Gathers
-pub mod Curves
-pub mod Frames
-pub mod Emitting
-pub mod Laws

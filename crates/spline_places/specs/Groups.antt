@@ -12,7 +12,7 @@ use Rattle.motion.specs.Motion as motions
 use Rattle.motion.specs.Motion.{gOne}
 use Rattle.row_cells.specs.Row.{cell, hasPoint, outRow}
 use Rattle.row_put.specs.Made.{madeRow}
-use Rattle.spline_points.specs.Points.{Spline, channels, placeOf}
+use Rattle.spline_channels.specs.Channels.{Spline, channels, placeOf}
 
 abbrev pub isBspline : Spline → Bool
 isBspline s = motions.isBasis (s .motion)

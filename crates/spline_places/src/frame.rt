@@ -1,15 +1,15 @@
 // What every row of an emission needs to know: the masks of the geometric axes and of the channels, and a channel's place in a sample.
 use layout::AXIS_CODES;
 use row_cells::mask_with;
-use spline_points::channels::is_listed;
-use spline_points::channels::place_of;
+use spline_channels::is_listed;
+use spline_channels::place_of;
 ghost use mathlib.Core.Path.{_≡_};
 ghost use Prim.Native.Nat.{ℕ, _≤_};
 ghost use lib.ListN.{length};
 ghost use Rattle.floats.specs.Lists.{member, filled};
 ghost use Rattle.layout.specs.Layout.{axisCodes};
 ghost use Rattle.row_cells.specs.Bits.{maskSum};
-ghost use Rattle.spline_points.specs.Points.{placeOf};
+ghost use Rattle.spline_channels.specs.Channels.{placeOf};
 
 pub struct Frame {
     // masks of the geometric axes and of the channels

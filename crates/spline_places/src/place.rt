@@ -1,12 +1,12 @@
 // How far an emission has come: the rows, the samples and the point blocks that lie before a block.
-use spline_points::channels::block;
-use spline_points::channels::has_point;
+use spline_channels::block;
+use spline_channels::has_point;
 ghost use mathlib.Core.Path.{_≡_};
 ghost use Prim.Native.Nat.{_*_, _≤_, _<_};
 ghost use lib.ListN.{length};
 ghost use Rattle.layout.specs.Layout.{rowWords, mostHeld};
 ghost use Rattle.row_cells.specs.Codes.{geometricOf};
-ghost use Rattle.spline_points.specs.Points.{blockAt};
+ghost use Rattle.spline_channels.specs.Channels.{blockAt};
 ghost use Rattle.spline_places.specs.Sizes.{sizeOf, moved, unmoved, placeTo};
 ghost use Rattle.spline_places.specs.Places.{mostRows, Few, Behind};
 

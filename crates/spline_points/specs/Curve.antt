@@ -17,11 +17,13 @@ use Rattle.layout.specs.Layout.{axisCodes, rCells, cPW}
 use Rattle.row_cells.specs.Codes.{geometricOf}
 use Rattle.row_cells.specs.Bits.{has}
 use Rattle.row_cells.specs.Row.{presentOf, cell, number, shown, hasPoint}
-use Rattle.spline_points.specs.Points.{firstCell, startValue, nextPoint, pointsFrom, weightOf, blockAt}
-use Rattle.spline_points.specs.Gathers.{Appended, pointBefore, pointIn, pointsIn, NextPut, PointPut, WeightPut, PointsPut, WeightsPut, PointsAre}
-use Rattle.spline_points.specs.Append.{appended-none, appended-one, appended-as, appended-then, appended-before, appended-to, appended-upto}
-use Rattle.spline_points.specs.Keeps.{keep-yes, keep-no, keep-upto, keep-upto-most}
-use Rattle.spline_points.specs.Flat.{Sized, flatten-append, flat-rows, map-next, sized-cons, flatten-cons}
+use Rattle.spline_points.specs.Points.{firstCell, startValue, nextPoint, pointsFrom, weightOf}
+use Rattle.spline_channels.specs.Channels.{blockAt}
+use Rattle.spline_channels.specs.Gathers.{Appended}
+use Rattle.spline_points.specs.Gathers.{pointBefore, pointIn, pointsIn, NextPut, PointPut, WeightPut, PointsPut, WeightsPut, PointsAre}
+use Rattle.spline_channels.specs.Append.{appended-none, appended-one, appended-then, appended-before, appended-to, appended-upto, appended-as}
+use Rattle.spline_channels.specs.Keeps.{keep-yes, keep-no, keep-upto, keep-upto-most}
+use Rattle.spline_channels.specs.Flat.{Sized, flatten-append, flat-rows, map-next, sized-cons, flatten-cons}
 
 -- ---- the first value, searched from the last row to the first
 unfoldable pub firstOr : ℕ → Float → List (List ℕ) → Float

@@ -1,49 +1,19 @@
--- CONTRACTS. What gathering channels, metric places and points asks of its slices and leaves in them. Assumes nothing.
-use Prim.Native.Nat.{ℕ, _+_, _*_, _-_, _<_}
+-- CONTRACTS. What gathering points asks of its slices and leaves in them. Assumes nothing.
+use Prim.Native.Nat.{ℕ, _+_, _*_, _-_}
 use mathlib.Core.Path.{_≡_}
-use mathlib.Core.Bool.{Bool, not, _&&_}
-use mathlib.Core.List.{List, [], _∷_, _++_, map}
+use mathlib.Core.List.{List, [], _∷_, map}
 use mathlib.Core.Option.{Option}
-use lib.Dec.{leb, ltb}
-use lib.ListN.{length, getD, take, drop}
+use lib.ListN.{length, take, drop}
 use lib.Ieee.{Float}
 use Rattle.floats.specs.Numbers.{f1}
-use Rattle.floats.specs.Lists.{upto, keep, member, flatten, rowsOf}
-use Rattle.layout.specs.Layout.{axisCodes}
+use Rattle.floats.specs.Lists.{upto, keep, flatten, rowsOf}
 use Rattle.row_cells.specs.Codes.{geometricOf}
-use Rattle.row_cells.specs.Bits.{has}
 use Rattle.row_cells.specs.Row.{shown, hasPoint}
-use Rattle.spline_points.specs.Points.{channelsFrom, lastXyz, startValue, nextPoint, pointsFrom, weightOf, blockAt}
+use Rattle.spline_points.specs.Points.{startValue, nextPoint, pointsFrom, weightOf}
+use Rattle.spline_channels.specs.Channels.{blockAt}
+use Rattle.spline_channels.specs.Gathers.{Appended}
 
--- of ys, which was xs, the first m are the first n of xs and then `new`
-pub record Appended {A : Type 0} (new : List A) (n : ℕ) (xs ys : List A) (m : ℕ) : Type 0 where
-  pub same : length ys ≡ length xs
-  pub count : m ≡ n + length new
-  pub is : take m ys ≡ take n xs ++ new
-
--- no code stands at two places of the list
-pub record Once (axes : List ℕ) : Type 0 where
-  pub once : (i j : ℕ) → i < j → j < length axes → getD axes i 0 ≡ getD axes j 0 → ⊥
-
--- every code is an axis'
-pub record Codes (cs : List ℕ) : Type 0 where
-  pub axis : (c : ℕ) → c < length cs → getD cs c 0 < axisCodes
-
--- ---- channels: code k is a geometric axis, programmed, and none of cs
-unfoldable pub isNew : ℕ → List ℕ → ℕ → Bool
-isNew present cs k = ltb k axisCodes && (has present k && not (member k cs))
-
-abbrev pub ChannelsPut : List ℕ → List ℕ → ℕ → List ℕ → List ℕ → ℕ → Type 0
-ChannelsPut axes store held xs ys n = Appended (channelsFrom (geometricOf axes) [] (upto (blockAt store) held)) 0 xs ys n
-
--- ---- metric places: the channel at place i is X, Y or Z
-unfoldable pub isXyz : List ℕ → ℕ → Bool
-isXyz cs i = leb (getD cs i 0) lastXyz
-
-abbrev pub xyzOf : List ℕ → List ℕ
-xyzOf cs = keep (isXyz cs) (upto (λ (i : ℕ). i) (length cs))
-
--- ---- points: the curve's start, the point that stands before place n, and the one that follows it
+-- the curve's start, the point that stands before place n, and the one that follows it
 abbrev pub StartPut : ℕ → List ℕ → List ℕ → ℕ → List ℕ → List Float → List Float → Type 0
 StartPut start words store held cs xs ys = Appended (map (startValue (shown start words) (upto (blockAt store) held)) cs) 0 xs ys (length cs)
 

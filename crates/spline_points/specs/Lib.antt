@@ -1,7 +1,3 @@
 pub mod Points
 pub mod Gathers
-pub mod Keeps
-pub mod Append
-pub mod Flat
-pub mod Channels
 pub mod Curve

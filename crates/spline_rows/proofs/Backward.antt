@@ -10,7 +10,7 @@ use lib.Seq.{drop-at, drop-cons, drop-length, take-append-le, take-take, length-
 use Rattle.floats.specs.Lists.{upto, flatten, spliced}
 use Rattle.floats.specs.Fill.{length-upto, at-upto}
 use Rattle.floats.specs.Splice.{spliced-none}
-use Rattle.spline_rows.specs.Raw.{rawAt}
+use Rattle.spline_sample.specs.Raw.{rawAt}
 
 spliced-before : (l : List ℕ) (i k : ℕ) (xs ys : List ℕ) → k ≡ i + length xs → k ≤ length l → spliced (spliced l k ys) i xs ≡ spliced l i (xs ++ ys)
 unfolding spliced

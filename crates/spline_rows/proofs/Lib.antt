@@ -1,4 +1,3 @@
 pub mod Leaves
-pub mod Made
 pub mod Backward
 pub mod Spreading

@@ -15,10 +15,12 @@ use Rattle.spline_places.specs.declared.place.Place.{Place}
 use Rattle.spline_places.specs.Sizes.{sizeOf, samplesOf, unmoved, placeTo}
 use Rattle.spline_places.specs.Places.{Behind}
 use Rattle.spline_places.specs.SizeLaws.{back, moved-rows, place-next, place-known, place-order, place-mono, size-most}
-use Rattle.spline_rows.specs.Raw.{samplesAt, rawRow, bareRow, rawGroup, rawBlock, rawHeld, heldWords}
-use Rattle.spline_rows.specs.Puts.{Puts, RowPut, RunPut, BlockPut, Blocks, Spreads}
+use Rattle.spline_sample.specs.Raw.{samplesAt, rawRow, bareRow}
+use Rattle.spline_rows.specs.RawBlocks.{rawGroup, rawBlock, rawHeld, heldWords}
+use Rattle.spline_sample.specs.Puts.{Puts, RowPut}
+use Rattle.spline_rows.specs.Puts.{RunPut, BlockPut, Blocks, Spreads}
 use Rattle.spline_rows.specs.RawLaws.{raw-length, block-long}
-use Rattle.spline_rows.proofs.Made.{raw-before, sample-rows}
+use Rattle.spline_sample.specs.SampleLaws.{raw-before, sample-rows}
 use Rattle.spline_rows.proofs.Backward.{Backward, backward-more, backward-raw}
 
 -- a row goes by its own sample alone

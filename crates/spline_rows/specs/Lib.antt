@@ -1,3 +1,3 @@
-pub mod Raw
+pub mod RawBlocks
 pub mod Puts
 pub mod RawLaws

@@ -1,99 +1,23 @@
 // Rows written into their places, from the last to the first, so that no sample is written over before it is read.
-use layout::AXIS_CODES;
-use layout::R_CELLS;
-use layout::R_PRESENT;
 use layout::ROW_WORDS;
-use motion::G1;
-use row_cells::has_bit;
-use row_put::Made;
-use row_put::put_made;
 use row_put::put_row;
+use spline_channels::block;
+use spline_channels::has_point;
 use spline_places::frame::Frame;
 use spline_places::place::Place;
 use spline_places::place::before_block;
-use spline_points::channels::block;
-use spline_points::channels::has_point;
+use spline_sample::put_bare;
+use spline_sample::put_sample;
 ghost use mathlib.Core.Path.{_≡_};
-ghost use Prim.Native.Nat.{_+_, _*_, _≤_, _<_};
-ghost use lib.ListN.{length, replicate};
-ghost use Rattle.floats.specs.Lists.{filled};
-ghost use Rattle.layout.specs.Layout.{axisCodes, axisMasks, rowWords, mostHeld};
+ghost use Prim.Native.Nat.{_*_, _≤_, _<_};
+ghost use lib.ListN.{length};
+ghost use Rattle.layout.specs.Layout.{rowWords};
 ghost use Rattle.row_cells.specs.Codes.{geometricOf};
 ghost use Rattle.row_cells.specs.Row.{hasPoint};
-ghost use Rattle.spline_points.specs.Points.{blockAt};
+ghost use Rattle.spline_channels.specs.Channels.{blockAt};
 ghost use Rattle.spline_places.specs.Sizes.{samplesOf, unmoved};
-ghost use Rattle.spline_rows.specs.Raw.{rawWord, rawMark, rawMotion};
-ghost use Rattle.spline_rows.specs.Puts.{Sample, Puts, OwnMask, RowPut, RunPut, BarePut, GroupPut, BlockPut, Blocks, HeldPut, Spreads, Laid};
-
-// The word of axis k in the sample that begins at word `from`, zero where k is no channel.
-fn sample_word(rows: &[u64], from: usize, mask: u64, places: &[usize], k: usize) -> u64
-    requires { ⌜ Sample (now rows) from mask (now places) × (k < axisCodes) ⌝ }
-    ensures { λ r. ⌜ r ≡ rawWord mask (now (places .entry)) (now (rows .entry)) from k ⌝ }
-{
-    if has_bit(mask, k as u64) {
-        return rows[from + places[k]];
-    }
-    0
-}
-
-// The words of that sample, each at its axis.
-fn sample_words(rows: &[u64], from: usize, mask: u64, places: &[usize]) -> [u64; AXIS_CODES]
-    requires { ⌜ Sample (now rows) from mask (now places) ⌝ }
-    ensures { λ r. ⌜ r ≡ filled (rawWord mask (now (places .entry)) (now (rows .entry)) from) axisCodes (replicate axisCodes 0) ⌝ }
-{
-    let mut words = [0u64; AXIS_CODES];
-    let mut k: usize = 0;
-    while k < AXIS_CODES {
-        words[k] = sample_word(rows, from, mask, places, k);
-        k += 1;
-    }
-    words
-}
-
-// The first row's motion: G1 on the first point block, none on later ones.
-fn motion_of(j: usize) -> u64
-    ensures { λ r. ⌜ r ≡ rawMotion j ⌝ }
-{
-    if j == 0 { G1 } else { 0 }
-}
-
-// Whether row t of c of point block j is a generated one.
-fn is_marked(o: Frame, j: usize, c: usize, t: usize) -> bool
-    requires { ⌜ (t < c) × (j < mostHeld) ⌝ }
-    ensures { λ r. ⌜ r ≡ rawMark o j c t ⌝ }
-{
-    if t + 1 != c {
-        return true;
-    }
-    if !o.basis {
-        return false;
-    }
-    j + 1 != o.points
-}
-
-// Writes row t of the block at `place`, of its sample t.
-fn put_sample(
-    o: Frame,
-    places: &[usize],
-    place: Place,
-    c: usize,
-    row: &[u64],
-    t: usize,
-    rows: &mut [u64],
-)
-    requires { ⌜ Puts o (now places) place c (now row) (now rows) × (t < c) ⌝ }
-    ensures { λ _. ⌜ RowPut o (now (places .entry)) place c (now (row .entry)) t (now (rows .entry)) (now (rows .exit)) ⌝ }
-{
-    let words = sample_words(rows, (place.samples + t) * o.ch, o.mask, places);
-    let made = Made {
-        axes: o.axes,
-        mask: o.mask,
-        first: t == 0,
-        motion: motion_of(place.points),
-        marked: is_marked(o, place.points, c, t),
-    };
-    put_made(rows, (place.rows + t) * ROW_WORDS, row, made, &words);
-}
+ghost use Rattle.spline_sample.specs.Puts.{Puts};
+ghost use Rattle.spline_rows.specs.Puts.{RunPut, GroupPut, BlockPut, Blocks, HeldPut, Spreads, Laid};
 
 // Writes the rows of the c samples of the block at `place`.
 fn put_run(o: Frame, places: &[usize], place: Place, c: usize, row: &[u64], rows: &mut [u64])
@@ -105,33 +29,6 @@ fn put_run(o: Frame, places: &[usize], place: Place, c: usize, row: &[u64], rows
         t -= 1;
         put_sample(o, places, place, c, row, t, rows);
     }
-}
-
-// The mask of the axis cells that a block without samples keeps: its own, and a B-spline's block none.
-fn own_mask(o: Frame, row: &[u64]) -> u64
-    requires { ⌜ (o .axes < axisMasks) × (length (now row) ≡ rowWords) ⌝ }
-    ensures { λ r. ⌜ OwnMask o (now (row .entry)) r ⌝ }
-{
-    if o.basis {
-        return 0;
-    }
-    o.axes & row[R_PRESENT]
-}
-
-// Writes the one row of a block without samples.
-fn put_bare(o: Frame, place: Place, row: &[u64], rows: &mut [u64])
-    requires { ⌜ (o .axes < axisMasks) × (length (now row) ≡ rowWords) ⌝ }
-    requires { ⌜ place .rows * rowWords + rowWords ≤ length (now rows) ⌝ }
-    ensures { λ _. ⌜ BarePut o place (now (row .entry)) (now (rows .entry)) (now (rows .exit)) ⌝ }
-{
-    let made = Made {
-        axes: o.axes,
-        mask: own_mask(o, row),
-        first: true,
-        motion: motion_of(place.points),
-        marked: false,
-    };
-    put_made(rows, place.rows * ROW_WORDS, row, made, &row[R_CELLS..]);
 }
 
 // Writes the group of a point block with c samples.

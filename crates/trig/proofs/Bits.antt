@@ -1,8 +1,8 @@
 -- LAWS. Values of the step lists that antt computes. Assumes nothing.
 use mathlib.Core.Path.{_≡_, refl}
-use lib.Ieee.{binary64, add, sub, mul, div, neg, lt, le, eq, ofBits, toBits}
+use lib.Ieee.{binary64, add, sub, mul, div, neg, lt, le, eq, ofBits}
 use Rattle.trig.specs.Trig.{sinSteps, cosSteps, acosSteps}
-use Rattle.root.specs.Root.{root, sqrt}
+use Rattle.root.specs.Root.{sqrt}
 
 pub sin-nought : sinSteps (ofBits binary64 0) ≡ ofBits binary64 0
 unfolding sinSteps add sub mul eq neg ofBits
@@ -23,7 +23,3 @@ acos-nought = refl
 pub acos-minus-one : acosSteps (ofBits binary64 0xbff0000000000000) ≡ ofBits binary64 0x400921fb54442d18
 unfolding acosSteps sqrt add sub mul div lt le eq neg ofBits
 acos-minus-one = refl
-
-pub root-two : toBits binary64 (root (ofBits binary64 0x4000000000000000)) ≡ 0x3ff6a09e667f3bcd
-unfolding sqrt ofBits toBits
-root-two = refl

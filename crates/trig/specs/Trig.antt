@@ -1,12 +1,22 @@
--- DEFINITIONS. Sine, cosine, arc cosine and arc tangent of two arguments, by the step lists of docs/TRIG.md. Assumes nothing.
+-- DEFINITIONS. Sine, cosine, arc cosine and arc tangent of two arguments, by the step lists of docs/TRIG.md, numbers by their bits. Assumes nothing.
 use mathlib.Core.Bool.{cond}
 use lib.Ieee.{Float, binary64, neg, lt, le, eq}
 use lib.Ieee as Ieee
-use Rattle.trig.specs.Coefficients.{twoOverPi, magic, piHalfA, piHalfB, s0, s1, s2, s3, s4, s5, c0, c1, c2, c3, c4, c5, a0, a1, a2}
-use Rattle.trig.specs.Coefficients.{a3, a4, a5, a6, a7, a8, a9, edge, pi, piLow, piHalf, piHalfLow, piFourth, piFourthLow}
-use Rattle.trig.specs.Coefficients.{piThreeFourths, piThreeFourthsLow}
-use Rattle.floats.specs.Numbers.{_⊕_, _⊖_, _⊗_, _⊘_, f0, f¼, f½, f1, f4, tau}
+use Rattle.floats.specs.Numbers.{_⊕_, _⊖_, _⊗_, _⊘_, num, f0, f¼, f½, f1, f4, tau}
 use Rattle.root.specs.Root.{root}
+
+-- 2 / pi, the number whose sum rounds to whole numbers, and pi / 2 in two parts
+abbrev pub twoOverPi : Float
+twoOverPi = num 0x3fe45f306dc9c883
+
+abbrev pub magic : Float
+magic = num 0x4338000000000000
+
+abbrev pub piHalfA : Float
+piHalfA = num 0x3ff921fb54442000
+
+abbrev pub piHalfB : Float
+piHalfB = num 0x3d6a308d313198a3
 
 -- the whole number nearest to x, ties to even, of an x below 2 ^ 51 in size
 abbrev pub whole : Float → Float
@@ -16,12 +26,18 @@ abbrev pub reduced : Float → Float → Float
 reduced x k = (x ⊖ k ⊗ piHalfA) ⊖ k ⊗ piHalfB
 
 abbrev pub sinOf : Float → Float → Float → Float
-sinOf r z zz = r ⊕ (r ⊗ z) ⊗ ((s0 ⊕ z ⊗ s1) ⊕ zz ⊗ ((s2 ⊕ z ⊗ s3) ⊕ zz ⊗ (s4 ⊕ z ⊗ s5)))
+sinOf r z zz =
+    r ⊕ (r ⊗ z) ⊗ ((num 0xbfc555555555553d ⊕ z ⊗ num 0x3f8111111110ea87)
+    ⊕ zz ⊗ ((num 0xbf2a01a019aa371b ⊕ z ⊗ num 0x3ec71de3467571c9)
+    ⊕ zz ⊗ (num 0xbe5ae5da9ea69140 ⊕ z ⊗ num 0x3de5d61cffa10a02)))
 
 abbrev pub cosOf : Float → Float → Float
-cosOf z zz = f1 ⊖ (f½ ⊗ z ⊖ zz ⊗ ((c0 ⊕ z ⊗ c1) ⊕ zz ⊗ ((c2 ⊕ z ⊗ c3) ⊕ zz ⊗ (c4 ⊕ z ⊗ c5))))
+cosOf z zz =
+    f1 ⊖ (f½ ⊗ z ⊖ zz ⊗ ((num 0x3fa555555555554c ⊕ z ⊗ num 0xbf56c16c16c1521f)
+    ⊕ zz ⊗ ((num 0x3efa01a019cbf626 ⊕ z ⊗ num 0xbe927e4f812b61de)
+    ⊕ zz ⊗ (num 0x3e21ee9f1523ec55 ⊕ z ⊗ num 0xbda8fb130c41847d))))
 
--- which f¼ of the turn k is: 0, 1, -1, and 2 or -2
+-- which quarter of the turn k is: 0, 1, -1, and 2 or -2
 abbrev pub quarterOf : Float → Float
 quarterOf k = k ⊖ f4 ⊗ whole (k ⊗ f¼)
 
@@ -43,9 +59,42 @@ sinSteps x = let k = whole (x ⊗ twoOverPi) in sinAt k (reduced x k)
 unfoldable pub cosSteps : Float → Float
 cosSteps x = let k = whole (x ⊗ twoOverPi) in cosAt k (reduced x k)
 
+-- ---- tan(pi/8), and angles with the rest that each f64 leaves off
+abbrev pub edge : Float
+edge = num 0x3fda827999fcef32
+
+abbrev pub pi : Float
+pi = num 0x400921fb54442d18
+
+abbrev pub piLow : Float
+piLow = num 0x3ca1a62633145c07
+
+abbrev pub piHalf : Float
+piHalf = num 0x3ff921fb54442d18
+
+abbrev pub piHalfLow : Float
+piHalfLow = num 0x3c91a62633145c07
+
+abbrev pub piFourth : Float
+piFourth = num 0x3fe921fb54442d18
+
+abbrev pub piFourthLow : Float
+piFourthLow = num 0x3c81a62633145c07
+
+abbrev pub piThreeFourths : Float
+piThreeFourths = num 0x4002d97c7f3321d2
+
+abbrev pub piThreeFourthsLow : Float
+piThreeFourthsLow = num 0x3c9a79394c9e8a0a
+
 -- ---- the arc tangent of a t of at most 0.415 in size, added to hi + lo
 abbrev pub atanOf : Float → Float → Float
-atanOf z zz = (a0 ⊕ z ⊗ a1) ⊕ zz ⊗ ((a2 ⊕ z ⊗ a3) ⊕ zz ⊗ ((a4 ⊕ z ⊗ a5) ⊕ zz ⊗ ((a6 ⊕ z ⊗ a7) ⊕ zz ⊗ (a8 ⊕ z ⊗ a9))))
+atanOf z zz =
+    (num 0xbfd5555555554f7f ⊕ z ⊗ num 0x3fc99999998f724f)
+    ⊕ zz ⊗ ((num 0xbfc249248ef90a38 ⊕ z ⊗ num 0x3fbc71c5fd34f159)
+    ⊕ zz ⊗ ((num 0xbfb745b497f2b7a6 ⊕ z ⊗ num 0x3fb3af6425653ef8)
+    ⊕ zz ⊗ ((num 0xbfb0fd6af0721904 ⊕ z ⊗ num 0x3fad09a8e2f9bb2c)
+    ⊕ zz ⊗ (num 0xbfa60842d711ed04 ⊕ z ⊗ num 0x3f951f50b7c3f291))))
 
 unfoldable pub atanFrom : Float → Float → Float → Float
 atanFrom hi lo t = let z = t ⊗ t in hi ⊕ (t ⊕ ((t ⊗ z) ⊗ atanOf z (z ⊗ z) ⊕ lo))

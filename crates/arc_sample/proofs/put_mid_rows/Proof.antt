@@ -3,7 +3,7 @@ use mathlib.Core.Path.{_≡_}
 use native.Mathlib.Omega.{arith}
 use Prim.Native.Nat.{ℕ, _-_, _≤_}
 use Rattle.arc_sample.specs.Rowing.{Rowing, rowing-none, rowing-more}
-use Rattle.arc_sample.specs.Drawn.{mids}
+use Rattle.arc_made.specs.Drawn.{mids}
 use Rattle.arc_sample.specs.Draw.{mid-long}
 use borrow.Author.Needs.{needs}
 use Rattle.arc_sample.proofs.put_mid_rows.Statement.{statement}

@@ -3,10 +3,11 @@ use mathlib.Core.Path.{_≡_, refl, sym, ap, _∙_, subst}
 use native.Mathlib.Omega.{arith}
 use Prim.Native.Nat.{ℕ, _+_, _/_, _≤_, _<_}
 use lib.ListN.{length}
-use borrow.Author.Tests.{eq-eqb, ne-eqb}
+use borrow.Author.Tests.{eq-eqb, ne-eqb, not-true, not-false, leb-true, leb-false}
 use Rattle.floats.specs.Truth.{cond-t, cond-f}
 use Rattle.layout.specs.Layout.{rowWords}
-use Rattle.call_reply.specs.Replies.{plain, tooFew, answers, doneReply}
+use Rattle.call_reply.specs.Replies.{plain, tooFew, doneReply}
+use Rattle.call_reply.specs.ReplyLaws.{answers}
 use Rattle.saved_state.specs.StateLaws.{good}
 use Rattle.call_close.specs.Close.{untouched, closeState}
 use Rattle.saved_state.specs.Checked.{saved-ok}
@@ -28,12 +29,16 @@ same-length c = search needs
 returns : tie.Need-returns
 unfolding untouched
 returns c =
-    let b2 = c .before .before in
-    answers (close-turned-is _ _ _ (λ e. (c .before .if1 .taken) ((b2 .saved-check .ensures) ∙ e)))
-    ((c .plain-reply .ensures) ∙ ap plain (b2 .saved-check .ensures)) refl refl refl
+    let at-if1 = c .before in
+    let at-saved-check = at-if1 .before in
+    answers (close-turned-is _ _ _ (λ e. (at-if1 .if1 .taken) ((at-saved-check .saved-check .ensures) ∙ e)))
+    ((c .plain-reply .ensures) ∙ ap plain (at-saved-check .saved-check .ensures)) refl refl refl
 
 slice-read-if2 : tie.Need-slice-read-if2
-slice-read-if2 c = omega (arith, good _ (saved-ok _ _ (sym (c .before .before .saved-check .ensures) ∙ (c .before .if1 .left))) .long)
+slice-read-if2 c =
+    let at-if1 = c .before in
+    let at-saved-check = at-if1 .before in
+    omega (arith, good _ (saved-ok _ _ (sym (at-saved-check .saved-check .ensures) ∙ (at-if1 .if1 .left))) .long)
 
 plain-reply-requires-2 : tie.Need-plain-reply-requires-2
 plain-reply-requires-2 c κs = search needs
@@ -44,16 +49,20 @@ same-length-2 c = search needs
 returns-2 : tie.Need-returns-2
 unfolding closeState
 returns-2 c =
-    let b3 = c .before .before .before in
-    let b4 = b3 .before in
-    answers (close-none-is _ _ _ (sym (b4 .saved-check .ensures) ∙ (b3 .if1 .left)) (c .before .if2 .taken)) (c .plain-reply2 .ensures)
-    (sym (cond-t _ _ (eq-eqb _ _ (c .before .if2 .taken)))) refl (no-rows _)
+    let at-if2 = c .before in
+    let at-if1 = at-if2 .before .before in
+    let at-saved-check = at-if1 .before in
+    answers (close-none-is _ _ _ (sym (at-saved-check .saved-check .ensures) ∙ (at-if1 .if1 .left)) (at-if2 .if2 .taken)) (c .plain-reply2 .ensures)
+    (sym (cond-t _ _ (eq-eqb _ _ (at-if2 .if2 .taken)))) refl (no-rows _)
 
 put-emission-requires : tie.Need-put-emission-requires
 put-emission-requires c κs =
-    let b4 = c .before .before .before .before in
-    let b5 = b4 .before in
-    ((sym (b5 .saved-check .ensures) ∙ (b4 .if1 .left)), omega arith)
+    let at-if1 = c .before .before .before .before in
+    let at-saved-check = at-if1 .before in
+    ((sym (at-saved-check .saved-check .ensures) ∙ (at-if1 .if1 .left)), omega arith)
+
+has-room-requires : tie.Need-has-room-requires
+has-room-requires c κs = search needs
 
 too-few-requires : tie.Need-too-few-requires
 too-few-requires c κs = search needs
@@ -67,25 +76,26 @@ same-length-4 c = search needs
 returns-3 : tie.Need-returns-3
 unfolding untouched
 returns-3 c =
-    let b4 = c .before .before .before .before in
-    let b7 = b4 .before .before .before in
-    let b9 = b7 .before .before in
-    let b10 = b9 .before in
-    let b15 = b10 .before .before .before .before .before in
-    answers
-    (close-few-is _ _ _ (sym (b10 .saved-check .ensures) ∙ (b9 .if1 .left)) (b7 .if2 .left)
-    (subst (λ (n : ℕ). length ((b15 .args .rows .now)) / rowWords < n) ((b4 .put-emission .ensures) .count)
-    (room-short _ _ _ _ _ (b4 .put-emission .ensures) (b4 .put-emission .kept .1 .1 .0) _
-    (let z : (b4 .put-emission .result) ≡ (b4 .put-emission .result) + 0 = omega arith in z) (c .before .if3 .taken))))
-    ((c .too-few .ensures) ∙ ap tooFew ((b4 .put-emission .ensures) .count)) refl refl
-    (put-refused _ _ _ _ _ (b4 .put-emission .ensures) (b4 .put-emission .kept .1 .1 .0) _
-    (let z : (b4 .put-emission .result) ≡ (b4 .put-emission .result) + 0 = omega arith in z) (c .before .if3 .taken))
+    let at-if3 = c .before in
+    let at-has-room = at-if3 .before in
+    let at-put-emission = at-has-room .before .before .before .before in
+    let at-if2 = at-put-emission .before .before .before in
+    let at-if1 = at-if2 .before .before in
+    let at-saved-check = at-if1 .before in
+    let start = at-saved-check .before .before .before .before .before in
+    let put = (at-put-emission .put-emission .ensures) in
+    let same = (at-put-emission .put-emission .kept .1 .1 .0) in
+    let z : (at-put-emission .put-emission .result) ≡ (at-put-emission .put-emission .result) + 0 = omega arith in
+    let short = leb-false _ _ (sym (at-has-room .has-room .ensures) ∙ not-true _ (at-if3 .if3 .taken)) in
+    let less = subst (λ (n : ℕ). length (start .args .rows .now) / rowWords < n) (put .count) (room-short _ _ _ _ _ put same _ z short) in
+    answers (close-few-is _ _ _ (sym (at-saved-check .saved-check .ensures) ∙ (at-if1 .if1 .left)) (at-if2 .if2 .left) less)
+    ((c .too-few .ensures) ∙ ap tooFew (put .count)) refl refl (put-refused _ _ _ _ _ put same _ z short)
 
 forget-requires : tie.Need-forget-requires
 forget-requires c κs =
-    let b9 = c .before .before .before .before .before .before .before .before .before in
-    let b10 = b9 .before in
-    good _ (saved-ok _ _ (sym (b10 .saved-check .ensures) ∙ (b9 .if1 .left))) .long
+    let at-if1 = c .before .before .before .before .before .before .before .before .before .before .before in
+    let at-saved-check = at-if1 .before in
+    good _ (saved-ok _ _ (sym (at-saved-check .saved-check .ensures) ∙ (at-if1 .if1 .left))) .long
 
 done-reply-requires : tie.Need-done-reply-requires
 done-reply-requires c κs = search needs
@@ -99,22 +109,22 @@ same-length-6 c = search needs
 returns-4 : tie.Need-returns-4
 unfolding closeState
 returns-4 c =
-    let b3 = c .before .before .before in
-    let b5 = b3 .before .before in
-    let b8 = b5 .before .before .before in
-    let b11 = b8 .before .before .before in
-    let b13 = b11 .before .before in
-    let b14 = b13 .before in
-    let b19 = b14 .before .before .before .before .before in
-    answers
-    (close-done-is _ _ _ (sym (b14 .saved-check .ensures) ∙ (b13 .if1 .left)) (b11 .if2 .left)
-    (subst (λ (n : ℕ). n ≤ length ((b19 .args .rows .now)) / rowWords) ((b8 .put-emission .ensures) .count)
-    (room-left _ _ _ _ _ (b8 .put-emission .ensures) (b8 .put-emission .kept .1 .1 .0) _
-    (let z : (b8 .put-emission .result) ≡ (b8 .put-emission .result) + 0 = omega arith in z) (b5 .if3 .left))))
-    ((c .done-reply .ensures) ∙ ap (λ (n : ℕ). doneReply n 0 0 0) ((b8 .put-emission .ensures) .count))
-    ((b3 .forget .ensures) ∙ sym (cond-f _ _ (ne-eqb _ _ (b11 .if2 .left)))) refl
-    (put-written _ _ _ _ _ (b8 .put-emission .ensures) (b8 .put-emission .kept .1 .1 .0) _
-    (let z : (b8 .put-emission .result) ≡ (b8 .put-emission .result) + 0 = omega arith in z) (b5 .if3 .left))
+    let at-forget = c .before .before .before in
+    let at-if3 = at-forget .before .before in
+    let at-has-room = at-if3 .before in
+    let at-put-emission = at-has-room .before .before .before .before in
+    let at-if2 = at-put-emission .before .before .before in
+    let at-if1 = at-if2 .before .before in
+    let at-saved-check = at-if1 .before in
+    let start = at-saved-check .before .before .before .before .before in
+    let put = (at-put-emission .put-emission .ensures) in
+    let same = (at-put-emission .put-emission .kept .1 .1 .0) in
+    let z : (at-put-emission .put-emission .result) ≡ (at-put-emission .put-emission .result) + 0 = omega arith in
+    let room = leb-true _ _ (sym (at-has-room .has-room .ensures) ∙ not-false _ (at-if3 .if3 .left)) in
+    let enough = subst (λ (n : ℕ). n ≤ length (start .args .rows .now) / rowWords) (put .count) (room-left _ _ _ _ _ put same _ z room) in
+    answers (close-done-is _ _ _ (sym (at-saved-check .saved-check .ensures) ∙ (at-if1 .if1 .left)) (at-if2 .if2 .left) enough)
+    ((c .done-reply .ensures) ∙ ap (λ (n : ℕ). doneReply n 0 0 0) (put .count))
+    ((at-forget .forget .ensures) ∙ sym (cond-f _ _ (ne-eqb _ _ (at-if2 .if2 .left)))) refl (put-written _ _ _ _ _ put same _ z room)
 
 pub close-spec : {M : Type 1} → statement M
 close-spec =
@@ -129,6 +139,7 @@ close-spec =
     same-length-2
     returns-2
     put-emission-requires
+    has-room-requires
     too-few-requires
     same-length-3
     same-length-4

@@ -1,5 +1,7 @@
 -- `call_push::push_block` meets its contract. Assumes nothing.
+use mathlib.Core.Path.{sym, _∙_}
 use native.Mathlib.Omega.{arith}
+use borrow.Author.Tests.{not-true, not-false, leb-true, leb-false}
 use Rattle.push_rows.specs.Few.{few-own}
 use Rattle.call_push.proofs.Calls.{passes, passes-ready, few-answer, settles, done-answer}
 use borrow.Author.Needs.{needs}
@@ -8,21 +10,26 @@ use Rattle.call_push.proofs.push_block.Tie as tie
 
 plan-own-requires : tie.Need-plan-own-requires
 plan-own-requires c κs =
-    let b5 = c .before .before .before .before .before in
-    passes-ready (passes _ _ _ ((b5 .pre) .check)) ((b5 .pre) .told)
+    let start = c .before .before .before .before .before in
+    passes-ready (passes _ _ _ ((start .pre) .check)) ((start .pre) .told)
 
 put-before-requires : tie.Need-put-before-requires
 put-before-requires c κs =
-    let b3 = c .before .before .before in
-    let b9 = b3 .before .before .before .before .before .before in
-    (passes _ _ _ ((b9 .pre) .check) .saved, omega (arith, (b3 .plan-own .ensures) .count, few-own (b9 .args .state .now) (b9 .args .row .now)))
+    let at-plan-own = c .before .before .before in
+    let start = at-plan-own .before .before .before .before .before .before in
+    let own = few-own (start .args .state .now) (start .args .row .now) in
+    (passes _ _ _ ((start .pre) .check) .saved, omega (arith, (at-plan-own .plan-own .ensures) .count, own))
 
 add-needed : tie.Need-add-needed
 add-needed c =
-    let b3 = c .before .before .before in
-    let b7 = b3 .before .before .before .before in
-    let b13 = b7 .before .before .before .before .before .before in
-    omega (arith, (b7 .plan-own .ensures) .count, few-own (b13 .args .state .now) (b13 .args .row .now), (b3 .put-before .ensures) .few)
+    let at-put-before = c .before .before .before in
+    let at-plan-own = at-put-before .before .before .before .before in
+    let start = at-plan-own .before .before .before .before .before .before in
+    let own = few-own (start .args .state .now) (start .args .row .now) in
+    omega (arith, (at-plan-own .plan-own .ensures) .count, own, (at-put-before .put-before .ensures) .few)
+
+has-room-requires : tie.Need-has-room-requires
+has-room-requires c κs = search needs
 
 too-few-requires : tie.Need-too-few-requires
 too-few-requires c κs = search needs
@@ -38,19 +45,25 @@ same-length-3 c = search needs
 
 returns : tie.Need-returns
 returns c =
-    let b5 = c .before .before .before .before .before in
-    let b9 = b5 .before .before .before .before in
-    let b15 = b9 .before .before .before .before .before .before in
-    few-answer _ _ _ _ _ (b15 .pre) _ (b9 .plan-own .ensures) _ _ (b5 .put-before .ensures) (b5 .put-before .kept .1 .1 .0) (c .before .if1 .taken)
-    (c .too-few .ensures)
+    let at-if1 = c .before in
+    let at-has-room = at-if1 .before in
+    let at-put-before = at-has-room .before .before .before .before .before in
+    let at-plan-own = at-put-before .before .before .before .before in
+    let start = at-plan-own .before .before .before .before .before .before in
+    let short = leb-false _ _ (sym (at-has-room .has-room .ensures) ∙ not-true _ (at-if1 .if1 .taken)) in
+    let put = (at-put-before .put-before .ensures) in
+    let same = (at-put-before .put-before .kept .1 .1 .0) in
+    few-answer _ _ _ _ _ (start .pre) _ (at-plan-own .plan-own .ensures) _ _ put same short (c .too-few .ensures)
 
 settle-requires : tie.Need-settle-requires
 settle-requires c κs =
-    let b3 = c .before .before .before in
-    let b7 = b3 .before .before .before .before in
-    let b11 = b7 .before .before .before .before in
-    let b17 = b11 .before .before .before .before .before .before in
-    settles _ _ _ _ _ (b17 .pre) _ (b11 .plan-own .ensures) _ _ (b7 .put-before .ensures) (b7 .put-before .kept .1 .1 .0) (b3 .if1 .left)
+    let at-if1 = c .before .before .before in
+    let at-has-room = at-if1 .before in
+    let at-put-before = at-has-room .before .before .before .before .before in
+    let at-plan-own = at-put-before .before .before .before .before in
+    let start = at-plan-own .before .before .before .before .before .before in
+    let room = leb-true _ _ (sym (at-has-room .has-room .ensures) ∙ not-false _ (at-if1 .if1 .left)) in
+    settles _ _ _ _ _ (start .pre) _ (at-plan-own .plan-own .ensures) _ _ (at-put-before .put-before .ensures) (at-put-before .put-before .kept .1 .1 .0) room
 
 same-length-4 : tie.Need-same-length-4
 same-length-4 c = search needs
@@ -63,13 +76,16 @@ same-length-6 c = search needs
 
 returns-2 : tie.Need-returns-2
 returns-2 c =
-    let b6 = c .before .before .before .before .before .before in
-    let b10 = b6 .before .before .before .before in
-    let b14 = b10 .before .before .before .before in
-    let b18 = b14 .before .before .before .before in
-    let b24 = b18 .before .before .before .before .before .before in
-    done-answer _ _ _ _ _ (b24 .pre) _ (b18 .plan-own .ensures) _ _ (b14 .put-before .ensures) (b14 .put-before .kept .1 .1 .0) (b10 .if1 .left)
-    (b6 .settle .ensures)
+    let at-settle = c .before .before .before .before .before .before in
+    let at-if1 = at-settle .before .before .before .before in
+    let at-has-room = at-if1 .before in
+    let at-put-before = at-has-room .before .before .before .before .before in
+    let at-plan-own = at-put-before .before .before .before .before in
+    let start = at-plan-own .before .before .before .before .before .before in
+    let room = leb-true _ _ (sym (at-has-room .has-room .ensures) ∙ not-false _ (at-if1 .if1 .left)) in
+    let put = (at-put-before .put-before .ensures) in
+    let same = (at-put-before .put-before .kept .1 .1 .0) in
+    done-answer _ _ _ _ _ (start .pre) _ (at-plan-own .plan-own .ensures) _ _ put same room (at-settle .settle .ensures)
 
 pub push-block-spec : {M : Type 1} → statement M
 push-block-spec =
@@ -78,6 +94,7 @@ push-block-spec =
     plan-own-requires
     put-before-requires
     add-needed
+    has-room-requires
     too-few-requires
     same-length
     same-length-2

@@ -1,7 +1,7 @@
 -- `csv_line::put_header` meets its contract. Assumes nothing.
 use Prim.Native.Nat.{_-_}
 use native.Mathlib.Omega.{arith}
-use Rattle.csv_fields.specs.Out.{wrote-then, wrote-length}
+use Rattle.csv_figures.specs.OutLaws.{wrote-then, wrote-length}
 use borrow.Author.Needs.{needs}
 use Rattle.csv_line.proofs.put_header.Statement.{statement}
 use Rattle.csv_line.proofs.put_header.Tie as tie

@@ -1,7 +1,7 @@
 -- `csv_line::put_notice` meets its contract. Assumes nothing.
 use Prim.Native.Nat.{_-_}
 use native.Mathlib.Omega.{arith}
-use Rattle.csv_fields.specs.Out.{wrote-length}
+use Rattle.csv_figures.specs.OutLaws.{wrote-length}
 use Rattle.csv_line.proofs.Lines.{warned, refused, whole-short}
 use borrow.Author.Needs.{needs}
 use Rattle.csv_line.proofs.put_notice.Statement.{statement}

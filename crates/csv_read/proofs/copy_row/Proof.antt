@@ -3,7 +3,7 @@ use mathlib.Core.Path.{refl, sym, _∙_}
 use Prim.Native.Nat.{_-_}
 use native.Mathlib.Omega.{arith}
 use lib.ListN.{length}
-use Rattle.csv_read.proofs.Reading.{Copying, copies-more, copied}
+use Rattle.csv_read.proofs.Copying.{Copying, copies-more, copied}
 use borrow.Author.Needs.{needs}
 use Rattle.csv_read.proofs.copy_row.Statement.{statement}
 use Rattle.csv_read.proofs.copy_row.Tie as tie

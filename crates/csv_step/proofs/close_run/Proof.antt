@@ -5,14 +5,14 @@ use borrow.Author.Needs.{needs}
 use Rattle.csv_step.proofs.close_run.Statement.{statement}
 use Rattle.csv_step.proofs.close_run.Tie as tie
 
-flat-close-requires : tie.Need-flat-close-requires
-flat-close-requires c κs = search needs
+close-requires : tie.Need-close-requires
+close-requires c κs = search needs
 
 answered-requires : tie.Need-answered-requires
 answered-requires c κs =
     let closed = c .before .before .before .before .before .before .before in
     let start = closed .before .before .before .before .before .before .before .before in
-    answer-room (start .pre) (closed .flat-close .ensures .reply) (close-fits _ _ _) (search needs) refl refl
+    answer-room (start .pre) (closed .close .ensures .reply) (close-fits _ _ _) (search needs) refl refl
 
 same-length : tie.Need-same-length
 same-length c = search needs
@@ -30,13 +30,13 @@ returns : tie.Need-returns
 returns c =
     let said = c .before .before .before .before in
     let closed = said .before .before .before .before .before .before .before .before in
-    close-step (closed .flat-close .ensures) (said .answered .ensures)
+    close-step (closed .close .ensures) (said .answered .ensures)
 
 pub close-run-spec : {M : Type 1} → statement M
 close-run-spec =
     tie.close
     (tie.spec
-    flat-close-requires
+    close-requires
     answered-requires
     same-length
     same-length-2

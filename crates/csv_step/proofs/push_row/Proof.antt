@@ -5,8 +5,8 @@ use borrow.Author.Needs.{needs}
 use Rattle.csv_step.proofs.push_row.Statement.{statement}
 use Rattle.csv_step.proofs.push_row.Tie as tie
 
-flat-push-requires : tie.Need-flat-push-requires
-flat-push-requires c κs = search needs
+push-requires : tie.Need-push-requires
+push-requires c κs = search needs
 
 shared-slice-read-t17 : tie.Need-shared-slice-read-t17
 shared-slice-read-t17 c = search needs
@@ -15,7 +15,7 @@ answered-requires : tie.Need-answered-requires
 answered-requires c κs =
     let pushed = c .before .before .before .before .before .before .before .before .before .before in
     let start = pushed .before .before .before .before .before .before .before .before .before .before in
-    answer-room (start .pre .1) (pushed .flat-push .ensures .reply) (push-fits _ _ _ _) (search needs) refl refl
+    answer-room (start .pre .1) (pushed .push .ensures .reply) (push-fits _ _ _ _) (search needs) refl refl
 
 same-length : tie.Need-same-length
 same-length c = search needs
@@ -36,13 +36,13 @@ returns : tie.Need-returns
 returns c =
     let said = c .before .before .before .before in
     let pushed = said .before .before .before .before .before .before .before .before .before .before .before in
-    row-step _ (pushed .flat-push .ensures) (record { source = refl; out = refl; err = refl; physical = refl }) (said .answered .ensures)
+    row-step _ (pushed .push .ensures) (record { source = refl; out = refl; err = refl; physical = refl }) (said .answered .ensures)
 
 pub push-row-spec : {M : Type 1} → statement M
 push-row-spec =
     tie.close
     (tie.spec
-    flat-push-requires
+    push-requires
     shared-slice-read-t17
     answered-requires
     same-length

@@ -4,7 +4,7 @@ use Prim.Native.Nat.{ℕ, _-_, _≤_}
 use mathlib.Core.List.{_∷_}
 use native.Mathlib.Omega.{arith}
 use Rattle.csv_write.specs.Writer.{cellText, cellShown}
-use Rattle.csv_line.specs.LineText.{comma}
+use Rattle.csv_line.specs.LineText.{comma, columnCount}
 use Rattle.csv_write.specs.Texts.{cell-length}
 use Rattle.csv_write.proofs.Writing.{Putting, puts-none, puts-on, puts-off, puts-all, cells-tried}
 use borrow.Author.Needs.{needs}
@@ -12,10 +12,10 @@ use Rattle.csv_write.proofs.put_cells.Statement.{statement}
 use Rattle.csv_write.proofs.put_cells.Tie as tie
 
 abbrev Inv-loop : tie.InvT-loop
-Inv-loop row out₀ n at₀ i₀ out at i = (i ≤ 11) × Putting (cellShown row) (λ (k : ℕ). comma ∷ cellText row k) 18 out₀ n i out at
+Inv-loop row out₀ n at₀ i₀ out at i = (i ≤ columnCount) × Putting (cellShown row) (λ (k : ℕ). comma ∷ cellText row k) 18 out₀ n i out at
 
 abbrev μ-loop : tie.MeasureT-loop
-μ-loop row out₀ n at₀ i₀ out at i = 11 - i
+μ-loop row out₀ n at₀ i₀ out at i = columnCount - i
 
 loop-holds : tie.Need-loop-holds Inv-loop μ-loop
 loop-holds c = (omega arith, puts-none _ _ _ _ _)
@@ -40,7 +40,7 @@ returns c =
     let b4 = c .before .before .before .before in
     let b6 = b4 .before .before in
     let b7 = b6 .before in
-    cells-tried _ (puts-off _ _ _ 11 (b7 .loop .inv .1) (b6 .loop-test .taken) (c .enum-told .given .1) (b4 .put-cell .ensures))
+    cells-tried _ (puts-off _ _ _ columnCount (b7 .loop .inv .1) (b6 .loop-test .taken) (c .enum-told .given .1) (b4 .put-cell .ensures))
 
 add-i : tie.Need-add-i Inv-loop μ-loop
 add-i c = search needs
@@ -58,7 +58,9 @@ same-length-2 : tie.Need-same-length-2 Inv-loop μ-loop
 same-length-2 c = (c .before .loop .inv .1 .same)
 
 returns-2 : tie.Need-returns-2 Inv-loop μ-loop
-returns-2 c = let e : (c .before .loop .i) ≡ 11 = omega (arith, (c .before .loop .inv .0)) in cells-tried _ (puts-all _ _ _ 11 (c .before .loop .inv .1) e)
+returns-2 c =
+    let e : (c .before .loop .i) ≡ columnCount = omega (arith, (c .before .loop .inv .0)) in
+    cells-tried _ (puts-all _ _ _ columnCount (c .before .loop .inv .1) e)
 
 pub put-cells-spec : {M : Type 1} → statement M
 put-cells-spec =

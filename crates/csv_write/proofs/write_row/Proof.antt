@@ -3,8 +3,8 @@ use mathlib.Core.Path.{sym, _∙_}
 use Prim.Native.Nat.{_-_}
 use native.Mathlib.Omega.{arith}
 use borrow.Author.Tests.{not-true, not-false}
-use Rattle.csv_fields.specs.Out.{wrote-length}
-use Rattle.csv_line.specs.Planes.{plane-low}
+use Rattle.csv_figures.specs.OutLaws.{wrote-length}
+use Rattle.csv_line.specs.CodeLaws.{plane-low}
 use Rattle.csv_write.proofs.Writing.{line-high, motion-high, no-plane, behind-head, behind-cells, number-refused, row-written}
 use borrow.Author.Needs.{needs}
 use Rattle.csv_write.proofs.write_row.Statement.{statement}

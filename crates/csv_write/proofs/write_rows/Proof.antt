@@ -2,7 +2,7 @@
 use mathlib.Core.Path.{_≡_, refl, _∙_}
 use Prim.Native.Nat.{ℕ, _-_, _≤_}
 use native.Mathlib.Omega.{arith}
-use Rattle.csv_write.specs.Writer.{rowText, writable, rowAt, rowsText, rowsWritable}
+use Rattle.csv_write.specs.Writer.{rowRoom, rowText, writable, rowAt, rowsText, rowsWritable}
 use Rattle.csv_write.specs.Texts.{row-length}
 use Rattle.csv_write.proofs.Writing.{Putting, puts-none, puts-on, puts-off, puts-all, part-tried}
 use borrow.Author.Needs.{needs}
@@ -10,7 +10,8 @@ use Rattle.csv_write.proofs.write_rows.Statement.{statement}
 use Rattle.csv_write.proofs.write_rows.Tie as tie
 
 abbrev Inv-loop : tie.InvT-loop
-Inv-loop rows count out₀ n at₀ i₀ out at i = (i ≤ count) × Putting (λ (k : ℕ). writable (rowAt rows k)) (λ (k : ℕ). rowText (rowAt rows k)) 256 out₀ n i out at
+Inv-loop rows count out₀ n at₀ i₀ out at i =
+    (i ≤ count) × Putting (λ (k : ℕ). writable (rowAt rows k)) (λ (k : ℕ). rowText (rowAt rows k)) rowRoom out₀ n i out at
 
 abbrev μ-loop : tie.MeasureT-loop
 μ-loop rows count out₀ n at₀ i₀ out at i = count - i

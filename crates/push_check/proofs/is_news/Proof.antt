@@ -2,7 +2,7 @@
 use mathlib.Core.Path.{sym, ap, _∙_}
 use mathlib.Core.Bool.{not}
 use Rattle.floats.specs.Truth.{and-t, and-f}
-use Rattle.motion.specs.Motion.{other-told}
+use Rattle.motion.specs.MotionLaws.{other-told}
 use borrow.Author.Needs.{needs}
 use Rattle.push_check.proofs.is_news.Statement.{statement}
 use Rattle.push_check.proofs.is_news.Tie as tie

@@ -6,7 +6,7 @@ use Prim.Native.Nat.{ℕ, _+_, _-_, _≤_}
 use Rattle.floats.specs.Splice.{Splicing, splicing-none, splicing-more}
 use Rattle.layout.specs.Layout.{axisCodes, wStart}
 use Rattle.saved_state.specs.State.{position}
-use Rattle.push_state.proofs.Steps.{position-under}
+use Rattle.push_state.proofs.Opening.{position-under}
 use borrow.Author.Needs.{needs}
 use Rattle.push_state.proofs.copy_positions.Statement.{statement}
 use Rattle.push_state.proofs.copy_positions.Tie as tie

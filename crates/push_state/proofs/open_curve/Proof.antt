@@ -1,6 +1,6 @@
 -- `push_state::open_curve` meets its contract. Assumes nothing.
 use lib.ListN.{length-set}
-use Rattle.push_state.proofs.Steps.{open-done, open-length}
+use Rattle.push_state.proofs.Opening.{open-done, open-length}
 use borrow.Author.Needs.{needs}
 use Rattle.push_state.proofs.open_curve.Statement.{statement}
 use Rattle.push_state.proofs.open_curve.Tie as tie

@@ -2,7 +2,7 @@
 use Prim.Native.Nat.{_+_, _-_, _*_, _/_, _^_}
 use mathlib.Core.Path.{_≡_, sym, _∙_, subst}
 use native.Mathlib.Omega.{arith}
-use Rattle.root.proofs.Normal.{exponent, Taken, bounds, taken-is, law}
+use Rattle.root.specs.Normal.{exponent, Taken, bounds, taken-is, law}
 use borrow.Author.Needs.{needs}
 use Rattle.root.proofs.of_normal.Statement.{statement}
 use Rattle.root.proofs.of_normal.Tie as tie

@@ -7,9 +7,11 @@ use native.Mathlib.Omega.{arith}
 use lib.Pow.{pow-add, pow-pos}
 use lib.Count.{leadingZeros, leading-top}
 use lib.Ieee.{binary64, toBits, ofBits}
-use Rattle.root.specs.Root.{Nearest, sqrt}
-use Rattle.root.proofs.Rounded.{pow-lt-back}
-use Rattle.root.proofs.Values.{root-pattern, low-value, root-hi}
+use Rattle.root_near.specs.Nearest.{Nearest}
+use Rattle.root.specs.Root.{sqrt}
+use Rattle.root.specs.Rounded.{pow-lt-back}
+use Rattle.root.specs.Values.{root-pattern, low-value}
+use Rattle.root_near.specs.OneNearest.{root-hi}
 use borrow.Author.Needs.{needs}
 use Rattle.root.proofs.of_subnormal.Statement.{statement}
 use Rattle.root.proofs.of_subnormal.Tie as tie

@@ -5,7 +5,7 @@ use lib.Dec.{T}
 use lib.Ieee.{Float, binary64, fits, isNan, toBits, ofBits}
 use lib.Ieee.Bits.{ofBits-toBits, nanBits-is}
 use Rattle.root.specs.Root.{sqrt}
-use Rattle.root.proofs.Holds.{sqrt-fits}
+use Rattle.root.specs.Holds.{sqrt-fits}
 use Rattle.root.proofs.Signs.{rootless, rooted, number, no-number}
 use borrow.Author.Needs.{needs}
 use Rattle.root.proofs.root.Statement.{statement}

@@ -1,6 +1,6 @@
 -- `spline_rows::put_run` meets its contract. Assumes nothing.
 use mathlib.Core.Path.{refl}
-use Prim.Native.Nat.{_≤_, _-_}
+use Prim.Native.Nat.{_≤_}
 use native.Mathlib.Omega.{arith}
 use Rattle.spline_rows.proofs.Backward.{backward-none}
 use Rattle.spline_rows.proofs.Spreading.{RunFrom, run-again, run-end, puts-same}

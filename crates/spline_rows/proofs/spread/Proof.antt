@@ -5,8 +5,8 @@ use mathlib.Core.List.{List}
 use native.Mathlib.Omega.{arith}
 use lib.ListN.{length}
 use Rattle.row_cells.specs.Codes.{geometricOf}
-use Rattle.spline_points.specs.Points.{blockAt}
-use Rattle.spline_points.specs.Channels.{block-length}
+use Rattle.spline_channels.specs.Channels.{blockAt}
+use Rattle.spline_channels.specs.ChannelLaws.{block-length}
 use Rattle.spline_places.specs.Sizes.{placeTo}
 use Rattle.spline_rows.proofs.Backward.{backward-none}
 use Rattle.spline_rows.proofs.Spreading.{HeldFrom, held-again, spread-again, spread-end}

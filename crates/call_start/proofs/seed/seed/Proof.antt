@@ -4,7 +4,7 @@ use borrow.Author.Tests.{le-leb, lt-leb}
 use Rattle.row_cells.specs.Tested.{passed, failed}
 use Rattle.floats.specs.Truth.{cond-t, cond-f}
 use Rattle.call_start.specs.Seed.{seedSpec, seeded}
-use Rattle.call_reply.specs.Replies.{state-is}
+use Rattle.call_reply.specs.ReplyLaws.{state-is}
 use Rattle.saved_state.specs.StateLaws.{good, good-listed, geometric-small}
 use borrow.Author.Needs.{needs}
 use Rattle.call_start.proofs.seed.seed.Statement.{statement}

@@ -4,7 +4,7 @@ use borrow.Author.Tests.{eq-eqb, ne-eqb}
 use Rattle.row_cells.specs.Tested.{passed, failed}
 use Rattle.floats.specs.Truth.{cond-t, cond-f}
 use Rattle.call_start.specs.Start.{startSpec}
-use Rattle.call_reply.specs.Replies.{state-is}
+use Rattle.call_reply.specs.ReplyLaws.{state-is}
 use borrow.Author.Needs.{needs}
 use Rattle.call_start.proofs.start.start.Statement.{statement}
 use Rattle.call_start.proofs.start.start.Tie as tie

@@ -1,7 +1,8 @@
 -- `curve_runs::runs::prepare` meets its contract. Assumes nothing.
 use mathlib.Core.Path.{sym, _∙_}
 use native.Mathlib.Omega.{arith}
-use Rattle.curve_runs.proofs.Laying.{cells-in, fitted-as}
+use Rattle.fit_tables.specs.Cells.{cells-in}
+use Rattle.curve_runs.proofs.Running.{fitted-as}
 use borrow.Author.Needs.{needs}
 use Rattle.curve_runs.proofs.runs.prepare.Statement.{statement}
 use Rattle.curve_runs.proofs.runs.prepare.Tie as tie

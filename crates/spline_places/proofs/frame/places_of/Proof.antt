@@ -4,7 +4,7 @@ use Prim.Native.Nat.{ℕ, _≤_, _-_}
 use native.Mathlib.Omega.{arith}
 use Rattle.floats.specs.Fill.{Filling, filling-none, filling-more}
 use Rattle.layout.specs.Layout.{axisCodes}
-use Rattle.spline_points.specs.Points.{placeOf}
+use Rattle.spline_channels.specs.Channels.{placeOf}
 use borrow.Author.Needs.{needs}
 use Rattle.spline_places.proofs.frame.places_of.Statement.{statement}
 use Rattle.spline_places.proofs.frame.places_of.Tie as tie

@@ -4,8 +4,8 @@ use Prim.Native.Nat.{_≤_, _-_}
 use native.Mathlib.Omega.{arith}
 use lib.ListN.{length}
 use Rattle.row_cells.specs.Codes.{geometricOf}
-use Rattle.spline_points.specs.Points.{blockAt}
-use Rattle.spline_points.specs.Channels.{block-length}
+use Rattle.spline_channels.specs.Channels.{blockAt}
+use Rattle.spline_channels.specs.ChannelLaws.{block-length}
 use Rattle.spline_places.specs.Sizes.{placeTo}
 use Rattle.spline_places.specs.SizeLaws.{place-step, place-room}
 use borrow.Author.Needs.{needs}

@@ -1,0 +1,1 @@
+// The whole case of docs/ROWTEXT.md, computed by the definition. Statements, and no code.

@@ -1,0 +1,21 @@
+-- DEFINITIONS. Where the reading of the row text program stands. Assumes nothing.
+use Prim.Native.Nat.{ℕ}
+use mathlib.Core.Bool.{Bool, cond}
+use mathlib.Core.List.{List}
+use Rattle.text_lines.specs.declared.Turn.{Turn}
+use Rattle.text_lines.specs.Cut.{between}
+use Rattle.csv_out.specs.declared.Run.{Run}
+use Rattle.csv_io.specs.Status.{goesOn, ended}
+use Rattle.csv_reading.specs.declared.Reading.{Reading}
+
+-- a refusal ends the run
+abbrev pub goingOf : Bool → ℕ
+goingOf refused = cond refused ended goesOn
+
+-- what was read and not yet used
+abbrev pub unread : Reading → List ℕ → List ℕ
+unread s b = between b (s .at) (s .end)
+
+-- the reading behind a turn
+abbrev pub behind : Turn → Run → ℕ → Reading
+behind t run over = record { at = t .at; end = t .end; run = run; over = over }

@@ -1,0 +1,2 @@
+pub mod Segmenting
+pub mod Hinting

@@ -1,0 +1,1 @@
+// What any calls may answer, and runs of calls: statements over replies, and no code.

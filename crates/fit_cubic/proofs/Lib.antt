@@ -1,0 +1,2 @@
+pub mod Cubics
+pub mod Knots

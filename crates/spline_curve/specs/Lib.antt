@@ -1,0 +1,5 @@
+pub mod Runs
+pub mod Asks
+pub mod Widths
+pub mod Gathers
+pub mod Curves

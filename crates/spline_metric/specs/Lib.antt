@@ -1,0 +1,2 @@
+pub mod Metric
+pub mod Xyz

@@ -1,0 +1,5 @@
+pub mod Emission
+pub mod Plans
+pub mod Words
+pub mod Frames
+pub mod Planning
