@@ -20,7 +20,8 @@ use Rattle.spline_plan.specs.Emission.{splineGroups}
 use Rattle.spline_write.specs.Room.{putWithin}
 use Rattle.spline_curve.specs.Asks.{Holds}
 use Rattle.saved_state.specs.StateLaws.{good, good-few, axes-few}
-use Rattle.call_close.specs.Emitted.{codesOf, startOf, holds, emission-is, emission-few, Put}
+use Rattle.call_close.specs.Emitted.{codesOf, startOf, Put}
+use Rattle.call_close.specs.EmittedLaws.{holds, emission-is, emission-few}
 
 -- ---- a close
 pub close-turned-is : (st store rows : List ℕ) → (savedCheck st store ≡ 0 → ⊥) → closeSpec st store rows ≡ untouched (plain (savedCheck st store)) st store rows

@@ -1,3 +1,4 @@
 pub mod Held
 pub mod Close
 pub mod Emitted
+pub mod EmittedLaws

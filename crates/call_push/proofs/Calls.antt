@@ -28,10 +28,13 @@ use Rattle.call_push.specs.Push.{pushRows, pushDone, pushSpec}
 use Rattle.call_close.specs.Close.{untouched}
 use Rattle.saved_state.specs.Checked.{saved-ok}
 use Rattle.saved_state.specs.StateLaws.{good, good-few}
-use Rattle.push_rows.specs.Own.{Ready, ready, OwnPlanned, ownRows}
+use Rattle.push_rows.specs.Own.{Ready, OwnPlanned, ownRows}
+use Rattle.push_rows.specs.OwnLaws.{ready}
 use Rattle.spline_write.specs.Room.{putWithin}
-use Rattle.call_push.specs.Before.{before, before-words}
-use Rattle.call_close.specs.Emitted.{Put, room-left, room-short, put-refused, put-written}
+use Rattle.call_push.specs.Before.{before}
+use Rattle.call_push.specs.BeforeLaws.{before-words}
+use Rattle.call_close.specs.Emitted.{Put}
+use Rattle.call_close.specs.EmittedLaws.{room-left, room-short, put-refused, put-written}
 use Rattle.push_rows.specs.Few.{few-own}
 use Rattle.push_check.specs.declared.Due.the-variants.{Refused, Push}
 use Rattle.push_check.specs.BlockLaws.{due-refused, due-push}

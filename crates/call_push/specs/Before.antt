@@ -1,18 +1,8 @@
 -- CONTRACTS. The rows that a push writes before the block's own. Assumes nothing.
-use Prim.Native.Nat.{ℕ, _*_}
-use mathlib.Core.Path.{_≡_}
+use Prim.Native.Nat.{ℕ}
 use mathlib.Core.Bool.{Bool, cond}
 use mathlib.Core.List.{List, []}
-use lib.ListN.{length}
-use Rattle.floats.specs.Lists.{flatten}
-use Rattle.layout.specs.Layout.{rowWords}
-use Rattle.floats.specs.Truth.{by-bit}
 use Rattle.call_close.specs.Held.{emission}
-use Rattle.call_close.specs.Emitted.{emission-words}
 
 abbrev pub before : Bool → List ℕ → List ℕ → List (List ℕ)
 before e st store = cond e (emission st store) []
-
-pub before-words : (e : Bool) (st store : List ℕ) → length (flatten (before e st store)) ≡ length (before e st store) * rowWords
-unfolding flatten
-before-words e st store = by-bit e (λ b. rw b (emission-words st store)) (λ b. rw b)

@@ -1,3 +1,4 @@
 pub mod Before
+pub mod BeforeLaws
 pub mod Push
 pub mod Settle

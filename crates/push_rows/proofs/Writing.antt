@@ -15,7 +15,8 @@ use mathlib.Core.Option.{Option}
 use Rattle.arc_rows.specs.declared.Plan.{Plan}
 use Rattle.saved_state.specs.State.{position, geometricMask}
 use Rattle.push_check.specs.Blocks.{planeThen}
-use Rattle.push_rows.specs.Own.{OwnPlanned, ownRows, own-write, own-rows, own-no-rows}
+use Rattle.push_rows.specs.Own.{OwnPlanned, ownRows}
+use Rattle.push_rows.specs.OwnLaws.{own-write, own-rows, own-no-rows}
 
 -- ---- a block's own rows, written by what the code has at hand
 module _ (st r : List ℕ) (p : Plan) (gs plane : ℕ) (pos : ℕ → Option ℕ) (eg : gs ≡ geometricMask st) (ep : plane ≡ planeThen st r) (es : pos ≡ position st)

@@ -1,4 +1,5 @@
 pub mod Answer
 pub mod ArcSame
 pub mod Own
+pub mod OwnLaws
 pub mod Few

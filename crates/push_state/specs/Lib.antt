@@ -1,3 +1,4 @@
 pub mod Pushed
 pub mod PushLaws
 pub mod Stored
+pub mod StoredLaws

@@ -12,7 +12,7 @@ use Rattle.saved_state.specs.StateLaws.{good}
 use Rattle.call_close.specs.Close.{untouched, closeState}
 use Rattle.saved_state.specs.Checked.{saved-ok}
 use Rattle.call_close.proofs.Calls.{close-turned-is, close-none-is, close-few-is, close-done-is, no-rows}
-use Rattle.call_close.specs.Emitted.{room-left, room-short, put-refused, put-written}
+use Rattle.call_close.specs.EmittedLaws.{room-left, room-short, put-refused, put-written}
 use borrow.Author.Needs.{needs}
 use Rattle.call_close.proofs.close.Statement.{statement}
 use Rattle.call_close.proofs.close.Tie as tie

@@ -5,7 +5,7 @@ use Prim.Native.Nat.{ℕ, _+_}
 use native.Mathlib.Omega.{arith}
 use Rattle.call_reply.specs.Replies.{doneReply}
 use Rattle.push_check.specs.declared.Resolved.{Resolved}
-use Rattle.push_state.specs.Stored.{stores, store-is}
+use Rattle.push_state.specs.StoredLaws.{stores, store-is}
 use Rattle.call_push.specs.Settle.{settled}
 use borrow.Author.Needs.{needs}
 use Rattle.call_push.proofs.settle.Statement.{statement}

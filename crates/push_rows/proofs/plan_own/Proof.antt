@@ -1,5 +1,5 @@
 -- `push_rows::plan_own` meets its contract. Assumes nothing.
-use Rattle.push_rows.specs.Own.{ready-kind, own-same, own-linear, own-clockwise, own-counter, own-akima, own-basis, own-cubic, own-other, own-refused}
+use Rattle.push_rows.specs.OwnLaws.{ready-kind, own-same, own-linear, own-clockwise, own-counter, own-akima, own-basis, own-cubic, own-other, own-refused}
 use borrow.Author.Needs.{needs}
 use Rattle.push_rows.proofs.plan_own.Statement.{statement}
 use Rattle.push_rows.proofs.plan_own.Tie as tie

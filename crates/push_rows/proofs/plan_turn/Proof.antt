@@ -1,7 +1,7 @@
 -- `push_rows::plan_turn` meets its contract. Assumes nothing.
 use native.Mathlib.Omega.{arith}
 use lib.ListN.{length-take, length-drop}
-use Rattle.push_rows.specs.Own.{place-is, turn-planned, ready-axes, ready-plane, ready-small}
+use Rattle.push_rows.specs.OwnLaws.{place-is, turn-planned, ready-axes, ready-plane, ready-small}
 use borrow.Author.Needs.{needs}
 use Rattle.push_rows.proofs.plan_turn.Statement.{statement}
 use Rattle.push_rows.proofs.plan_turn.Tie as tie

@@ -1,7 +1,7 @@
 -- `push_rows::write_turn` meets its contract. Assumes nothing.
 use native.Mathlib.Omega.{arith}
 use lib.ListN.{length-take, length-drop}
-use Rattle.push_rows.specs.Own.{place-is, ready-axes, ready-plane, ready-small}
+use Rattle.push_rows.specs.OwnLaws.{place-is, ready-axes, ready-plane, ready-small}
 use Rattle.push_rows.proofs.Writing.{write-at, written}
 use borrow.Author.Needs.{needs}
 use Rattle.push_rows.proofs.write_turn.Statement.{statement}
