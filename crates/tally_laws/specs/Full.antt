@@ -1,0 +1,1 @@
+-- LAWS. Later, later on. Assumes nothing.

@@ -1,0 +1,41 @@
+-- LAWS. A worked case, computed from the definitions. Assumes nothing.
+use Prim.Native.Nat.{ℕ, _+_}
+use mathlib.Core.Path.{_≡_, refl}
+use mathlib.Core.List.{List, [], _∷_}
+use Rattle.floats.specs.Lists.{keep, member, anyOf}
+use Rattle.tally_words.specs.Words.{wBlocks, wRows, wMarked, wTurned}
+use Rattle.tally_call.specs.Calls.{figure, fails, closes, kPush, kClose}
+use Rattle.tally_laws.specs.Jobs.{JobCall, callsOf, sumOf, withJob, jobsFrom, triesFrom, passes, anyTry, firstPasses, lastFrom, countJobs, closedJobs, firstPassed, finalPassed}
+
+abbrev call : ℕ → ℕ → ℕ → ℕ → ℕ → ℕ → JobCall
+call job kind code count warning marked = record { job = job; call = record { kind = kind; code = code; count = count; warning = warning; marked = marked } }
+
+-- job 1: a start, a push of three rows, two marked, a push refused by 4, a close refused by 7 and made again, a second
+-- try that passes; job 2: a warning and no close; job 3: a lone close
+abbrev case : List JobCall
+case =
+    call 1 0 0 0 0 0
+    ∷ call 1 kPush 0 3 0 2
+    ∷ call 1 kPush 4 0 0 0
+    ∷ call 1 kClose 7 5 0 0
+    ∷ call 1 kClose 0 5 0 4
+    ∷ call 1 0 0 0 0 0
+    ∷ call 1 kPush 0 1 0 0
+    ∷ call 1 kClose 0 0 0 0
+    ∷ call 2 kPush 0 1 4 0
+    ∷ call 3 kClose 0 0 0 0
+    ∷ []
+
+pub case-rates : (firstPassed case ≡ 1) × ((closedJobs case ≡ 2) × (finalPassed case ≡ 2))
+unfolding countJobs keep callsOf jobsFrom withJob member triesFrom passes anyTry firstPasses lastFrom anyOf fails closes
+case-rates = (refl, (refl, refl))
+
+-- blocks, rows, marked rows; calls refused by 4 and by 7
+pub case-figures : (sumOf wBlocks (callsOf 1 case) ≡ 2) × ((sumOf wRows (callsOf 1 case) ≡ 9) × ((sumOf wMarked (callsOf 1 case) ≡ 6) × ((sumOf (wTurned + 4) (callsOf 1 case) ≡ 1) × (sumOf (wTurned + 7) (callsOf 1 case) ≡ 1))))
+unfolding callsOf sumOf figure
+case-figures = (refl, (refl, (refl, (refl, refl))))
+
+-- job 2's call with warning 4
+pub case-warned : sumOf (wMarked + 4) (callsOf 2 case) ≡ 1
+unfolding callsOf sumOf figure
+case-warned = refl
