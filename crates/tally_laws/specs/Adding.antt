@@ -1,20 +1,20 @@
 -- LAWS. Tallies whose jobs are apart add up. Assumes nothing.
 use Prim.Native.Nat.{ℕ, _+_}
 use mathlib.Core.Path.{_≡_, refl, sym, _∙_, ap, ap₂}
-use mathlib.Core.Bool.{Bool, true, false, false≢true}
-use mathlib.Core.List.{List, [], _∷_, _++_, append-assoc, append-nil}
+use mathlib.Core.Bool.{Bool, true, false, _||_, false≢true}
+use mathlib.Core.List.{List, [], _∷_, _++_, map, append-assoc, append-nil}
 use lib.ListN.{length, length-append}
 use lib.Dec.{eqb}
 use borrow.Author.Tests.{eq-eqb}
-use Rattle.floats.specs.Lists.{keep, member, anyOf}
+use Rattle.floats.specs.Lists.{keep, member, anyOf, flatten}
 use Rattle.floats.specs.Truth.{by-bit, cond-t, cond-f, or-t, or-f}
 use Rattle.tally_words.specs.Words.{emptyTally}
 use Rattle.tally_call.specs.declared.Call.{Call}
 use Rattle.tally.specs.declared.Rates.{Rates}
 use Rattle.tally.specs.Tally.{ratesSpec}
 use Rattle.tally_laws.specs.Jobs.{Note, JobCall, run, taken, callsOf, withJob, jobsFrom, jobsOf, told, countJobs, closedJobs, firstPassed, finalPassed}
-use Rattle.tally_laws.specs.Statements.{Apart, AddUp, sumRates}
-use Rattle.tally_laws.specs.ListLaws.{member-append, keep-append, keep-same}
+use Rattle.tally_laws.specs.Statements.{total, Each, nil, cons, Apart, Pairwise, none, next, AddUp, sumRates, tookOf, NightAdds}
+use Rattle.tally_laws.specs.ListLaws.{any-append, member-append, keep-append, keep-same}
 use Rattle.tally_laws.specs.JobLaws.{calls-append, calls-none, jobs-told, jobs-append}
 use Rattle.tally_laws.specs.Counts.{rates-count}
 
@@ -89,3 +89,44 @@ rates-add xs ys zs e d =
     ∙ ap ratesOf e
     ∙ rates-sum (taken emptyTally xs) (taken emptyTally ys) a
     ∙ ap₂ sumRates (sym (rates-count xs)) (sym (rates-count ys))
+
+-- ---- the tallies of a night
+told-append : (j : ℕ) (ts us : List JobCall) → told j (ts ++ us) ≡ (told j ts || told j us)
+unfolding told
+told-append j ts us = any-append (λ (t : JobCall). eqb (t .job) j) ts us
+
+apart-flat : (ts : List JobCall) (tss : List (List JobCall)) → Each (Apart ts) tss → Apart ts (flatten tss)
+unfolding flatten told anyOf
+apart-flat ts [] nil = λ j m. refl
+apart-flat ts (us ∷ tss) (cons a e) = λ j m. told-append j us (flatten tss) ∙ or-f _ (a j m) ∙ apart-flat ts tss e j m
+
+no-jobs : (q : List Call → Bool) → countJobs q [] ≡ 0
+unfolding countJobs jobsFrom keep
+no-jobs q = refl
+
+night-counts : (q : List Call → Bool) (tss : List (List JobCall)) → Pairwise tss → countJobs q (flatten tss) ≡ total (countJobs q) tss
+unfolding flatten total
+night-counts q [] none = no-jobs q
+night-counts q (ts ∷ tss) (next e p) =
+    counts-add ts (flatten tss) (apart-flat ts tss e) q ∙ ap (λ (n : ℕ). countJobs q ts + n) (night-counts q tss p)
+
+total-map : {A B : Type 0} (f : B → ℕ) (g : A → B) (h : A → ℕ) → ((x : A) → f (g x) ≡ h x) → (xs : List A) → total f (map g xs) ≡ total h xs
+unfolding total
+total-map f g h e [] = refl
+total-map f g h e (x ∷ xs) = ap₂ (λ (m n : ℕ). m + n) (e x) (total-map f g h e xs)
+
+total-same : {A : Type 0} (f g : A → ℕ) → ((x : A) → f x ≡ g x) → (xs : List A) → total f xs ≡ total g xs
+unfolding total
+total-same f g e [] = refl
+total-same f g e (x ∷ xs) = ap₂ (λ (m n : ℕ). m + n) (e x) (total-same f g e xs)
+
+-- tallies on any number of machines, whose jobs are pairwise apart, more than 64 in all too: their answers add up to the numbers
+-- over all calls
+pub night-adds : (night : List (List Note)) → Pairwise (map tookOf night) → NightAdds night
+night-adds night p =
+    record {
+      closed = night-counts _ (map tookOf night) p ∙ total-map _ tookOf _ (λ ns. sym (ap (λ (r : Rates). r .«first_closed») (rates-count ns))) night;
+      first = night-counts _ (map tookOf night) p ∙ total-map _ tookOf _ (λ ns. sym (ap (λ (r : Rates). r .«first_passed») (rates-count ns))) night;
+      final = night-counts _ (map tookOf night) p ∙ total-map _ tookOf _ (λ ns. sym (ap (λ (r : Rates). r .«final_passed») (rates-count ns))) night;
+      same = total-same _ _ (λ ns. ap (λ (r : Rates). r .«final_closed») (rates-count ns) ∙ sym (ap (λ (r : Rates). r .«first_closed») (rates-count ns))) night;
+    }

@@ -22,7 +22,7 @@ use Rattle.tally_laws.specs.Holds.{Holds, holds-none, holds-run, old-wor
 pub holds : (ns : List Note) → Holds (run emptyTally ns) (taken emptyTally ns)
 holds ns = holds-run ns emptyTally [] holds-none
 
-figure-word : (j k : ℕ) (cs : List Call) → 0 < k → k ≤ figures → slotWord j cs k ≡ sumOf k cs
+pub figure-word : (j k : ℕ) (cs : List Call) → 0 < k → k ≤ figures → slotWord j cs k ≡ sumOf k cs
 unfolding slotWord
 figure-word j k cs l h = cond-f _ _ (ne-eqb k wJob (ne-of-gt l)) ∙ cond-f _ _ (ne-eqb k wTry (ne-of-lt (omega arith)))
 
@@ -38,7 +38,7 @@ module _ {st : List ℕ} {ts : List JobCall} (h : Holds st ts) where
   try-at : (i : ℕ) → i < length (jobsOf ts) → tryAt st i ≡ tryOf (callsOf (getD (jobsOf ts) i 0) ts)
   try-at i l = h .word i wTry l (omega arith) ∙ try-word (getD (jobsOf ts) i 0) (callsOf (getD (jobsOf ts) i 0) ts)
 
-  good-tally : tallyOk st ≡ true
+  pub good-tally : tallyOk st ≡ true
   unfolding tallyOk
   good-tally =
       and-i (eq-eqb (length st) tallyWords (h .long))

@@ -98,11 +98,11 @@ module _ {st : List ℕ} {ts : List JobCall} (h : Holds st ts) (job : ℕ) where
   unfolding slotWord
   first-word i l = h .word i wJob l (omega arith)
 
-  top : slotOf st job ≤ n₀
+  pub top : slotOf st job ≤ n₀
   unfolding slotOf
   top = omega (arith, seek-le (isJob st job) (jobsIn st), h .count)
 
-  hit : slotOf st job < n₀ → jobAt ts (slotOf st job) ≡ job
+  pub hit : slotOf st job < n₀ → jobAt ts (slotOf st job) ≡ job
   unfolding slotOf isJob
   hit l =
       let g : seek (isJob st job) (jobsIn st) < jobsIn st = omega (arith, h .count) in
@@ -120,7 +120,7 @@ module _ {st : List ℕ} {ts : List JobCall} (h : Holds st ts) (job : ℕ) where
       (lt-or-le k (slotOf st job))
 
   module _ (b : ltb (slotOf st job) (jobsIn st) ≡ true) where
-    known-lt : slotOf st job < n₀
+    pub known-lt : slotOf st job < n₀
     known-lt = omega (arith, ltb-true (slotOf st job) (jobsIn st) b, h .count)
 
     known-jobs : withJob job (jobsOf ts) ≡ jobsOf ts
@@ -135,10 +135,10 @@ module _ {st : List ℕ} {ts : List JobCall} (h : Holds st ts) (job : ℕ) where
         ∙ ap (λ (j : ℕ). slotWord j (callsOf j ts) k) (hit known-lt)
 
   module _ (b : ltb (slotOf st job) (jobsIn st) ≡ false) where
-    new-at : slotOf st job ≡ n₀
+    pub new-at : slotOf st job ≡ n₀
     new-at = omega (arith, ltb-false (slotOf st job) (jobsIn st) b, h .count, top)
 
-    new-member : member job (jobsOf ts) ≡ false
+    pub new-member : member job (jobsOf ts) ≡ false
     new-member = member-none job (jobsOf ts) (λ k l e. miss k (omega (arith, new-at)) l e)
 
     new-jobs : withJob job (jobsOf ts) ≡ jobsOf ts ++ (job ∷ [])
