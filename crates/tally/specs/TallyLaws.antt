@@ -33,7 +33,8 @@ callIn d (Is c) = c
 
 module _ (st : List ℕ) (job kind code count warning : ℕ) (rows : List ℕ) (ok : tallyOk st ≡ true) where
   -- where the told numbers are a call, it is that of the definition
-  told-true : {c : Call} → Is c ≡ toldCall kind code count warning rows → (toldOk kind code count warning rows ≡ true) × (c ≡ callOf kind code count warning rows)
+  told-true : {c : Call} → Is c ≡ toldCall kind code count warning rows
+      → (toldOk kind code count warning rows ≡ true) × (c ≡ callOf kind code count warning rows)
   unfolding toldCall
   told-true {c} =
       by-bit (toldOk kind code count warning rows)

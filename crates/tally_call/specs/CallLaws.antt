@@ -9,7 +9,7 @@ use native.Mathlib.Omega.{arith}
 use lib.Dec.{leb, eqb}
 use lib.ListN.{length, getD}
 use lib.Seq.{getD-drop}
-use borrow.Author.Tests.{le-leb, lt-leb, eq-eqb, ne-eqb, leb-true}
+use borrow.Author.Tests.{le-leb, lt-leb, eq-eqb, ne-eqb}
 use Rattle.floats.specs.Lists.{all}
 use Rattle.floats.specs.Truth.{and-t, and-f, cond-t, cond-f, all-more, all-fails, by-bit}
 use Rattle.layout.specs.Layout.{rowWords, rMark}
@@ -66,7 +66,8 @@ pub lent-few : (rows : List ℕ) {count whole : ℕ} → whole ≡ length rows /
 unfolding lentMarks rowsOk
 lent-few rows {count} {whole} e l = sym (cond-f _ _ (and-f _ (lt-leb count _ (rw (← e) l))))
 
-pub lent-some : (rows : List ℕ) {count whole : ℕ} {r : Marks} → whole ≡ length rows / rowWords → count ≤ whole → r ≡ marksOf rows count → r ≡ lentMarks count rows
+pub lent-some : (rows : List ℕ) {count whole : ℕ} {r : Marks} → whole ≡ length rows / rowWords → count ≤ whole → r ≡ marksOf rows count
+    → r ≡ lentMarks count rows
 unfolding lentMarks rowsOk marksOf
 lent-some rows {count} {whole} {r} e l h = h ∙ rw (le-leb count (length rows / rowWords) (rw (← e) l))
 
@@ -95,7 +96,8 @@ module _ (kind code count warning : ℕ) (rows : List ℕ) where
         unfolding toldOk
         numbers = and-t _ (le-leb kind kClose a) ∙ and-t _ (le-leb code mostCode b) ∙ and-t _ (le-leb warning mostWarning d)
 
-        pub told-turned : (code ≡ 0 → ⊥) → Told.Is (record { kind = kind; code = code; count = count; warning = warning; marked = 0 }) ≡ toldCall kind code count warning rows
+        pub told-turned : (code ≡ 0 → ⊥)
+            → Told.Is (record { kind = kind; code = code; count = count; warning = warning; marked = 0 }) ≡ toldCall kind code count warning rows
         unfolding toldCall callOf
         told-turned n = rw (numbers, ne-eqb code 0 n)
 

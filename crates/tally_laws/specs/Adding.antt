@@ -72,7 +72,15 @@ pub disjoint-add : (ts us : List JobCall) → Apart ts us → AddUp ts us
 disjoint-add ts us d = record { closed = counts-add ts us d _; first = counts-add ts us d _; final = counts-add ts us d _ }
 
 abbrev pub ratesOf : List JobCall → Rates
-ratesOf ts = record { code = 0; «first_passed» = firstPassed ts; «first_closed» = closedJobs ts; «final_passed» = finalPassed ts; «final_closed» = closedJobs ts }
+ratesOf ts =
+    record {
+      code = 0;
+      «first_passed» = firstPassed ts;
+      «first_closed» = closedJobs ts;
+      «final_passed» = finalPassed ts;
+      «final_closed» = closedJobs
+          ts;
+    }
 
 rates-sum : (ts us : List JobCall) → AddUp ts us → ratesOf (ts ++ us) ≡ sumRates (ratesOf ts) (ratesOf us)
 rates-sum ts us a = rw (a .closed, a .first, a .final)

@@ -9,11 +9,13 @@ use lib.ListN.{length, getD}
 use borrow.Author.Tests.{eq-eqb, ne-eqb, le-leb}
 use Rattle.floats.specs.Truth.{cond-f, and-i, all-intro}
 use Rattle.row_cells.specs.Bits.{has}
-use Rattle.tally_words.specs.Words.{figures, wTry, tallyWords, mostJobs, jobsIn, wJob, bClosed, bFirst, bFinal, tryAt, countIf, tryOk, tallyOk, emptyTally, jobsWith}
+use Rattle.tally_words.specs.Words.{figures, wTry, tallyWords, mostJobs, jobsIn, wJob, bClosed}
+use Rattle.tally_words.specs.Words.{bFirst, bFinal, tryAt, countIf, tryOk, tallyOk, emptyTally, jobsWith}
 use Rattle.tally_call.specs.declared.Call.{Call}
 use Rattle.tally.specs.Tally.{ratesSpec}
 use Rattle.tally.specs.TallyLaws.{rates-is}
-use Rattle.tally_laws.specs.Jobs.{Note, JobCall, run, taken, figureIn, callsOf, sumOf, jobsOf, triesOf, anyTry, firstPasses, finalPasses, countJobs, closedJobs, firstPassed, finalPassed}
+use Rattle.tally_laws.specs.Jobs.{Note, JobCall, run, taken, figureIn, callsOf, sumOf, jobsOf}
+use Rattle.tally_laws.specs.Jobs.{triesOf, anyTry, firstPasses, finalPasses, countJobs, closedJobs, firstPassed, finalPassed}
 use Rattle.tally_laws.specs.ListLaws.{count-same, count-list}
 use Rattle.tally_laws.specs.JobLaws.{tryOf, try-bits, try-ok, slotWord}
 use Rattle.tally_laws.specs.Holds.{Holds, holds-none, holds-run, old-word}
@@ -43,7 +45,8 @@ module _ {st : List ℕ} {ts : List JobCall} (h : Holds st ts) where
   good-tally =
       and-i (eq-eqb (length st) tallyWords (h .long))
       (and-i (le-leb (jobsIn st) mostJobs (omega (arith, h .count, h .few)))
-      (all-intro (jobsIn st) (λ (i : ℕ). tryOk (tryAt st i)) (λ i l. ap tryOk (try-at i (omega (arith, h .count))) ∙ try-ok (callsOf (getD (jobsOf ts) i 0) ts))))
+      (all-intro (jobsIn st) (λ (i : ℕ). tryOk (tryAt st i))
+      (λ i l. ap tryOk (try-at i (omega (arith, h .count))) ∙ try-ok (callsOf (getD (jobsOf ts) i 0) ts))))
 
   jobs-with : (b : ℕ) (q : List Call → Bool) → ((cs : List Call) → has (tryOf cs) b ≡ q cs) → jobsWith st b ≡ countJobs q ts
   unfolding jobsWith countJobs
@@ -53,7 +56,15 @@ module _ {st : List ℕ} {ts : List JobCall} (h : Holds st ts) where
       (λ i l. ap (λ (w : ℕ). has w b) (try-at i l) ∙ e (callsOf (getD (jobsOf ts) i 0) ts))
       ∙ count-list (λ (j : ℕ). q (callsOf j ts)) (jobsOf ts)
 
-  rates-hold : ratesSpec st ≡ record { code = 0; «first_passed» = firstPassed ts; «first_closed» = closedJobs ts; «final_passed» = finalPassed ts; «final_closed» = closedJobs ts }
+  rates-hold : ratesSpec st
+      ≡ record {
+        code = 0;
+        «first_passed» = firstPassed ts;
+        «first_closed» = closedJobs ts;
+        «final_passed» = finalPassed ts;
+        «final_closed» = closedJobs
+            ts;
+      }
   rates-hold =
       sym (rates-is st (firstPassed ts) (closedJobs ts) (finalPassed ts) good-tally
       (sym (jobs-with bFirst (λ (cs : List Call). firstPasses (triesOf cs)) (λ cs. try-bits cs .b1)))

@@ -1,12 +1,12 @@
 -- LAWS. How tries are cut. Assumes nothing.
 use mathlib.Core.Path.{_≡_, refl, sym, _∙_, ap}
-use mathlib.Core.Bool.{true, false}
+use mathlib.Core.Bool.{false}
 use mathlib.Core.List.{List, [], _∷_, _++_, append-assoc, append-nil}
 use Rattle.floats.specs.Lists.{flatten, anyOf}
 use Rattle.floats.specs.Truth.{by-bit, or-f}
 use Rattle.tally_call.specs.declared.Call.{Call}
 use Rattle.tally_call.specs.Calls.{closes}
-use Rattle.tally_laws.specs.Jobs.{triesFrom, openFrom, triesOf, openOf}
+use Rattle.tally_laws.specs.Jobs.{triesFrom, openFrom}
 use Rattle.tally_laws.specs.Statements.{Try, Each, nil, cons, TriesCut}
 use Rattle.tally_laws.specs.ListLaws.{any-snoc}
 
@@ -15,7 +15,8 @@ unfolding triesFrom openFrom flatten
 whole since [] = sym (append-nil since)
 whole since (c ∷ cs) =
     by-bit (closes c)
-    (λ b. rw b (append-assoc (since ++ (c ∷ [])) (flatten (triesFrom [] cs)) (openFrom [] cs) ∙ ap (λ (z : List Call). (since ++ (c ∷ [])) ++ z) (whole [] cs) ∙ append-assoc since (c ∷ []) cs))
+    (λ b. rw b (append-assoc (since ++ (c ∷ [])) (flatten (triesFrom [] cs)) (openFrom [] cs)
+    ∙ ap (λ (z : List Call). (since ++ (c ∷ [])) ++ z) (whole [] cs) ∙ append-assoc since (c ∷ []) cs))
     (λ b. rw b (whole (since ++ (c ∷ [])) cs ∙ append-assoc since (c ∷ []) cs))
 
 still-open : (since : List Call) (c : Call) → anyOf closes since ≡ false → closes c ≡ false → anyOf closes (since ++ (c ∷ [])) ≡ false

@@ -1,6 +1,6 @@
 -- LAWS. Each figure of a job by what it counts among the job's calls. Assumes nothing.
 use Prim.Native.Nat.{ℕ, _+_, _-_, _<_, _≤_}
-use mathlib.Core.Path.{_≡_, refl, sym, _∙_, ap, ap₂}
+use mathlib.Core.Path.{_≡_, refl, _∙_, ap}
 use mathlib.Core.Bool.{Bool, _&&_, cond}
 use mathlib.Core.List.{List, [], _∷_}
 use native.Mathlib.Nat.{ne-of-gt}
@@ -10,10 +10,10 @@ use lib.Dec.{eqb, leb}
 use borrow.Author.Tests.{ne-eqb, le-leb, lt-leb}
 use Rattle.floats.specs.Lists.{keep}
 use Rattle.floats.specs.Truth.{by-bit, cond-t, cond-f}
-use Rattle.tally_words.specs.Words.{mostWarning, mostCode, wBlocks, wRows, wMarked, wTurned, figures, emptyTally, bit}
+use Rattle.tally_words.specs.Words.{mostWarning, mostCode, wBlocks, wRows, wMarked, wTurned, emptyTally, bit}
 use Rattle.tally_call.specs.Calls.{kPush, figure}
 use Rattle.tally_call.specs.declared.Call.{Call}
-use Rattle.tally_laws.specs.Jobs.{Note, run, taken, figureIn, callsOf, sumOf}
+use Rattle.tally_laws.specs.Jobs.{Note, run, taken, callsOf, sumOf}
 use Rattle.tally_laws.specs.Statements.{total, accepted, FiguresAre}
 use Rattle.tally_laws.specs.Counts.{figures-count}
 

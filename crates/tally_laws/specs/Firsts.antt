@@ -1,9 +1,9 @@
 -- LAWS. Whether a job's first try passed is settled at its first accepted close, and by a failing call before that. Assumes nothing.
 use mathlib.Core.Path.{_≡_, refl, sym, _∙_, ap}
 use mathlib.Core.Bool.{Bool, true, false, _||_, not, false≢true}
-use mathlib.Core.List.{List, [], _∷_, _++_, append-assoc, append-nil}
+use mathlib.Core.List.{List, [], _∷_, _++_}
 use Rattle.floats.specs.Lists.{anyOf}
-use Rattle.floats.specs.Truth.{by-bit, or-t, or-f}
+use Rattle.floats.specs.Truth.{by-bit, or-t}
 use Rattle.tally_call.specs.Calls.{fails, closes}
 use Rattle.tally_call.specs.declared.Call.{Call}
 use Rattle.tally_laws.specs.Jobs.{triesFrom, openFrom, triesOf, passes, anyTry, firstPasses}
@@ -44,7 +44,8 @@ or-right : (a : Bool) {b : Bool} → b ≡ true → (a || b) ≡ true
 or-right true h = refl
 or-right false h = h
 
-failed-from : (since cs : List Call) (c : Call) (ds : List Call) → anyOf closes cs ≡ false → fails c ≡ true → firstPasses (triesFrom since (cs ++ (c ∷ ds))) ≡ false
+failed-from : (since cs : List Call) (c : Call) (ds : List Call) → anyOf closes cs ≡ false → fails c ≡ true
+    → firstPasses (triesFrom since (cs ++ (c ∷ ds))) ≡ false
 unfolding triesFrom firstPasses anyOf
 failed-from since [] c ds = λ n f.
     by-bit (closes c)

@@ -49,7 +49,8 @@ module _ {st : List ℕ} {ts : List JobCall} (h : Holds st ts) (t : JobCall) whe
   fits-sum : (k : ℕ) → k < figures → figureFits st (slotAt (slotOf st (t .job))) (isKnown st (t .job)) (t .call) k ≡ ltb (sum₀ (k + 1)) (2 ^ 64)
   unfolding figureFits
   fits-sum k l =
-      let old = old-word h (t .job) (k + 1) (omega arith) (ne-of-gt (omega arith)) ∙ figure-word (t .job) (k + 1) (callsOf (t .job) ts) (omega arith) (omega arith) in
+      let old = old-word h (t .job) (k + 1) (omega arith) (ne-of-gt (omega arith))
+      ∙ figure-word (t .job) (k + 1) (callsOf (t .job) ts) (omega arith) (omega arith) in
       let new : sum₀ (k + 1) ≡ sumOf (k + 1) (callsOf (t .job) ts) + figure (t .call) (k + 1) =
       ap (sumOf (k + 1)) (calls-own ts t (t .job) refl) ∙ sum-snoc (k + 1) (callsOf (t .job) ts) (t .call) in
       ap (λ (x : ℕ). ltb x (2 ^ 64)) (ap (λ (x : ℕ). x + figure (t .call) (k + 1)) old ∙ sym new)
@@ -97,7 +98,11 @@ module _ {st : List ℕ} {ts : List JobCall} (h : Holds st ts) (t : JobCall) whe
       let l : p .figure - 1 < figures = omega (arith, p .some, p .most) in
       let f : ltb (sum₀ (p .figure)) (2 ^ 64) ≡ false = le-ltb _ _ (p .past) in
       let g : ltb (sum₀ (p .figure - 1 + 1)) (2 ^ 64) ≡ false = ap (λ (k : ℕ). ltb (sum₀ k) (2 ^ 64)) e ∙ f in
-      rw (all-fails figures (figureFits st (slotAt (slotOf st (t .job))) (isKnown st (t .job)) (t .call)) (p .figure - 1) l (fits-sum (p .figure - 1) l ∙ g), and-false)
+      rw (
+        all-fails figures (figureFits st (slotAt (slotOf st (t .job))) (isKnown st (t .job)) (t .call)) (p .figure - 1) l
+            (fits-sum (p .figure - 1) l ∙ g),
+        and-false,
+      )
 
 -- ---- what a note that is well told answers, by its room
 module _ (st : List ℕ) (n : Note) (ok : tallyOk st ≡ true) (w : wellTold n ≡ true) where

@@ -76,7 +76,9 @@ module _ (st : List ℕ) (job : ℕ) (c : Call) (long : length st ≡ tallyWords
 
   pub noted-own : (k : ℕ) → k < jobWords → getD (noted st job c) (slotAt i₀ + k) 0 ≡ newWord job c k (oldWord st (slotAt i₀) (isKnown st job) k)
   unfolding slotAfter s₀ f₀
-  noted-own k h = at-slot (slotAt i₀ + k) (omega arith) ∙ in-slice st (slotAt i₀) (upto f₀ jobWords) k (omega arith) (omega (arith, wide)) ∙ at-upto f₀ jobWords k 0 h
+  noted-own k h =
+      at-slot (slotAt i₀ + k) (omega arith) ∙ in-slice st (slotAt i₀) (upto f₀ jobWords) k (omega arith) (omega (arith, wide))
+      ∙ at-upto f₀ jobWords k 0 h
 
   pub noted-other : (i k : ℕ) → (i ≡ i₀ → ⊥) → k < jobWords → getD (noted st job c) (slotAt i + k) 0 ≡ getD st (slotAt i + k) 0
   unfolding s₀
@@ -116,7 +118,8 @@ module _ {st : List ℕ} {ts : List JobCall} (h : Holds st ts) (job : ℕ) where
   other k l ne e =
       ⊎-elim
       (λ (w : k < slotOf st job). miss k w l e)
-      (λ (w : slotOf st job ≤ k). ⊎-elim (λ (z : slotOf st job ≡ k). ne (sym z)) (λ (z : slotOf st job < k). h .once (slotOf st job) k z l (hit (omega arith) ∙ sym e)) (eq-or-lt-of-le {n = slotOf st job} {m = k} w))
+      (λ (w : slotOf st job ≤ k). ⊎-elim (λ (z : slotOf st job ≡ k). ne (sym z))
+      (λ (z : slotOf st job < k). h .once (slotOf st job) k z l (hit (omega arith) ∙ sym e)) (eq-or-lt-of-le {n = slotOf st job} {m = k} w))
       (lt-or-le k (slotOf st job))
 
   module _ (b : ltb (slotOf st job) (jobsIn st) ≡ true) where
@@ -188,7 +191,9 @@ module _ {st : List ℕ} {ts : List JobCall} (h : Holds st ts) (t : JobCall) (sm
         few = omega arith;
         low = λ i g. ap (λ (z : List ℕ). getD z i 0) e ∙ List·getD-append (jobsOf ts) (t .job ∷ []) 0 i g;
         own = ap (λ (z : List ℕ). getD z (slotOf st (t .job)) 0) e ∙ getD-at (jobsOf ts) (t .job) [] 0 (slotOf st (t .job)) (sym a);
-        lt = λ i g ne. ⊎-elim (λ (z : i ≡ length (jobsOf ts)). absurd (ne (z ∙ sym a))) (λ z. z) (eq-or-lt-of-le {n = i} {m = length (jobsOf ts)} (omega arith));
+        lt =
+            λ i g ne. ⊎-elim (λ (z : i ≡ length (jobsOf ts)). absurd (ne (z ∙ sym a))) (λ z. z)
+            (eq-or-lt-of-le {n = i} {m = length (jobsOf ts)} (omega arith));
       }
 
   listed : Listed st ts t
@@ -208,19 +213,22 @@ module _ {st : List ℕ} {ts : List JobCall} (h : Holds st ts) (t : JobCall) (sm
       (λ w. apart k l nk (sym e ∙ ap (jobAt (ts ++ (t ∷ []))) w ∙ listed .own))
       (λ ni. h .once i k ik (listed .lt k l nk) (sym (listed .low i (listed .lt i (omega arith) ni)) ∙ e ∙ listed .low k (listed .lt k l nk))))
 
-  word-own : (k : ℕ) → k < jobWords → getD (noted st (t .job) (t .call)) (slotAt (slotOf st (t .job)) + k) 0 ≡ slotWord (t .job) (callsOf (t .job) (ts ++ (t ∷ []))) k
+  word-own : (k : ℕ) → k < jobWords
+      → getD (noted st (t .job) (t .call)) (slotAt (slotOf st (t .job)) + k) 0 ≡ slotWord (t .job) (callsOf (t .job) (ts ++ (t ∷ []))) k
   word-own k l =
       noted-own st (t .job) (t .call) (h .long) small k l
       ∙ slot-more (t .job) (callsOf (t .job) ts) (t .call) k _ (λ z. old-word h (t .job) k l z)
       ∙ ap (λ (cs : List Call). slotWord (t .job) cs k) (sym (calls-own ts t (t .job) refl))
 
-  word-other : (i k : ℕ) → i < length (jobsOf ts) → (i ≡ slotOf st (t .job) → ⊥) → k < jobWords → getD (noted st (t .job) (t .call)) (slotAt i + k) 0 ≡ slotWord (jobAt ts i) (callsOf (jobAt ts i) (ts ++ (t ∷ []))) k
+  word-other : (i k : ℕ) → i < length (jobsOf ts) → (i ≡ slotOf st (t .job) → ⊥) → k < jobWords
+      → getD (noted st (t .job) (t .call)) (slotAt i + k) 0 ≡ slotWord (jobAt ts i) (callsOf (jobAt ts i) (ts ++ (t ∷ []))) k
   word-other i k l ne g =
       noted-other st (t .job) (t .call) (h .long) small i k ne g
       ∙ h .word i k l g
       ∙ ap (λ (cs : List Call). slotWord (jobAt ts i) cs k) (sym (calls-other ts t (jobAt ts i) (λ e. other h (t .job) i l ne (sym e))))
 
-  word-more : (i k : ℕ) → i < length (jobsOf (ts ++ (t ∷ []))) → k < jobWords → getD (noted st (t .job) (t .call)) (slotAt i + k) 0 ≡ slotWord (jobAt (ts ++ (t ∷ [])) i) (callsOf (jobAt (ts ++ (t ∷ [])) i) (ts ++ (t ∷ []))) k
+  word-more : (i k : ℕ) → i < length (jobsOf (ts ++ (t ∷ []))) → k < jobWords
+      → getD (noted st (t .job) (t .call)) (slotAt i + k) 0 ≡ slotWord (jobAt (ts ++ (t ∷ [])) i) (callsOf (jobAt (ts ++ (t ∷ [])) i) (ts ++ (t ∷ []))) k
   word-more i k l g =
       or-other i
       (λ w.
@@ -244,7 +252,8 @@ room-small : (st : List ℕ) (job : ℕ) (c : Call) → roomFor st job c ≡ tru
 unfolding roomFor
 room-small st job c r = ltb-true _ _ (and-left (ltb (slotOf st job) mostJobs) _ r)
 
-pub holds-more : {st : List ℕ} {ts : List JobCall} → Holds st ts → (t : JobCall) → roomFor st (t .job) (t .call) ≡ true → Holds (noted st (t .job) (t .call)) (ts ++ (t ∷ []))
+pub holds-more : {st : List ℕ} {ts : List JobCall} → Holds st ts → (t : JobCall) → roomFor st (t .job) (t .call) ≡ true
+    → Holds (noted st (t .job) (t .call)) (ts ++ (t ∷ []))
 holds-more {st} {ts} h t r = holds-next h t (room-small st (t .job) (t .call) r)
 
 -- after any notes
@@ -254,9 +263,13 @@ holds-run [] st ts h = subst (λ (z : List JobCall). Holds st z) (sym (append-ni
 holds-run (n ∷ ns) st ts h =
     by-bit (took st n)
     (λ b.
-    let g : Holds (answer st n .state) (ts ++ (toldOf n ∷ [])) = subst (λ (z : List ℕ). Holds z (ts ++ (toldOf n ∷ []))) (sym (taken-state st n b)) (holds-more h (toldOf n) (taken-room st n b)) in
-    let r : Holds (run (answer st n .state) ns) ((ts ++ (toldOf n ∷ [])) ++ taken (answer st n .state) ns) = holds-run ns (answer st n .state) (ts ++ (toldOf n ∷ [])) g in
-    subst (λ (z : List JobCall). Holds (run (answer st n .state) ns) z) (append-assoc ts (toldOf n ∷ []) (taken (answer st n .state) ns) ∙ ap (λ (z : List JobCall). ts ++ z) (sym (cond-t _ _ b))) r)
+    let g : Holds (answer st n .state) (ts ++ (toldOf n ∷ [])) = subst (λ (z : List ℕ). Holds z (ts ++ (toldOf n ∷ []))) (sym (taken-state st n b))
+    (holds-more h (toldOf n) (taken-room st n b)) in
+    let r : Holds (run (answer st n .state) ns) ((ts ++ (toldOf n ∷ [])) ++ taken (answer st n .state) ns) = holds-run ns (answer st n .state)
+    (ts ++ (toldOf n ∷ [])) g in
+    subst (λ (z : List JobCall). Holds (run (answer st n .state) ns) z)
+    (append-assoc ts (toldOf n ∷ []) (taken (answer st n .state) ns) ∙ ap (λ (z : List JobCall). ts ++ z) (sym (cond-t _ _ b))) r)
     (λ b.
     let g : Holds (answer st n .state) ts = subst (λ (z : List ℕ). Holds z ts) (sym (turned-leaves st n b)) h in
-    subst (λ (z : List JobCall). Holds (run (answer st n .state) ns) z) (ap (λ (z : List JobCall). ts ++ z) (sym (cond-f _ _ b))) (holds-run ns (answer st n .state) ts g))
+    subst (λ (z : List JobCall). Holds (run (answer st n .state) ns) z) (ap (λ (z : List JobCall). ts ++ z) (sym (cond-f _ _ b)))
+    (holds-run ns (answer st n .state) ts g))

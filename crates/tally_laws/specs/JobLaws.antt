@@ -13,7 +13,8 @@ use Rattle.tally_words.specs.Words.{wJob, wTry, bClosed, bFirst, bFinal, bFaili
 use Rattle.tally_call.specs.declared.Call.{Call}
 use Rattle.tally_call.specs.Calls.{figure, fails, closes, tryNumber, tryAfter}
 use Rattle.tally_slot.specs.Slots.{newWord}
-use Rattle.tally_laws.specs.Jobs.{JobCall, callsOf, sumOf, withJob, jobsFrom, jobsOf, triesFrom, openFrom, triesOf, openOf, passes, anyTry, firstPasses, lastFrom, finalPasses, told}
+use Rattle.tally_laws.specs.Jobs.{JobCall, callsOf, sumOf, withJob, jobsFrom, jobsOf, triesFrom, openFrom}
+use Rattle.tally_laws.specs.Jobs.{triesOf, openOf, passes, anyTry, firstPasses, lastFrom, finalPasses, told}
 use Rattle.tally_laws.specs.ListLaws.{or-assoc, or-false, member-append, any-snoc}
 
 -- ---- the calls of a job
@@ -81,7 +82,8 @@ unfolding sumOf
 repeat-counts k cs c = omega (arith, sum-append k cs (c ∷ c ∷ []))
 
 -- ---- tries
-pub tries-snoc : (since cs : List Call) (c : Call) → triesFrom since (cs ++ (c ∷ [])) ≡ triesFrom since cs ++ cond (closes c) ((openFrom since cs ++ (c ∷ [])) ∷ []) []
+pub tries-snoc : (since cs : List Call) (c : Call)
+    → triesFrom since (cs ++ (c ∷ [])) ≡ triesFrom since cs ++ cond (closes c) ((openFrom since cs ++ (c ∷ [])) ∷ []) []
 unfolding triesFrom openFrom
 tries-snoc since [] c = refl
 tries-snoc since (x ∷ cs) c =
@@ -181,14 +183,16 @@ module _ (cs : List Call) (c : Call) where
   pass-more = ap not bad-more
 
   closed-number : triesOf (cs ++ (c ∷ [])) ≡ triesOf cs ++ ((openOf cs ++ (c ∷ [])) ∷ []) → openOf (cs ++ (c ∷ [])) ≡ []
-      → tryOf (cs ++ (c ∷ [])) ≡ tryNumber true (cond (anyTry (triesOf cs)) (firstPasses (triesOf cs)) (passes (openOf cs ++ (c ∷ [])))) (passes (openOf cs ++ (c ∷ []))) false
+      → tryOf (cs ++ (c ∷ [])) ≡ tryNumber true (cond (anyTry (triesOf cs)) (firstPasses (triesOf cs)) (passes (openOf cs ++ (c ∷ []))))
+      (passes (openOf cs ++ (c ∷ []))) false
   unfolding tryOf anyOf
   closed-number t o = rw (t, o, any-end, first-end, last-end)
 
   step-closed : closes c ≡ true → tryAfter (tryOf cs) c ≡ tryOf (cs ++ (c ∷ []))
   unfolding tryAfter
   step-closed b =
-      let t : triesOf (cs ++ (c ∷ [])) ≡ triesOf cs ++ ((openOf cs ++ (c ∷ [])) ∷ []) = tries-snoc [] cs c ∙ ap (λ (z : List (List Call)). triesOf cs ++ z) (cond-t _ _ b) in
+      let t : triesOf (cs ++ (c ∷ [])) ≡ triesOf cs ++ ((openOf cs ++ (c ∷ [])) ∷ []) = tries-snoc [] cs c
+      ∙ ap (λ (z : List (List Call)). triesOf cs ++ z) (cond-t _ _ b) in
       let o : openOf (cs ++ (c ∷ [])) ≡ [] = open-snoc [] cs c ∙ cond-t _ _ b in
       cond-t _ _ b ∙ rw (try-bits cs .b0, try-bits cs .b1, ← pass-more) (sym (closed-number t o))
 
@@ -200,7 +204,8 @@ module _ (cs : List Call) (c : Call) where
   step-open : closes c ≡ false → tryAfter (tryOf cs) c ≡ tryOf (cs ++ (c ∷ []))
   unfolding tryAfter
   step-open b =
-      let t : triesOf (cs ++ (c ∷ [])) ≡ triesOf cs = tries-snoc [] cs c ∙ ap (λ (z : List (List Call)). triesOf cs ++ z) (cond-f _ _ b) ∙ append-nil (triesOf cs) in
+      let t : triesOf (cs ++ (c ∷ [])) ≡ triesOf cs = tries-snoc [] cs c ∙ ap (λ (z : List (List Call)). triesOf cs ++ z) (cond-f _ _ b)
+      ∙ append-nil (triesOf cs) in
       let o : openOf (cs ++ (c ∷ [])) ≡ openOf cs ++ (c ∷ []) = open-snoc [] cs c ∙ cond-f _ _ b in
       cond-f _ _ b ∙ rw (try-bits cs .b0, try-bits cs .b1, try-bits cs .b2, ← bad-more) (sym (open-number t o))
 

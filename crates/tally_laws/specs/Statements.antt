@@ -13,7 +13,8 @@ use Rattle.tally_call.specs.declared.Call.{Call}
 use Rattle.tally_slot.specs.Slots.{tallyFull}
 use Rattle.tally.specs.Tally.{ratesSpec}
 use Rattle.tally.specs.declared.Rates.{Rates}
-use Rattle.tally_laws.specs.Jobs.{Note, JobCall, answer, took, run, taken, figureIn, callsOf, sumOf, jobsOf, told, triesOf, openOf, closedJobs, firstPassed, finalPassed}
+use Rattle.tally_laws.specs.Jobs.{Note, JobCall, answer, took, run, taken, figureIn, callsOf}
+use Rattle.tally_laws.specs.Jobs.{sumOf, jobsOf, told, triesOf, openOf, closedJobs, firstPassed, finalPassed}
 
 -- ---- the sum of f over a list
 unfoldable pub total : {A : Type 0} → (A → ℕ) → List A → ℕ

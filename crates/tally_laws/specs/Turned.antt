@@ -18,8 +18,10 @@ use Rattle.tally_laws.specs.Statements.{wellTold, TurnedTally}
 pub data Way (st : List ℕ) (n : Note) : Type 0 where
   none : tallyOk st ≡ false → answer st n ≡ record { reply = plain 9; state = st } → Way st n
   untold : tallyOk st ≡ true → wellTold n ≡ false → answer st n ≡ record { reply = plain 4; state = st } → Way st n
-  full : tallyOk st ≡ true → wellTold n ≡ true → roomFor st (n .job) (toldOf n .call) ≡ false → answer st n ≡ record { reply = plain tallyFull; state = st } → Way st n
-  done : tallyOk st ≡ true → wellTold n ≡ true → roomFor st (n .job) (toldOf n .call) ≡ true → answer st n ≡ record { reply = plain 0; state = noted st (n .job) (toldOf n .call) } → Way st n
+  full : tallyOk st ≡ true → wellTold n ≡ true → roomFor st (n .job) (toldOf n .call) ≡ false
+      → answer st n ≡ record { reply = plain tallyFull; state = st } → Way st n
+  done : tallyOk st ≡ true → wellTold n ≡ true → roomFor st (n .job) (toldOf n .call) ≡ true
+      → answer st n ≡ record { reply = plain 0; state = noted st (n .job) (toldOf n .call) } → Way st n
 
 pub way : (st : List ℕ) (n : Note) → Way st n
 unfolding noteSpec counted

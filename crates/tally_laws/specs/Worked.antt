@@ -5,7 +5,8 @@ use mathlib.Core.List.{List, [], _∷_}
 use Rattle.floats.specs.Lists.{keep, member, anyOf}
 use Rattle.tally_words.specs.Words.{wBlocks, wRows, wMarked, wTurned}
 use Rattle.tally_call.specs.Calls.{figure, fails, closes, kPush, kClose}
-use Rattle.tally_laws.specs.Jobs.{JobCall, callsOf, sumOf, withJob, jobsFrom, triesFrom, passes, anyTry, firstPasses, lastFrom, countJobs, closedJobs, firstPassed, finalPassed}
+use Rattle.tally_laws.specs.Jobs.{JobCall, callsOf, sumOf, withJob, jobsFrom, triesFrom, passes}
+use Rattle.tally_laws.specs.Jobs.{anyTry, firstPasses, lastFrom, countJobs, closedJobs, firstPassed, finalPassed}
 
 abbrev call : ℕ → ℕ → ℕ → ℕ → ℕ → ℕ → JobCall
 call job kind code count warning marked = record { job = job; call = record { kind = kind; code = code; count = count; warning = warning; marked = marked } }
@@ -31,7 +32,9 @@ unfolding countJobs keep callsOf jobsFrom withJob member triesFrom passes anyTry
 case-rates = (refl, (refl, refl))
 
 -- blocks, rows, marked rows; calls refused by 4 and by 7
-pub case-figures : (sumOf wBlocks (callsOf 1 case) ≡ 2) × ((sumOf wRows (callsOf 1 case) ≡ 9) × ((sumOf wMarked (callsOf 1 case) ≡ 6) × ((sumOf (wTurned + 4) (callsOf 1 case) ≡ 1) × (sumOf (wTurned + 7) (callsOf 1 case) ≡ 1))))
+pub case-figures : (sumOf wBlocks (callsOf 1 case) ≡ 2) ×
+    ((sumOf wRows (callsOf 1 case) ≡ 9) ×
+    ((sumOf wMarked (callsOf 1 case) ≡ 6) × ((sumOf (wTurned + 4) (callsOf 1 case) ≡ 1) × (sumOf (wTurned + 7) (callsOf 1 case) ≡ 1))))
 unfolding callsOf sumOf figure
 case-figures = (refl, (refl, (refl, (refl, refl))))
 

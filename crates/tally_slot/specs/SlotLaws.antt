@@ -62,7 +62,8 @@ module _ {f : ℕ → ℕ} {i k : ℕ} {l xs : List ℕ} (s : Splicing f i k l x
   unfolding slotAfter
   slot-value b job c v o ev eo = ev ∙ ap (newWord job c k) (eo ∙ old-same b)
 
-  pub slot-fits : (b : Bool) (c : Call) (o : ℕ) → o ≡ oldWord xs i b k → all figures (figureFits l i b c) ≡ true → k < jobWords → (k ≡ 0 → ⊥) → (k ≡ wTry → ⊥) → o + figure c k < 2 ^ 64
+  pub slot-fits : (b : Bool) (c : Call) (o : ℕ) → o ≡ oldWord xs i b k → all figures (figureFits l i b c) ≡ true → k < jobWords → (k ≡ 0 → ⊥)
+      → (k ≡ wTry → ⊥) → o + figure c k < 2 ^ 64
   unfolding figureFits
   slot-fits b c o eo ok kl k0 kt =
       let e : k - 1 + 1 ≡ k = ⊎-elim (λ (z : 0 ≡ k). absurd (k0 (sym z))) (λ z. omega arith) (eq-or-lt-of-le {n = 0} {m = k} (omega arith)) in
@@ -79,7 +80,8 @@ sum-test x y h =
     (λ (l : 2 ^ 64 ≤ x + y). lt-leb x (0xFFFFFFFFFFFFFFFF - y) (omega arith) ∙ sym (le-ltb (x + y) (2 ^ 64) l))
     (lt-or-le (x + y) (2 ^ 64))
 
-pub fits-is : (st : List ℕ) (start : ℕ) (known : Bool) (c : Call) (k o f : ℕ) (r : Bool) → r ≡ ltb (o + f) (2 ^ 64) → o ≡ oldWord st start known (k + 1) → f ≡ figure c (k + 1) → figureFits st start known c k ≡ r
+pub fits-is : (st : List ℕ) (start : ℕ) (known : Bool) (c : Call) (k o f : ℕ) (r : Bool) → r ≡ ltb (o + f) (2 ^ 64)
+    → o ≡ oldWord st start known (k + 1) → f ≡ figure c (k + 1) → figureFits st start known c k ≡ r
 unfolding figureFits
 fits-is st start known c k o f r er eo ef = sym (er ∙ ap₂ (λ (x y : ℕ). ltb (x + y) (2 ^ 64)) eo ef)
 
@@ -103,6 +105,7 @@ module _ (st : List ℕ) (job i start : ℕ) (c : Call) (e : i ≡ slotOf st job
   unfolding roomFor
   room-when b l h = rw (← e, ← es) (and-t _ (lt-ltb _ _ l) ∙ h)
 
-  pub noted-is : (s : List ℕ) (v : ℕ) → s ≡ spliced st start (upto (slotAfter st start (ltb i (jobsIn st)) job c) jobWords) → v ≡ jobsAfter i (jobsIn st) → set s wJobs v ≡ noted st job c
+  pub noted-is : (s : List ℕ) (v : ℕ) → s ≡ spliced st start (upto (slotAfter st start (ltb i (jobsIn st)) job c) jobWords)
+      → v ≡ jobsAfter i (jobsIn st) → set s wJobs v ≡ noted st job c
   unfolding noted
   noted-is s v h g = rw (h, g, es, e)

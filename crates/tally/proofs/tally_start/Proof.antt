@@ -26,7 +26,10 @@ same-length c = search needs
 
 returns-2 : tie.Need-returns-2
 unfolding startSpec
-returns-2 c = state-is (cond-t _ _ (eq-eqb _ _ (c .before .before .before .before .before .if1 .left))) (c .plain-reply2 .ensures) (c .before .before .before .clear .ensures)
+returns-2 c =
+    let b3 = c .before .before .before in
+    let b5 = b3 .before .before in
+    state-is (cond-t _ _ (eq-eqb _ _ (b5 .if1 .left))) (c .plain-reply2 .ensures) (b3 .clear .ensures)
 
 pub tally-start-spec : {M : Type 1} → statement M
 tally-start-spec =

@@ -18,7 +18,13 @@ try-number-requires : tie.Need-try-number-requires
 try-number-requires c κs = search needs
 
 returns : tie.Need-returns
-returns c = try-closed (c .before .before .before .before .before .args .w) (c .before .before .before .before .before .args .c) _ _ (c .before .before .before .before .is-bad .ensures) _ (c .before .first-passed .ensures) (c .try-number .ensures) (sym (c .before .before .before .is-closing .ensures) ∙ (c .before .before .if1 .taken))
+returns c =
+    let b2 = c .before .before in
+    let b3 = b2 .before in
+    let b4 = b3 .before in
+    let b5 = b4 .before in
+    try-closed (b5 .args .w) (b5 .args .c) _ _ (b4 .is-bad .ensures) _ (c .before .first-passed .ensures) (c .try-number .ensures)
+    (sym (b3 .is-closing .ensures) ∙ (b2 .if1 .taken))
 
 has-bit-requires : tie.Need-has-bit-requires
 has-bit-requires c κs = search needs
@@ -33,7 +39,15 @@ try-number-requires-2 : tie.Need-try-number-requires-2
 try-number-requires-2 c κs = search needs
 
 returns-2 : tie.Need-returns-2
-returns-2 c = try-open (c .before .before .before .before .before .before .before .args .w) (c .before .before .before .before .before .before .before .args .c) _ _ (c .before .before .before .before .before .before .is-bad .ensures) _ _ _ (c .before .before .before .has-bit .ensures) (c .before .before .has-bit2 .ensures) (c .before .has-bit3 .ensures) (c .try-number2 .ensures) (sym (c .before .before .before .before .before .is-closing .ensures) ∙ (c .before .before .before .before .if1 .left))
+returns-2 c =
+    let b2 = c .before .before in
+    let b3 = b2 .before in
+    let b4 = b3 .before in
+    let b5 = b4 .before in
+    let b6 = b5 .before in
+    let b7 = b6 .before in
+    try-open (b7 .args .w) (b7 .args .c) _ _ (b6 .is-bad .ensures) _ _ _ (b3 .has-bit .ensures) (b2 .has-bit2 .ensures) (c .before .has-bit3 .ensures)
+    (c .try-number2 .ensures) (sym (b5 .is-closing .ensures) ∙ (b4 .if1 .left))
 
 pub try-after-spec : {M : Type 1} → statement M
 try-after-spec =

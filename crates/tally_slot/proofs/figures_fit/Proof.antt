@@ -40,7 +40,14 @@ sum-fits-requires : tie.Need-sum-fits-requires Inv-loop μ-loop
 sum-fits-requires c κs = search needs
 
 returns : tie.Need-returns Inv-loop μ-loop
-returns c = sym (all-fails _ (figureFits _ _ _ _) (c .before .before .before .before .before .loop .k) (c .before .before .before .before .loop-test .taken) (fits-is _ _ _ _ _ _ _ _ (c .before .sum-fits .ensures) (c .before .before .before .old-word .ensures) (c .before .before .figure-of .ensures) ∙ not-true (c .before .sum-fits .result) (c .if1 .taken)))
+returns c =
+    let b2 = c .before .before in
+    let b3 = b2 .before in
+    let b4 = b3 .before in
+    let b5 = b4 .before in
+    sym (all-fails _ (figureFits _ _ _ _) (b5 .loop .k) (b4 .loop-test .taken)
+    (fits-is _ _ _ _ _ _ _ _ (c .before .sum-fits .ensures) (b3 .old-word .ensures) (b2 .figure-of .ensures)
+    ∙ not-true (c .before .sum-fits .result) (c .if1 .taken)))
 
 add-k : tie.Need-add-k Inv-loop μ-loop
 add-k c = search needs
@@ -49,10 +56,25 @@ loop-less : tie.Need-loop-less Inv-loop μ-loop
 loop-less c = search needs
 
 loop-again : tie.Need-loop-again Inv-loop μ-loop
-loop-again c = (omega arith, (omega arith, all-more (c .before .before .before .before .before .loop .k) _ ((c .before .before .before .before .before .loop .inv) .1 .1) (fits-is _ _ _ _ _ _ _ _ (c .before .sum-fits .ensures) (c .before .before .before .old-word .ensures) (c .before .before .figure-of .ensures) ∙ not-false (c .before .sum-fits .result) (c .if1 .left))))
+loop-again c =
+    let b2 = c .before .before in
+    let b3 = b2 .before in
+    let b5 = b3 .before .before in (
+      omega arith,
+      (
+        omega arith,
+        all-more (b5 .loop .k) _ ((b5 .loop .inv) .1 .1)
+            (fits-is _ _ _ _ _ _ _ _ (c .before .sum-fits .ensures) (b3 .old-word .ensures) (b2 .figure-of .ensures)
+            ∙ not-false (c .before .sum-fits .result) (c .if1 .left)),
+      ),
+    )
 
 returns-2 : tie.Need-returns-2 Inv-loop μ-loop
-returns-2 c = let e : (c .before .loop .k) ≡ figures = omega arith in sym (subst (λ (k : ℕ). all k (figureFits (c .before .before .before .args .tally .now) (c .before .before .before .args .start) (c .before .before .before .args .known) (c .before .before .before .args .c)) ≡ true) e ((c .before .loop .inv) .1 .1))
+returns-2 c =
+    let b3 = c .before .before .before in
+    let e : (c .before .loop .k) ≡ figures = omega arith in
+    sym (subst (λ (k : ℕ). all k (figureFits (b3 .args .tally .now) (b3 .args .start) (b3 .args .known) (b3 .args .c)) ≡ true) e
+    ((c .before .loop .inv) .1 .1))
 
 pub figures-fit-spec : {M : Type 1} → statement M
 figures-fit-spec =

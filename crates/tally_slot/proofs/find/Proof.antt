@@ -33,7 +33,11 @@ shared-slice-read-if1 : tie.Need-shared-slice-read-if1 Inv-loop μ-loop
 shared-slice-read-if1 c = search needs
 
 returns : tie.Need-returns Inv-loop μ-loop
-returns c = sym (seek-is _ _ _ ((c .before .before .before .before .loop .inv) .1 .1 .1) (c .before .before .before .loop-test .taken) (job-hit _ _ _ _ (c .before .before .slot-at .ensures) (c .if1 .taken)))
+returns c =
+    let b2 = c .before .before in
+    let b3 = b2 .before in
+    let b4 = b3 .before in
+    sym (seek-is _ _ _ ((b4 .loop .inv) .1 .1 .1) (b3 .loop-test .taken) (job-hit _ _ _ _ (b2 .slot-at .ensures) (c .if1 .taken)))
 
 add-i : tie.Need-add-i Inv-loop μ-loop
 add-i c = search needs
@@ -42,10 +46,17 @@ loop-less : tie.Need-loop-less Inv-loop μ-loop
 loop-less c = search needs
 
 loop-again : tie.Need-loop-again Inv-loop μ-loop
-loop-again c = (omega arith, (omega arith, (omega arith, below-next _ _ ((c .before .before .before .before .loop .inv) .1 .1 .1) (job-miss _ _ _ _ (c .before .before .slot-at .ensures) (c .if1 .left)))))
+loop-again c =
+    let b2 = c .before .before in
+    let b4 = b2 .before .before in
+    (omega arith, (omega arith, (omega arith, below-next _ _ ((b4 .loop .inv) .1 .1 .1) (job-miss _ _ _ _ (b2 .slot-at .ensures) (c .if1 .left)))))
 
 returns-2 : tie.Need-returns-2 Inv-loop μ-loop
-returns-2 c = let e : (c .before .loop .i) ≡ (c .before .before .before .args .n) = omega arith in sym (seek-none _ _ (subst (λ (m : ℕ). (k : ℕ) → k < m → isJob (c .before .before .before .args .tally .now) (c .before .before .before .args .job) k ≡ false) e ((c .before .loop .inv) .1 .1 .1)))
+returns-2 c =
+    let b3 = c .before .before .before in
+    let e : (c .before .loop .i) ≡ (b3 .args .n) = omega arith in
+    sym (seek-none _ _ (subst (λ (m : ℕ). (k : ℕ) → k < m → isJob (b3 .args .tally .now) (b3 .args .job) k ≡ false) e
+    ((c .before .loop .inv) .1 .1 .1)))
 
 pub find-spec : {M : Type 1} → statement M
 find-spec =

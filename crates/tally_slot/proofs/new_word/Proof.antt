@@ -28,7 +28,11 @@ add-result c = omega (arith, (c .before .before .before .pre) (c .before .before
 
 returns-3 : tie.Need-returns-3
 unfolding newWord
-returns-3 c = ap (λ (x : ℕ). (c .before .before .before .args .old) + x) (c .figure-of .ensures) ∙ sym (cond-f _ _ (ne-eqb _ _ (c .before .before .if1 .left)) ∙ cond-f _ _ (ne-eqb _ _ (c .before .if2 .left)))
+returns-3 c =
+    let b2 = c .before .before in
+    let b3 = b2 .before in
+    ap (λ (x : ℕ). (b3 .args .old) + x) (c .figure-of .ensures)
+    ∙ sym (cond-f _ _ (ne-eqb _ _ (b2 .if1 .left)) ∙ cond-f _ _ (ne-eqb _ _ (c .before .if2 .left)))
 
 pub new-word-spec : {M : Type 1} → statement M
 new-word-spec =

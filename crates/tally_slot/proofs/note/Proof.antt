@@ -41,16 +41,39 @@ same-length-2 c = search needs
 
 returns-2 : tie.Need-returns-2
 unfolding counted slotOf
-returns-2 c = state-is (cond-f _ _ (room-when _ _ _ _ _ (c .before .before .before .before .before .before .find .ensures) (c .before .before .before .before .slot-at .ensures) _ (c .before .before .before .before .before .if1 .left) (sym (c .before .before .figures-fit .ensures) ∙ not-true (c .before .before .figures-fit .result) (c .before .if2 .taken)))) (c .plain-reply2 .ensures) refl
+returns-2 c =
+    let b2 = c .before .before in
+    let b4 = b2 .before .before in
+    let b5 = b4 .before in
+    let b6 = b5 .before in
+    state-is (cond-f _ _
+    (room-when _ _ _ _ _ (b6 .find .ensures) (b4 .slot-at .ensures) _ (b5 .if1 .left)
+    (sym (b2 .figures-fit .ensures) ∙ not-true (b2 .figures-fit .result) (c .before .if2 .taken)))) (c .plain-reply2 .ensures) refl
 
 write-slot-requires : tie.Need-write-slot-requires
-write-slot-requires c κs = (omega (arith, good _ (c .before .before .before .before .before .before .before .before .before .before .pre) .long, (c .before .before .before .before .slot-at .ensures)), sym (c .before .before .figures-fit .ensures) ∙ not-false (c .before .before .figures-fit .result) (c .before .if2 .left))
+write-slot-requires c κs =
+    let b2 = c .before .before in
+    let b4 = b2 .before .before in
+    let b10 = b4 .before .before .before .before .before .before in (
+      omega (arith, good _ (b10 .pre) .long, (b4 .slot-at .ensures)),
+      sym (b2 .figures-fit .ensures)
+          ∙ not-false (b2 .figures-fit .result) (c .before .if2 .left),
+    )
 
 jobs-after-requires : tie.Need-jobs-after-requires
 jobs-after-requires c κs = search needs
 
 slice-write-tally : tie.Need-slice-write-tally
-slice-write-tally c = omega (arith, good _ (c .before .before .before .before .before .before .before .before .before .before .before .before .before .before .pre) .long, slot-long _ _ _ _ (c .before .before .before .write-slot .ensures) (omega (arith, good _ (c .before .before .before .before .before .before .before .before .before .before .before .before .before .before .pre) .long, (c .before .before .before .before .before .before .before .before .slot-at .ensures))))
+slice-write-tally c =
+    let b3 = c .before .before .before in
+    let b8 = b3 .before .before .before .before .before in
+    let b14 = b8 .before .before .before .before .before .before in
+    omega (
+      arith,
+      good _ (b14 .pre) .long,
+      slot-long _ _ _ _ (b3 .write-slot .ensures)
+          (omega (arith, good _ (b14 .pre) .long, (b8 .slot-at .ensures))),
+    )
 
 plain-reply-requires-3 : tie.Need-plain-reply-requires-3
 plain-reply-requires-3 c κs = search needs
@@ -60,7 +83,17 @@ same-length-3 c = search needs
 
 returns-3 : tie.Need-returns-3
 unfolding counted slotOf
-returns-3 c = state-is (cond-t _ _ (room-when _ _ _ _ _ (c .before .before .before .before .before .before .before .before .before .before .before .find .ensures) (c .before .before .before .before .before .before .before .before .before .slot-at .ensures) _ (c .before .before .before .before .before .before .before .before .before .before .if1 .left) (sym (c .before .before .before .before .before .before .before .figures-fit .ensures) ∙ not-false (c .before .before .before .before .before .before .before .figures-fit .result) (c .before .before .before .before .before .before .if2 .left)))) (c .plain-reply3 .ensures) (noted-is _ _ _ _ _ (c .before .before .before .before .before .before .before .before .before .before .before .find .ensures) (c .before .before .before .before .before .before .before .before .before .slot-at .ensures) _ _ (c .before .before .before .before .write-slot .ensures) (c .before .jobs-after .ensures))
+returns-3 c =
+    let b4 = c .before .before .before .before in
+    let b6 = b4 .before .before in
+    let b7 = b6 .before in
+    let b9 = b7 .before .before in
+    let b10 = b9 .before in
+    let b11 = b10 .before in
+    state-is (cond-t _ _
+    (room-when _ _ _ _ _ (b11 .find .ensures) (b9 .slot-at .ensures) _ (b10 .if1 .left)
+    (sym (b7 .figures-fit .ensures) ∙ not-false (b7 .figures-fit .result) (b6 .if2 .left)))) (c .plain-reply3 .ensures) (noted-is _ _ _ _ _
+    (b11 .find .ensures) (b9 .slot-at .ensures) _ _ (b4 .write-slot .ensures) (c .before .jobs-after .ensures))
 
 pub note-spec : {M : Type 1} → statement M
 note-spec =

@@ -4,8 +4,7 @@ use mathlib.Core.Bool.{true}
 use native.Mathlib.Omega.{arith}
 use Prim.Native.Nat.{ℕ, _+_, _-_, _≤_}
 use lib.ListN.{length}
-use Rattle.floats.specs.Lists.{all}
-use Rattle.floats.specs.Lists.{upto, spliced}
+use Rattle.floats.specs.Lists.{upto, spliced, all}
 use Rattle.floats.specs.Splice.{Splicing, splicing-none, splicing-more}
 use Rattle.tally_words.specs.Words.{jobWords, figures}
 use Rattle.tally_slot.specs.Slots.{figureFits, slotAfter}
@@ -15,7 +14,9 @@ use Rattle.tally_slot.proofs.write_slot.Statement.{statement}
 use Rattle.tally_slot.proofs.write_slot.Tie as tie
 
 abbrev Inv-loop : tie.InvT-loop
-Inv-loop tally₀ start known job c k₀ tally k = (k ≤ jobWords) × ((start + jobWords ≤ length tally₀) × ((all figures (figureFits tally₀ start known c) ≡ true) × Splicing (slotAfter tally₀ start known job c) start k tally₀ tally))
+Inv-loop tally₀ start known job c k₀ tally k =
+    (k ≤ jobWords) × ((start + jobWords ≤ length tally₀) ×
+    ((all figures (figureFits tally₀ start known c) ≡ true) × Splicing (slotAfter tally₀ start known job c) start k tally₀ tally))
 
 abbrev μ-loop : tie.MeasureT-loop
 μ-loop tally₀ start known job c k₀ tally k = jobWords - k
@@ -27,7 +28,9 @@ old-word-requires : tie.Need-old-word-requires Inv-loop μ-loop
 old-word-requires c κs = search needs
 
 new-word-requires : tie.Need-new-word-requires Inv-loop μ-loop
-new-word-requires c κs = slot-fits ((c .before .before .before .loop .inv) .1 .1 .1) (omega arith) _ _ _ (c .old-word .ensures) ((c .before .before .before .loop .inv) .1 .1 .0) (omega arith)
+new-word-requires c κs =
+    let b3 = c .before .before .before in
+    slot-fits ((b3 .loop .inv) .1 .1 .1) (omega arith) _ _ _ (c .old-word .ensures) ((b3 .loop .inv) .1 .1 .0) (omega arith)
 
 add-tally : tie.Need-add-tally Inv-loop μ-loop
 add-tally c = search needs
@@ -45,13 +48,29 @@ loop-less : tie.Need-loop-less Inv-loop μ-loop
 loop-less c = search needs
 
 loop-again : tie.Need-loop-again Inv-loop μ-loop
-loop-again c = (omega arith, (omega arith, ((c .before .before .before .before .loop .inv) .1 .1 .0, splicing-more ((c .before .before .before .before .loop .inv) .1 .1 .1) (omega arith) (slot-value ((c .before .before .before .before .loop .inv) .1 .1 .1) (omega arith) _ _ _ _ _ (c .new-word .ensures) (c .before .old-word .ensures)))))
+loop-again c =
+    let b4 = c .before .before .before .before in (
+      omega arith,
+      (
+        omega arith,
+        (
+          (b4 .loop .inv) .1 .1 .0,
+          splicing-more ((b4 .loop .inv) .1 .1 .1) (omega arith)
+              (slot-value ((b4 .loop .inv) .1 .1 .1) (omega arith) _ _ _ _ _ (c .new-word .ensures) (c .before .old-word .ensures)),
+        ),
+      ),
+    )
 
 same-length : tie.Need-same-length Inv-loop μ-loop
 same-length c = (c .before .loop .inv) .1 .1 .1 .same
 
 returns : tie.Need-returns Inv-loop μ-loop
-returns c = let e : (c .before .loop .k) ≡ jobWords = omega arith in (c .before .loop .inv) .1 .1 .1 .is ∙ ap (λ (k : ℕ). spliced (c .before .before .before .args .tally .now) (c .before .before .before .args .start) (upto (slotAfter (c .before .before .before .args .tally .now) (c .before .before .before .args .start) (c .before .before .before .args .known) (c .before .before .before .args .job) (c .before .before .before .args .c)) k)) e
+returns c =
+    let b3 = c .before .before .before in
+    let e : (c .before .loop .k) ≡ jobWords = omega arith in
+    (c .before .loop .inv) .1 .1 .1 .is
+    ∙ ap (λ (k : ℕ). spliced (b3 .args .tally .now) (b3 .args .start)
+    (upto (slotAfter (b3 .args .tally .now) (b3 .args .start) (b3 .args .known) (b3 .args .job) (b3 .args .c)) k)) e
 
 pub write-slot-spec : {M : Type 1} → statement M
 write-slot-spec =

@@ -39,7 +39,10 @@ same-length c = (c .before .loop .inv) .1 .1 .same
 
 returns : tie.Need-returns Inv-loop μ-loop
 unfolding emptyTally
-returns c = let e : (c .before .loop .i) ≡ length (c .before .before .args .tally .now) = omega arith in filled-all _ _ e ((c .before .loop .inv) .1 .1 .is) ∙ ap (upto _) (c .before .before .pre)
+returns c =
+    let b2 = c .before .before in
+    let e : (c .before .loop .i) ≡ length (b2 .args .tally .now) = omega arith in
+    filled-all _ _ e ((c .before .loop .inv) .1 .1 .is) ∙ ap (upto _) (b2 .pre)
 
 pub clear-spec : {M : Type 1} → statement M
 clear-spec =

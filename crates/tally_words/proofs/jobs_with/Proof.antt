@@ -55,7 +55,8 @@ returns : tie.Need-returns Inv-loop μ-loop
 unfolding jobsWith
 returns c =
     let e : (c .before .loop .i) ≡ jobsIn (c .before .before .before .before .args .tally .now) = omega arith in
-    c .before .loop .inv .0 ∙ ap (countIf (λ (i : ℕ). has (tryAt (c .before .before .before .before .args .tally .now) i) (c .before .before .before .before .args .b))) e
+    c .before .loop .inv .0
+    ∙ ap (countIf (λ (i : ℕ). has (tryAt (c .before .before .before .before .args .tally .now) i) (c .before .before .before .before .args .b))) e
 
 pub jobs-with-spec : {M : Type 1} → statement M
 jobs-with-spec =

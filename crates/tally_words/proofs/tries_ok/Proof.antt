@@ -29,7 +29,12 @@ try-ok-requires : tie.Need-try-ok-requires Inv-loop μ-loop
 try-ok-requires c κs = search needs
 
 returns : tie.Need-returns Inv-loop μ-loop
-returns c = sym (all-fails _ _ (c .before .before .before .before .loop .i) (c .before .before .before .loop-test .taken) (ap tryOk (sym (c .before .before .try-at .ensures)) ∙ sym (c .before .try-ok .ensures) ∙ not-true (c .before .try-ok .result) (c .if1 .taken)))
+returns c =
+    let b2 = c .before .before in
+    let b3 = b2 .before in
+    let b4 = b3 .before in
+    sym (all-fails _ _ (b4 .loop .i) (b3 .loop-test .taken)
+    (ap tryOk (sym (b2 .try-at .ensures)) ∙ sym (c .before .try-ok .ensures) ∙ not-true (c .before .try-ok .result) (c .if1 .taken)))
 
 add-i : tie.Need-add-i Inv-loop μ-loop
 add-i c = search needs
@@ -38,10 +43,25 @@ loop-less : tie.Need-loop-less Inv-loop μ-loop
 loop-less c = search needs
 
 loop-again : tie.Need-loop-again Inv-loop μ-loop
-loop-again c = (omega arith, (omega arith, (omega arith, all-more (c .before .before .before .before .loop .i) _ ((c .before .before .before .before .loop .inv) .1 .1 .1) (ap tryOk (sym (c .before .before .try-at .ensures)) ∙ sym (c .before .try-ok .ensures) ∙ not-false (c .before .try-ok .result) (c .if1 .left)))))
+loop-again c =
+    let b2 = c .before .before in
+    let b4 = b2 .before .before in (
+      omega arith,
+      (
+        omega arith,
+        (
+          omega arith,
+          all-more (b4 .loop .i) _ ((b4 .loop .inv) .1 .1 .1)
+              (ap tryOk (sym (b2 .try-at .ensures)) ∙ sym (c .before .try-ok .ensures) ∙ not-false (c .before .try-ok .result) (c .if1 .left)),
+        ),
+      ),
+    )
 
 returns-2 : tie.Need-returns-2 Inv-loop μ-loop
-returns-2 c = let e : (c .before .loop .i) ≡ (c .before .before .before .args .n) = omega arith in sym (subst (λ (k : ℕ). all k (λ (i : ℕ). tryOk (tryAt (c .before .before .before .args .tally .now) i)) ≡ true) e ((c .before .loop .inv) .1 .1 .1))
+returns-2 c =
+    let b3 = c .before .before .before in
+    let e : (c .before .loop .i) ≡ (b3 .args .n) = omega arith in
+    sym (subst (λ (k : ℕ). all k (λ (i : ℕ). tryOk (tryAt (b3 .args .tally .now) i)) ≡ true) e ((c .before .loop .inv) .1 .1 .1))
 
 pub tries-ok-spec : {M : Type 1} → statement M
 tries-ok-spec =

@@ -24,7 +24,10 @@ has-passed-requires c κs = search needs
 
 returns-3 : tie.Need-returns-3
 unfolding tryOk
-returns-3 c = ap not (c .has-passed .ensures) ∙ sym (and-t _ (lt-ltb _ _ (c .before .before .before .if1 .left)) ∙ or-f _ (sym (c .before .before .has-bit .ensures) ∙ (c .before .if2 .left)))
+returns-3 c =
+    let b2 = c .before .before in
+    let b3 = b2 .before in
+    ap not (c .has-passed .ensures) ∙ sym (and-t _ (lt-ltb _ _ (b3 .if1 .left)) ∙ or-f _ (sym (b2 .has-bit .ensures) ∙ (c .before .if2 .left)))
 
 pub try-ok-spec : {M : Type 1} → statement M
 try-ok-spec = tie.close (tie.spec returns has-bit-requires returns-2 has-passed-requires returns-3)
