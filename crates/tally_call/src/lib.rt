@@ -92,7 +92,8 @@ fn lent_marks(count: u64, rows: &[u64]) -> Marks
     ensures { λ r. ⌜ r ≡ lentMarks count (now (rows .entry)) ⌝ }
 {
     let n = count as usize;
-    if n > whole_rows(rows) {
+    let whole = whole_rows(rows);
+    if n > whole {
         return Marks::Wrong;
     }
     marks_of(rows, n)

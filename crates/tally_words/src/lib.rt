@@ -121,10 +121,10 @@ pub fn clear(tally: &mut [u64])
     requires { ⌜ length (now tally) ≡ tallyWords ⌝ }
     ensures { λ _. ⌜ now (tally .exit) ≡ emptyTally ⌝ }
 {
-    let mut i: usize = 0;
-    while i < TALLY_WORDS {
-        tally[i] = 0;
-        i += 1;
+    let mut k: usize = 0;
+    while k < TALLY_WORDS {
+        tally[k] = 0;
+        k += 1;
     }
 }
 

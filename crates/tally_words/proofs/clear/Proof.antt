@@ -11,10 +11,10 @@ use Rattle.tally_words.proofs.clear.Statement.{statement}
 use Rattle.tally_words.proofs.clear.Tie as tie
 
 abbrev Inv-loop : tie.InvT-loop
-Inv-loop tally₀ i₀ tally i = (i ≤ tallyWords) × ((length tally₀ ≡ tallyWords) × Filling (λ (k : ℕ). 0) i tally₀ tally)
+Inv-loop tally₀ k₀ tally k = (k ≤ tallyWords) × ((length tally₀ ≡ tallyWords) × Filling (λ (k : ℕ). 0) k tally₀ tally)
 
 abbrev μ-loop : tie.MeasureT-loop
-μ-loop tally₀ i₀ tally i = tallyWords - i
+μ-loop tally₀ k₀ tally k = tallyWords - k
 
 loop-holds : tie.Need-loop-holds Inv-loop μ-loop
 loop-holds c = (omega arith, (omega arith, filling-none))
@@ -25,8 +25,8 @@ mul-tally c = search needs
 slice-write-tally : tie.Need-slice-write-tally Inv-loop μ-loop
 slice-write-tally c = search needs
 
-add-i : tie.Need-add-i Inv-loop μ-loop
-add-i c = search needs
+add-k : tie.Need-add-k Inv-loop μ-loop
+add-k c = search needs
 
 loop-less : tie.Need-loop-less Inv-loop μ-loop
 loop-less c = search needs
@@ -41,7 +41,7 @@ returns : tie.Need-returns Inv-loop μ-loop
 unfolding emptyTally
 returns c =
     let b2 = c .before .before in
-    let e : (c .before .loop .i) ≡ length (b2 .args .tally .now) = omega arith in
+    let e : (c .before .loop .k) ≡ length (b2 .args .tally .now) = omega arith in
     filled-all _ _ e ((c .before .loop .inv) .1 .1 .is) ∙ ap (upto _) (b2 .pre)
 
 pub clear-spec : {M : Type 1} → statement M
@@ -53,7 +53,7 @@ clear-spec =
     loop-holds
     mul-tally
     slice-write-tally
-    add-i
+    add-k
     loop-less
     loop-again
     same-length
