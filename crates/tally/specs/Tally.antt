@@ -1,4 +1,4 @@
--- DEFINITIONS. What starting a tally, telling it a call and asking it for its rates answer and leave (rules 9.1 to 9.24). Assumes nothing.
+-- DEFINITIONS. What starting a tally, telling it a call and asking it for its rates answer and leave (rules 9.5, 9.17, 9.25). Assumes nothing.
 use Prim.Native.Nat.{ℕ}
 use mathlib.Core.Bool.{cond}
 use mathlib.Core.List.{List}
@@ -10,7 +10,7 @@ use Rattle.tally_call.specs.Calls.{toldOk, callOf}
 use Rattle.tally_slot.specs.Slots.{counted}
 use Rattle.tally.specs.declared.Rates.{Rates}
 
--- 9.24: every word 0, or refusal 9 on another length
+-- 9.25: every word 0, or refusal 9 on another length
 unfoldable pub startSpec : List ℕ → AfterState
 startSpec st =
     cond (eqb (length st) tallyWords)
@@ -26,7 +26,7 @@ noteSpec st job kind code count warning rows =
     (record { reply = plain 4; state = st }))
     (record { reply = plain 9; state = st })
 
--- 9.17, 9.18: jobs whose first try passed, whose final try passed, each of the jobs with a closed try
+-- 9.17, 9.18: jobs whose first try passed, whose final try passed, each of the jobs with a closed try; 9.26: or refusal 9 and zeros
 unfoldable pub ratesSpec : List ℕ → Rates
 ratesSpec st =
     cond (tallyOk st)

@@ -1,4 +1,4 @@
--- DEFINITIONS. A told call: when it is one, what it adds to each figure, and what it does to a try (rules 9.2 to 9.15). Assumes nothing.
+-- DEFINITIONS. A told call: when it is one, what it adds to each figure, and what it does to a try (rules 9.2 to 9.13). Assumes nothing.
 use Prim.Native.Nat.{ℕ, _+_, _*_, _-_, _/_, _^_}
 use mathlib.Core.Bool.{Bool, true, false, _&&_, _||_, not, cond}
 use mathlib.Core.List.{List}
@@ -46,7 +46,7 @@ unfoldable pub callOf : ℕ → ℕ → ℕ → ℕ → List ℕ → Call
 callOf kind code count warning rows =
     record { kind = kind; code = code; count = count; warning = warning; marked = cond (eqb code 0) (marksIn rows count) 0 }
 
--- ---- 9.6 to 9.10: what a call adds to figure k, k the figure's word in a slot
+-- ---- 9.7 to 9.10: what a call adds to figure k, k the figure's word in a slot
 -- x where the call was accepted, 0 where not
 abbrev pub ifDone : Call → ℕ → ℕ
 ifDone c x = cond (eqb (c .code) 0) x 0
@@ -65,7 +65,7 @@ fails c = not (eqb (c .warning) 0) || not (eqb (c .code) 0 || eqb (c .code) tooF
 unfoldable pub closes : Call → Bool
 closes c = eqb (c .kind) kClose && eqb (c .code) 0
 
--- ---- the try word of its four bits, and after one more call
+-- ---- 9.22: the try word of its four bits, and after one more call
 unfoldable pub tryNumber : Bool → Bool → Bool → Bool → ℕ
 tryNumber closed first final bad = 2 ^ bClosed * bit closed + 2 ^ bFirst * bit first + 2 ^ bFinal * bit final + 2 ^ bFailing * bit bad
 

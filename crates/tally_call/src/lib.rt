@@ -50,7 +50,7 @@ pub struct Call {
     pub marked: u64,
 }
 
-// The marks of lent rows: one is none, or so many are set.
+// The marks of lent rows: one of them is no mark, or so many are set.
 pub enum Marks {
     Wrong,
     Counted(u64),
@@ -143,7 +143,7 @@ fn if_accepted(c: Call, x: u64) -> u64
     x
 }
 
-// What a call adds to the figure in word k of its job's slot (9.6 to 9.10).
+// What a call adds to the figure in word k of its job's slot (9.7 to 9.10).
 pub fn figure_of(c: Call, k: usize) -> u64
     requires { ⌜ 0 < k ⌝ }
     ensures { λ r. ⌜ r ≡ figure c k ⌝ }
@@ -215,7 +215,7 @@ fn first_passed(w: u64, passed: bool) -> bool
     passed
 }
 
-// The try word after one more call.
+// The try word after one more call (9.22).
 pub fn try_after(w: u64, c: Call) -> u64
     ensures { λ r. ⌜ r ≡ tryAfter w c ⌝ }
 {

@@ -1,4 +1,4 @@
--- DEFINITIONS. Over lists of calls: the calls of a job, its figures, its tries, and the numbers of the rates (9.6 to 9.19). Assumes nothing.
+-- DEFINITIONS. Over lists of calls: the calls of a job, its figures, its tries, and the numbers of the rates (9.11 to 9.18). Assumes nothing.
 use Prim.Native.Nat.{ℕ, _+_}
 use mathlib.Core.Bool.{Bool, true, false, not, cond}
 use mathlib.Core.List.{List, [], _∷_, _++_}

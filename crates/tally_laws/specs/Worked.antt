@@ -1,10 +1,14 @@
 -- LAWS. A worked case, computed from the definitions. Assumes nothing.
-use Prim.Native.Nat.{ℕ, _+_}
+use Prim.Native.Nat.{ℕ, _+_, _*_, _/_, _%_}
 use mathlib.Core.Path.{_≡_, refl}
+use mathlib.Core.Bool.{true, false, cond}
 use mathlib.Core.List.{List, [], _∷_}
-use Rattle.floats.specs.Lists.{keep, member, anyOf}
-use Rattle.tally_words.specs.Words.{wBlocks, wRows, wMarked, wTurned}
-use Rattle.tally_call.specs.Calls.{figure, fails, closes, kPush, kClose}
+use lib.ListN.{getD}
+use lib.Dec.{eqb}
+use Rattle.floats.specs.Lists.{upto, keep, member, anyOf, all}
+use Rattle.layout.specs.Layout.{rowWords, rMark}
+use Rattle.tally_words.specs.Words.{wBlocks, wRows, wMarked, wTurned, countIf}
+use Rattle.tally_call.specs.Calls.{figure, fails, closes, kPush, kClose, tooFewPlaces, marksIn, rowsOk, toldOk, callOf}
 use Rattle.tally_laws.specs.Jobs.{JobCall, callsOf, sumOf, withJob, jobsFrom, triesFrom, passes}
 use Rattle.tally_laws.specs.Jobs.{anyTry, firstPasses, lastFrom, countJobs, closedJobs, firstPassed, finalPassed}
 
@@ -42,3 +46,18 @@ case-figures = (refl, (refl, (refl, (refl, refl))))
 pub case-warned : sumOf (wMarked + 4) (callsOf 2 case) ≡ 1
 unfolding callsOf sumOf figure
 case-warned = refl
+
+-- ---- rows lent with a call, by their marks alone
+abbrev lent : List ℕ → ℕ → List ℕ
+lent marks n = upto (λ (k : ℕ). cond (eqb (k % rowWords) rMark) (getD marks (k / rowWords) 0) 0) (n * rowWords)
+
+-- a push of three rows, of which the first two are marked; a fourth row that is lent is not looked at
+pub case-marks : callOf kPush 0 3 0 (lent (1 ∷ 1 ∷ 0 ∷ 9 ∷ []) 4) ≡ record { kind = kPush; code = 0; count = 3; warning = 0; marked = 2 }
+unfolding callOf marksIn countIf upto
+case-marks = refl
+
+-- a mark of 2 within the count is none, past it nothing; a call that was refused needs no rows, one that was accepted does
+pub case-told : (toldOk kPush 0 2 0 (lent (1 ∷ 2 ∷ []) 2) ≡ false)
+    × ((toldOk kPush 0 1 0 (lent (1 ∷ 2 ∷ []) 2) ≡ true) × ((toldOk kClose tooFewPlaces 5 0 [] ≡ true) × (toldOk kClose 0 5 0 [] ≡ false)))
+unfolding toldOk rowsOk all upto
+case-told = (refl, (refl, (refl, refl)))

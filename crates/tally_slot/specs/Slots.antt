@@ -1,4 +1,4 @@
--- DEFINITIONS. A job's slot, whether there is room for one more call in it (11), and its words after that call (9.5, 9.21, 9.22). Assumes nothing.
+-- DEFINITIONS. A job's slot, whether there is room for one more call in it (11), and its words after that call (9.6, 9.24). Assumes nothing.
 use Prim.Native.Nat.{ℕ, zero, suc, _+_, _^_}
 use mathlib.Core.Bool.{Bool, _&&_, cond}
 use mathlib.Core.List.{List}
@@ -14,7 +14,7 @@ use Rattle.tally_call.specs.declared.Call.{Call}
 abbrev pub tallyFull : ℕ
 tallyFull = 11
 
--- ---- 9.21: the job's slot, or the next one for a job that has none
+-- ---- 9.24: the job's slot, or the next one for a job that has none
 -- the first k below n that passes; n where none does
 unfoldable pub seek : (ℕ → Bool) → ℕ → ℕ
 seek f zero = 0
@@ -33,7 +33,7 @@ isKnown st job = ltb (slotOf st job) (jobsIn st)
 unfoldable pub oldWord : List ℕ → ℕ → Bool → ℕ → ℕ
 oldWord st start known k = cond known (getD st (start + k) 0) 0
 
--- ---- 9.5: room for one more call
+-- ---- 9.6: room for one more call
 unfoldable pub figureFits : List ℕ → ℕ → Bool → Call → ℕ → Bool
 figureFits st start known c k = ltb (oldWord st start known (k + 1) + figure c (k + 1)) (2 ^ 64)
 
@@ -42,7 +42,7 @@ roomFor st job c =
     ltb (slotOf st job) mostJobs
     && all figures (figureFits st (slotAt (slotOf st job)) (isKnown st job) c)
 
--- ---- 9.22: the words after it
+-- ---- the words after it
 unfoldable pub newWord : ℕ → Call → ℕ → ℕ → ℕ
 newWord job c k old = cond (eqb k wJob) job (cond (eqb k wTry) (tryAfter old c) (old + figure c k))
 

@@ -25,7 +25,9 @@ ghost use Rattle.tally_slot.specs.Slots.{seek, isJob, oldWord, figureFit
 // The refusal of a job too many, or of a figure of 2^64 or more.
 const TALLY_FULL: u64 = 11;
 
-// The first of n slots that is this job's; n where none is (9.21).
+const MOST_FIGURE: u64 = 0xFFFF_FFFF_FFFF_FFFF;
+
+// The first of n slots that is this job's; n where none is (9.24).
 fn find(tally: &[u64], job: u64, n: usize) -> usize
     requires { ⌜ (length (now tally) ≡ tallyWords) × (n ≤ mostJobs) ⌝ }
     ensures { λ r. ⌜ r ≡ seek (isJob (now (tally .entry)) job) n ⌝ }
@@ -51,10 +53,11 @@ fn old_word(tally: &[u64], start: usize, known: bool, k: usize) -> u64
     0
 }
 
+// Whether a figure x stays within 64 bits where y is added to it.
 fn sum_fits(x: u64, y: u64) -> bool
     ensures { λ r. ⌜ r ≡ ltb (x + y) (2 ^ 64) ⌝ }
 {
-    x <= 0xFFFF_FFFF_FFFF_FFFF - y
+    x <= MOST_FIGURE - y
 }
 
 fn figures_fit(tally: &[u64], start: usize, known: bool, c: Call) -> bool
@@ -106,7 +109,7 @@ fn jobs_after(i: usize, n: usize) -> u64
     (i + 1) as u64
 }
 
-// Counts a call, where there is room for its job and its figures (9.5, 9.22).
+// Counts a call, where there is room for its job and its figures (9.6, 9.24).
 pub fn note(tally: &mut [u64], job: u64, c: Call) -> Reply
     requires { ⌜ tallyOk (now tally) ≡ true ⌝ }
     ensures { λ r. ⌜ StateIs (counted (now (tally .entry)) job c) r (now (tally .exit)) ⌝ }

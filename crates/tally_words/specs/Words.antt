@@ -1,4 +1,4 @@
--- DEFINITIONS. The words of a tally of told calls, each named once, and when words are no tally (rules 9.20 to 9.24). Assumes nothing.
+-- DEFINITIONS. The words of a tally of told calls, each named once, and when words are no tally (rules 9.20 to 9.23). Assumes nothing.
 use Prim.Native.Nat.{ℕ, zero, suc, _+_, _*_, _^_}
 use mathlib.Core.Bool.{Bool, _&&_, _||_, not, cond}
 use mathlib.Core.List.{List}
@@ -17,7 +17,7 @@ mostWarning = 15
 abbrev pub mostCode : ℕ
 mostCode = 31
 
--- ---- A slot: the job's number, blocks accepted, rows written, marked rows, calls with warning w at wMarked + w, calls refused by n
+-- ---- 9.21: a slot: the job's number, blocks accepted, rows written, marked rows, calls with warning w at wMarked + w, calls refused by n
 -- at wTurned + n, the try word
 abbrev pub wJob : ℕ
 wJob = 0
@@ -44,7 +44,7 @@ wTry = figures + 1
 abbrev pub jobWords : ℕ
 jobWords = wTry + 1
 
--- ---- A tally: how many jobs have a slot, then the slots
+-- ---- 9.20: how many jobs have a slot, then the slots
 abbrev pub wJobs : ℕ
 wJobs = 0
 
@@ -65,7 +65,7 @@ slotAt i = wSlots + i * jobWords
 abbrev pub tryAt : List ℕ → ℕ → ℕ
 tryAt st i = getD st (slotAt i + wTry) 0
 
--- ---- Bits of the try word: a try was closed, the first one passed, the last one closed passed, a call fails the open one
+-- ---- 9.22: bits of the try word: a try was closed, the first one passed, the last one closed passed, a call fails the open one
 abbrev pub bClosed : ℕ
 bClosed = 0
 
@@ -91,7 +91,7 @@ tallyOk st =
     && (leb (jobsIn st) mostJobs
     && all (jobsIn st) (λ (i : ℕ). tryOk (tryAt st i)))
 
--- ---- 9.24: a tally that was told nothing
+-- ---- 9.25: a tally that was told nothing
 unfoldable pub emptyTally : List ℕ
 emptyTally = upto (λ (k : ℕ). 0) tallyWords
 

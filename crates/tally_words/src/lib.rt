@@ -116,7 +116,7 @@ pub fn tally_ok(tally: &[u64]) -> bool
     tries_ok(tally, n)
 }
 
-// Makes every word 0 (9.24).
+// Makes every word 0 (9.25).
 pub fn clear(tally: &mut [u64])
     requires { ⌜ length (now tally) ≡ tallyWords ⌝ }
     ensures { λ _. ⌜ now (tally .exit) ≡ emptyTally ⌝ }
