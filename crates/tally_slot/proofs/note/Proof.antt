@@ -1,7 +1,7 @@
 -- `tally_slot::note` meets its contract. Assumes nothing.
-use mathlib.Core.Path.{refl, sym, _∙_}
+use mathlib.Core.Path.{refl}
 use native.Mathlib.Omega.{arith}
-use borrow.Author.Tests.{not-true, not-false}
+use Rattle.row_cells.specs.Tested.{passed, failed}
 use Rattle.floats.specs.Truth.{cond-t, cond-f}
 use Rattle.tally_words.specs.WordLaws.{good}
 use Rattle.tally_slot.specs.Slots.{counted, slotOf}
@@ -48,7 +48,7 @@ returns-2 c =
     let b6 = b5 .before in
     state-is (cond-f _ _
     (room-when _ _ _ _ _ (b6 .find .ensures) (b4 .slot-at .ensures) _ (b5 .if1 .left)
-    (sym (b2 .figures-fit .ensures) ∙ not-true (b2 .figures-fit .result) (c .before .if2 .taken)))) (c .plain-reply2 .ensures) refl
+    (failed (b2 .figures-fit .ensures) (c .before .if2 .taken)))) (c .plain-reply2 .ensures) refl
 
 write-slot-requires : tie.Need-write-slot-requires
 write-slot-requires c κs =
@@ -56,8 +56,7 @@ write-slot-requires c κs =
     let b4 = b2 .before .before in
     let b10 = b4 .before .before .before .before .before .before in (
       omega (arith, good _ (b10 .pre) .long, (b4 .slot-at .ensures)),
-      sym (b2 .figures-fit .ensures)
-          ∙ not-false (b2 .figures-fit .result) (c .before .if2 .left),
+      passed (b2 .figures-fit .ensures) (c .before .if2 .left),
     )
 
 jobs-after-requires : tie.Need-jobs-after-requires
@@ -92,7 +91,7 @@ returns-3 c =
     let b11 = b10 .before in
     state-is (cond-t _ _
     (room-when _ _ _ _ _ (b11 .find .ensures) (b9 .slot-at .ensures) _ (b10 .if1 .left)
-    (sym (b7 .figures-fit .ensures) ∙ not-false (b7 .figures-fit .result) (b6 .if2 .left)))) (c .plain-reply3 .ensures) (noted-is _ _ _ _ _
+    (passed (b7 .figures-fit .ensures) (b6 .if2 .left)))) (c .plain-reply3 .ensures) (noted-is _ _ _ _ _
     (b11 .find .ensures) (b9 .slot-at .ensures) _ _ (b4 .write-slot .ensures) (c .before .jobs-after .ensures))
 
 pub note-spec : {M : Type 1} → statement M

@@ -4,7 +4,7 @@ use mathlib.Core.Bool.{true}
 use native.Mathlib.Omega.{arith}
 use Prim.Native.Nat.{ℕ, _-_, _≤_}
 use lib.ListN.{length}
-use borrow.Author.Tests.{not-true, not-false}
+use Rattle.row_cells.specs.Tested.{passed, failed}
 use Rattle.floats.specs.Truth.{all-more, all-fails}
 use Rattle.floats.specs.Lists.{all}
 use Rattle.tally_words.specs.Words.{mostJobs, tallyWords, tryOk, tryAt}
@@ -34,7 +34,7 @@ returns c =
     let b3 = b2 .before in
     let b4 = b3 .before in
     sym (all-fails _ _ (b4 .loop .i) (b3 .loop-test .taken)
-    (ap tryOk (sym (b2 .try-at .ensures)) ∙ sym (c .before .try-ok .ensures) ∙ not-true (c .before .try-ok .result) (c .if1 .taken)))
+    (ap tryOk (sym (b2 .try-at .ensures)) ∙ failed (c .before .try-ok .ensures) (c .if1 .taken)))
 
 add-i : tie.Need-add-i Inv-loop μ-loop
 add-i c = search needs
@@ -52,7 +52,7 @@ loop-again c =
         (
           omega arith,
           all-more (b4 .loop .i) _ ((b4 .loop .inv) .1 .1 .1)
-              (ap tryOk (sym (b2 .try-at .ensures)) ∙ sym (c .before .try-ok .ensures) ∙ not-false (c .before .try-ok .result) (c .if1 .left)),
+              (ap tryOk (sym (b2 .try-at .ensures)) ∙ passed (c .before .try-ok .ensures) (c .if1 .left)),
         ),
       ),
     )
