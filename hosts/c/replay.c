@@ -307,21 +307,23 @@ static uint64_t *mark_of(struct session *s, size_t i) {
     return s->rows.words + i * FLAT_ROW_WORDS + FLAT_MARK;
 }
 
-/* One digit a row, put into the marks of the row buffer; how many there are. */
+/* One digit a row, put into the marks of the row buffer, which has more places than a line has bytes; how many there are.
+ * The row behind those lent is marked too: where it is read, it counts. */
 static size_t read_marks(struct session *s, struct reader *r) {
     size_t n = 0;
-    if (read_none(r))
-        return 0;
-    for (; is_at_digit(r, DECIMAL) && n < MOST_ROOM; n++)
-        *mark_of(s, n) = digit(r->text[r->at++]);
-    if (n == 0)
-        r->ok = false;
-    end_field(r);
+    if (!read_none(r)) {
+        for (; is_at_digit(r, DECIMAL); n++)
+            *mark_of(s, n) = digit(r->text[r->at++]);
+        if (n == 0)
+            r->ok = false;
+        end_field(r);
+    }
+    *mark_of(s, n) = 1;
     return n;
 }
 
 static void rest_marks(struct session *s, size_t n) {
-    for (size_t i = 0; i < n; i++)
+    for (size_t i = 0; i <= n; i++)
         *mark_of(s, i) = resting(GUARD + i * FLAT_ROW_WORDS + FLAT_MARK);
 }
 

@@ -57,9 +57,12 @@ class Sequences:
         self.ask(f"poketally {place} {word:x}")
 
     def start(self):
-        if self.session.tally.length != model.WORDS and self.rng.random() < 0.9:
-            self.lend(model.WORDS)
         self.ask("tallystart", [model.told(self.session.tally.start())])
+
+    def fresh(self):
+        if self.session.tally.length != model.WORDS:
+            self.lend(model.WORDS)
+        self.start()
         self.jobs = [self.a_job() for _ in range(self.rng.randint(1, MOST_JOBS))]
 
     def a_job(self):
@@ -97,6 +100,8 @@ class Sequences:
             self.poke(rng.randrange(model.MOST_WORDS), rng.randrange(2**64))
         else:
             self.lend(rng.choice(LENGTHS))
+            if rng.random() < 0.5:
+                self.start()
 
     def mend(self):
         """What makes the words a tally again, so that most notes meet one."""
@@ -119,7 +124,7 @@ class Sequences:
     def sequence(self):
         rng = self.rng
         if rng.random() < 0.3:
-            self.start()
+            self.fresh()
         for _ in range(NOTES):
             if self.session.tally.why_none and rng.random() < 0.4:
                 self.mend()
