@@ -674,7 +674,8 @@ static int failed(const char *what) {
 
 int main(void) {
     static char text[MOST_LINE];
-    struct session s = begun();
+    static struct session s;
+    s = begun();
     size_t length = 0;
     bool ended = false;
     for (uint64_t number = 1; !ended; number++) {
