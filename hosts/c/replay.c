@@ -93,12 +93,11 @@ static bool is_kept(const struct memory *m, size_t written) {
 }
 
 /* Whether the row buffer rests but for the words written. Behind an accepted call only the guards are looked at, and as
- * many words behind the rows: a write farther on shows at the next refused call, after which all that is lent is. */
+ * many words behind the rows: a write farther on shows at the next refused call, where all lent words are. */
 static bool rows_kept(const struct memory *rows, size_t written, bool refused) {
     const size_t behind = GUARD + written, end = GUARD + rows->length;
     const size_t looked = refused || behind + GUARD > end ? end : behind + GUARD;
-    return written <= rows->length && rests(rows, 0, GUARD) && rests(rows, behind, looked) &&
-           rests(rows, end, end + GUARD);
+    return rests(rows, 0, GUARD) && rests(rows, behind, looked) && rests(rows, end, end + GUARD);
 }
 
 /* ---- Lines of output. */
@@ -454,19 +453,21 @@ static void save_all(struct session *s) {
     save(&s->given);
 }
 
-/* Whether a call left all memory alone that it may not write: any, where it refused. */
-static bool all_kept(const struct session *s, struct flat_reply reply, size_t written) {
-    const bool refused = reply.code != 0;
-    return is_kept(&s->state, refused ? 0 : s->state.length) && is_kept(&s->store, refused ? 0 : s->store.length) &&
-           is_kept(&s->given, 0) && rows_kept(&s->rows, written, refused);
-}
-
 /* The words of the rows that a call says it wrote, of no more than are lent. */
 static size_t words_written(const struct session *s, struct flat_reply reply) {
     const size_t places = s->rows.length / FLAT_ROW_WORDS;
     if (reply.code != 0)
         return 0;
     return (reply.count < places ? (size_t)reply.count : places) * FLAT_ROW_WORDS;
+}
+
+/* Whether a call left all memory alone that it may not write: any, where it refused; and has room for what it says that
+ * it wrote. */
+static bool all_kept(const struct session *s, struct flat_reply reply, size_t written) {
+    const bool refused = reply.code != 0;
+    return is_kept(&s->state, refused ? 0 : s->state.length) && is_kept(&s->store, refused ? 0 : s->store.length) &&
+           is_kept(&s->given, 0) && rows_kept(&s->rows, written, refused) &&
+           (refused || reply.count == written / FLAT_ROW_WORDS);
 }
 
 /* The answer to a call; it is told, where a job is set; then the row buffer is put to rest again. */
