@@ -1,7 +1,8 @@
-//! A safe Rust host: the flattener behind the C interface of docs/INTERFACE.md, with its memory.
+//! A safe Rust host: the flattener behind the C interface of docs/INTERFACE.md, with its memory; and the tally.
 
 pub mod layout;
 mod raw;
+pub mod tally;
 
 pub use layout::CELLS;
 use layout::*;
