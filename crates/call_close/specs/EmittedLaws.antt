@@ -18,11 +18,12 @@ use Rattle.row_cells.specs.Row.{shown, hasPoint}
 use Rattle.row_cells.specs.RowLaws.{length-out}
 use Rattle.row_put.specs.MadeLaws.{length-made}
 use Rattle.floats.specs.Truth.{by-bit, cond-t, cond-f, all-at, and-right}
+use Rattle.floats.specs.Joins.{flatten-append}
 use Rattle.spline_channels.specs.Channels.{Spline, channels, pointRows, blockAt}
 use Rattle.spline_points.specs.Points.{startPoint, pointsFrom}
 use Rattle.spline_metric.specs.Metric.{metricOf}
 use Rattle.spline_channels.specs.Gathers.{Once}
-use Rattle.spline_channels.specs.Flat.{Sized, sized-append, sized-cons, flatten-append, length-flatten}
+use Rattle.spline_channels.specs.Flat.{Sized, sized-append, sized-cons, length-flatten}
 use Rattle.spline_points.specs.Curve.{points-length}
 use Rattle.spline_channels.specs.Keeps.{keep-most}
 use Rattle.spline_places.specs.Groups.{pointGroup, heldGroup}

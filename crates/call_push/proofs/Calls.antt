@@ -13,6 +13,7 @@ use Rattle.floats.specs.Splice.{spliced-none, spliced-spliced}
 use Rattle.layout.specs.Layout.{rowWords, mostHeld}
 use Rattle.row_check.specs.Check.{rowCheck}
 use Rattle.floats.specs.Truth.{by-bit, cond-t, cond-f}
+use Rattle.floats.specs.Joins.{flatten-append}
 use Rattle.arc_rows.specs.declared.Plan.{Plan}
 use Rattle.saved_state.specs.State.{held, savedCheck}
 use Rattle.call_reply.specs.declared.Reply.{Reply}
@@ -39,7 +40,6 @@ use Rattle.push_rows.specs.Few.{few-own}
 use Rattle.push_check.specs.declared.Due.the-variants.{Refused, Push}
 use Rattle.push_check.specs.BlockLaws.{due-refused, due-push}
 use Rattle.call_push.specs.Settle.{Passed, Settles, settled}
-use Rattle.spline_channels.specs.Flat.{flatten-append}
 
 -- what a push that passes its checks has
 pub record Passes (st store r : List ℕ) : Type 0 where

@@ -1,6 +1,6 @@
 -- LAWS. One more knot span. Assumes nothing.
 use mathlib.Core.Path.{_≡_, refl, ap, _∙_}
-use mathlib.Core.List.{List, [], _++_}
+use mathlib.Core.List.{List, [], _++_, map-append}
 use Prim.Native.Nat.{ℕ, zero, suc, _+_, _-_, _*_, _^_, _<_, _≤_}
 use native.Mathlib.Numerals.{add-one}
 use native.Mathlib.Nat.{mul-le-mul-right, suc-mul}
@@ -12,11 +12,11 @@ use lib.Ieee as Ieee
 use lib.Ieee.{Float, binary64}
 use Rattle.floats.specs.Numbers.{ofNat, f0}
 use Rattle.floats.specs.Lists.{upto, filled, flatten}
+use Rattle.floats.specs.Joins.{flatten-snoc}
 use Rattle.layout.specs.Layout.{mostPoints}
 use Rattle.curve_metric.specs.Below.{Below}
 use Rattle.curve_metric.specs.Walk.{Sample, samples, depth}
 use Rattle.curve_metric.specs.WalkLaws.{samples-le}
-use Rattle.bspline_tables.specs.Joins.{flatten-snoc, map-append}
 use Rattle.curve_walk.specs.declared.Shape.{Shape}
 use Rattle.curve_walk.specs.Walks.{encode, pointAt, ownOf, endOwner, counted, pointsOf}
 use Rattle.curve_walk.specs.Asks.{Tables, Stretch, Counted, Counts, Written, Fresh}

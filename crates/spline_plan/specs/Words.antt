@@ -16,11 +16,12 @@ use Rattle.layout.specs.Layout.{axisMasks}
 use Rattle.floats.specs.Numbers.{bits, at}
 use Rattle.floats.specs.Lists.{upto, keep, member, flatten}
 use Rattle.floats.specs.Fill.{length-upto, at-upto, upto-below}
+use Rattle.floats.specs.Joins.{flatten-append}
 use Rattle.row_cells.specs.Bits.{has}
 use Rattle.row_cells.specs.Row.{axesOf, hasPoint, outRow}
 use Rattle.row_put.specs.MadeLaws.{made-same}
 use Rattle.row_cells.specs.Masks.{member-small}
-use Rattle.spline_channels.specs.Flat.{Sized, flatten-append}
+use Rattle.spline_channels.specs.Flat.{Sized}
 use Rattle.spline_channels.specs.Channels.{Spline, channels, placeOf}
 use Rattle.spline_places.specs.declared.frame.Frame.{Frame}
 use Rattle.spline_places.specs.declared.place.Place.{Place}

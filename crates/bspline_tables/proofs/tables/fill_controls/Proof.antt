@@ -5,8 +5,9 @@ use native.Mathlib.Omega.{arith}
 use native.Mathlib.Nat.{zero-mul}
 use lib.Seq.{length-take-le}
 use Rattle.floats.specs.Lists.{upto}
+use Rattle.floats.specs.Parts.{next-row}
 use Rattle.bspline_tables.specs.Tables.{controlAt}
-use Rattle.bspline_tables.specs.RowLaws.{Rowing, rowing-none, rowing-put, rowing-all, part-length, within, next-row}
+use Rattle.bspline_tables.specs.RowLaws.{Rowing, rowing-none, rowing-put, rowing-all, part-length, within}
 use Rattle.bspline_tables.proofs.Controls.{weights-are, lift1}
 use borrow.Author.Needs.{needs}
 use Rattle.bspline_tables.proofs.tables.fill_controls.Statement.{statement}

@@ -1,8 +1,8 @@
--- LAWS. Lists that runs need: `flatten`, `map` and `keep` over lists joined end to end. Assumes nothing.
+-- LAWS. `flatten` and `keep` over lists joined end to end. Assumes nothing.
 use mathlib.Core.Path.{_≡_, refl, sym, ap, _∙_}
 use mathlib.Core.Bool.{Bool, true, false, cond}
-use mathlib.Core.List.{List, [], _∷_, _++_, map, append-assoc, append-nil}
+use mathlib.Core.List.{List, [], _∷_, _++_, append-assoc, append-nil}
 use Rattle.floats.specs.Lists.{keep, flatten}
 
 pub flatten-append : {A : Type 0} (us vs : List (List A)) → flatten (us ++ vs) ≡ flatten us ++ flatten vs
 unfolding flatten
@@ -15,10 +15,6 @@ flatten-one u = append-nil u
 
 pub flatten-snoc : {A : Type 0} (us : List (List A)) (v : List A) → flatten (us ++ (v ∷ [])) ≡ flatten us ++ v
 flatten-snoc us v = flatten-append us (v ∷ []) ∙ ap (λ (l : List _). flatten us ++ l) (flatten-one v)
-
-pub map-append : {A B : Type 0} (f : A → B) (us vs : List A) → map f (us ++ vs) ≡ map f us ++ map f vs
-map-append f [] vs = refl
-map-append f (u ∷ us) vs = ap (λ (l : List _). f u ∷ l) (map-append f us vs)
 
 pub keep-append : {A : Type 0} (p : A → Bool) (us vs : List A) → keep p (us ++ vs) ≡ keep p us ++ keep p vs
 unfolding keep
