@@ -1,11 +1,11 @@
--- `saved_state::state::axes_mask` meets its contract. Assumes nothing.
+-- `row_axes::axes_mask` meets its contract. Assumes nothing.
 use native.Mathlib.Omega.{arith}
 use Prim.Native.Nat.{_-_, _≤_}
 use lib.ListN.{length}
-use Rattle.saved_state.proofs.Marks.{Marking, marking-none, marking-more, marked}
+use Rattle.row_axes.proofs.Marking.{Marking, marking-none, marking-more, marked}
 use borrow.Author.Needs.{needs}
-use Rattle.saved_state.proofs.state.axes_mask.Statement.{statement}
-use Rattle.saved_state.proofs.state.axes_mask.Tie as tie
+use Rattle.row_axes.proofs.axes_mask.Statement.{statement}
+use Rattle.row_axes.proofs.axes_mask.Tie as tie
 
 abbrev Inv-loop : tie.InvT-loop
 Inv-loop codes m₀ i₀ m i = (i ≤ length codes) × Marking codes i m

@@ -1,10 +1,10 @@
--- `saved_state::state::with_axis` meets its contract. Assumes nothing.
+-- `row_axes::with_axis` meets its contract. Assumes nothing.
 use mathlib.Core.Path.{sym, _∙_}
 use borrow.Author.Tests.{lt-ltb, le-ltb}
 use Rattle.floats.specs.Truth.{cond-t, cond-f}
 use borrow.Author.Needs.{needs}
-use Rattle.saved_state.proofs.state.with_axis.Statement.{statement}
-use Rattle.saved_state.proofs.state.with_axis.Tie as tie
+use Rattle.row_axes.proofs.with_axis.Statement.{statement}
+use Rattle.row_axes.proofs.with_axis.Tie as tie
 
 returns : tie.Need-returns
 returns c = sym (cond-f _ _ (le-ltb _ _ (c .if1 .taken)))
