@@ -15,7 +15,7 @@ use Rattle.row_cells.specs.Bits as Bits
 use Rattle.row_cells.specs.Codes as Codes
 use Rattle.row_cells.specs.Row as Row
 use Rattle.row_check.specs.Check as Check
-use Rattle.row_put.specs.Made as Made
+use Rattle.row_made.specs.Made as Made
 use Rattle.arc_centre.specs.Centre as Centre
 use Rattle.arc_numbers.specs.Arc as Arc
 use Rattle.arc_sample.specs.Samples as Samples

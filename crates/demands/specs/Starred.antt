@@ -13,7 +13,7 @@ use Rattle.motion.specs.Motion as Motion
 use Rattle.row_cells.specs.Codes as Codes
 use Rattle.row_cells.specs.Row as Row
 use Rattle.row_cells.specs.Bits as Bits
-use Rattle.row_put.specs.Made as Made
+use Rattle.row_made.specs.Made as Made
 use Rattle.row_check.specs.Check as Check
 use Rattle.arc_rows.specs.Arc as Arc
 use Rattle.curve_metric.specs.Metric as Metric

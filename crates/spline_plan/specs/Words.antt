@@ -18,7 +18,7 @@ use Rattle.floats.specs.Lists.{upto, keep, member, flatten}
 use Rattle.floats.specs.Fill.{length-upto, at-upto, upto-below}
 use Rattle.row_cells.specs.Bits.{has}
 use Rattle.row_cells.specs.Row.{axesOf, hasPoint, outRow}
-use Rattle.row_put.specs.MadeLaws.{made-same}
+use Rattle.row_made.specs.MadeLaws.{made-same}
 use Rattle.row_cells.specs.Masks.{member-small}
 use Rattle.spline_channels.specs.Flat.{Sized, flatten-append}
 use Rattle.spline_channels.specs.Channels.{Spline, channels, placeOf}
