@@ -20,7 +20,7 @@ use Rattle.saved_state.specs.State.{tolOk, codesOk, axesOk, axisCount, motionNo
 use Rattle.saved_state.specs.StateLaws.{Good, good-ok, geometric-small}
 use Rattle.push_state.specs.PushLaws.{placed-keeps}
 use Rattle.call_start.specs.Start.{fresh, freshWord}
-use Rattle.call_start.specs.Seed.{seeded}
+use Rattle.call_seed.specs.Seed.{seeded}
 use Rattle.demand_state.specs.Accepted.{Saved, saved}
 use Rattle.demand_state.specs.Fresh.{few-codes, fresh-at, fresh-list}
 use Rattle.demand_state.specs.Keeps.{no-point, none-held, seeded-ok}

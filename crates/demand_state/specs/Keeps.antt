@@ -28,7 +28,7 @@ use Rattle.row_cells.specs.Masks.{has-none, with-other, with-lt}
 use Rattle.saved_state.specs.State.{plainDegree, axisCount, motionNow, planeNow, degree, held, geometric, tolOk, codesOk, axesOk, pointAtOk, pointOk, heldOk}
 use Rattle.saved_state.specs.State.{stateOk, storeOk, heldRowOk, savedCheck, pointWord, position, placed}
 use Rattle.saved_state.specs.StateLaws.{Good, good, good-ok, good-few, axes-few, point-small, geometric-small}
-use Rattle.call_start.specs.Seed.{seeded}
+use Rattle.call_seed.specs.Seed.{seeded}
 use Rattle.push_check.specs.Blocks.{orNow, motionThen, planeThen, emits, kept, isFull, news}
 use Rattle.push_state.specs.Pushed.{forgotten, opened, degreeWith, buffered, pushState, pushStore, trackTo}
 use Rattle.push_state.specs.PushLaws.{SameAxes, same-trans, same-set, same-placed, same-to, same-forgotten, same-opened, same-codes, same-geometric}

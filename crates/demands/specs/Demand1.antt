@@ -15,7 +15,7 @@ use Rattle.row_check.specs.Check.{within}
 use Rattle.saved_state.specs.State.{stateOk, tolOk, codesOk, geometric, held, savedCheck}
 use Rattle.call_reply.specs.Replies.{plain, AfterState, tooFew}
 use Rattle.call_start.specs.Start.{freshWord, fresh, startSpec}
-use Rattle.call_start.specs.Seed.{seeded, seedSpec}
+use Rattle.call_seed.specs.Seed.{seeded, seedSpec}
 use Rattle.push_check.specs.Blocks.{pushCheck}
 use Rattle.call_push.specs.Push.{pushRows, pushDone, pushSpec}
 use Rattle.call_close.specs.Close.{untouched, fits, closeRows, closeState, closeSpec}

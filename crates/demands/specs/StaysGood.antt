@@ -18,7 +18,7 @@ use Rattle.demands.specs.Demands.{answer}
 use Rattle.demands.specs.NoTrace.{refused-leaves}
 use Rattle.call_reply.specs.Replies.{After, AfterState, plain}
 use Rattle.call_start.specs.Start.{fresh}
-use Rattle.call_start.specs.Seed.{seeded, seedSpec}
+use Rattle.call_seed.specs.Seed.{seeded, seedSpec}
 use Rattle.push_check.specs.Blocks.{pushCheck}
 use Rattle.call_push.specs.Push.{pushRows, pushDone}
 use Rattle.call_close.specs.Close.{closeRows, closeSpec}

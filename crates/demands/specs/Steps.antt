@@ -21,7 +21,7 @@ use Rattle.spline_emission.specs.Emission.{Spline, splineGroups}
 use Rattle.saved_state.specs.State.{stateOk, held, position, curveStart, tolerance, motionNow, degree, savedCheck}
 use Rattle.call_close.specs.Held.{heldSpline, emission}
 use Rattle.call_reply.specs.Replies.{After, AfterState, plain}
-use Rattle.call_start.specs.Seed.{seeded, seedSpec}
+use Rattle.call_seed.specs.Seed.{seeded, seedSpec}
 use Rattle.push_check.specs.Blocks.{orNow, motionThen, emits, pushCheck}
 use Rattle.push_rows.specs.Answer.{answerAs, ownAnswer}
 use Rattle.call_push.specs.Push.{pushRows, pushDone, pushSpec}

@@ -1,4 +1,4 @@
--- `call_start::start::write_fresh` meets its contract. Assumes nothing.
+-- `call_start::write_fresh` meets its contract. Assumes nothing.
 use mathlib.Core.Path.{_≡_, ap, _∙_}
 use native.Mathlib.Omega.{arith}
 use Prim.Native.Nat.{_-_, _≤_}
@@ -8,8 +8,8 @@ use Rattle.floats.specs.Fill.{Filling, filling-none, filling-more, filled-all}
 use Rattle.layout.specs.Layout.{stateWords}
 use Rattle.call_start.specs.Start.{fresh, freshWord}
 use borrow.Author.Needs.{needs}
-use Rattle.call_start.proofs.start.write_fresh.Statement.{statement}
-use Rattle.call_start.proofs.start.write_fresh.Tie as tie
+use Rattle.call_start.proofs.write_fresh.Statement.{statement}
+use Rattle.call_start.proofs.write_fresh.Tie as tie
 
 abbrev Inv-loop : tie.InvT-loop
 Inv-loop state₀ tolerance axes i₀ state i = (i ≤ stateWords) × ((length state₀ ≡ stateWords) × Filling (freshWord tolerance axes) i state₀ state)

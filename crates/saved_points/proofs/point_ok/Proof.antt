@@ -1,12 +1,12 @@
--- `saved_words::point_ok` meets its contract. Assumes nothing.
+-- `saved_points::point_ok` meets its contract. Assumes nothing.
 use mathlib.Core.Path.{sym, _∙_}
 use borrow.Author.Tests.{lt-ltb, le-ltb}
 use Rattle.floats.specs.Truth.{and-t, and-f}
 use Rattle.saved_state.specs.State.{pointOk}
-use Rattle.saved_words.proofs.Points.{point-none}
+use Rattle.saved_points.proofs.Points.{point-none}
 use borrow.Author.Needs.{needs}
-use Rattle.saved_words.proofs.point_ok.Statement.{statement}
-use Rattle.saved_words.proofs.point_ok.Tie as tie
+use Rattle.saved_points.proofs.point_ok.Statement.{statement}
+use Rattle.saved_points.proofs.point_ok.Tie as tie
 
 mul-if1 : tie.Need-mul-if1
 mul-if1 c = search needs

@@ -1,14 +1,14 @@
--- `call_start::seed::seed` meets its contract. Assumes nothing.
+-- `call_seed::seed` meets its contract. Assumes nothing.
 use mathlib.Core.Path.{refl, sym, _∙_}
 use borrow.Author.Tests.{le-leb, lt-leb}
 use Rattle.row_cells.specs.Tested.{passed, failed}
 use Rattle.floats.specs.Truth.{cond-t, cond-f}
-use Rattle.call_start.specs.Seed.{seedSpec, seeded}
+use Rattle.call_seed.specs.Seed.{seedSpec, seeded}
 use Rattle.call_reply.specs.ReplyLaws.{state-is}
 use Rattle.saved_state.specs.StateLaws.{good, good-listed, geometric-small}
 use borrow.Author.Needs.{needs}
-use Rattle.call_start.proofs.seed.seed.Statement.{statement}
-use Rattle.call_start.proofs.seed.seed.Tie as tie
+use Rattle.call_seed.proofs.seed.Statement.{statement}
+use Rattle.call_seed.proofs.seed.Tie as tie
 
 state-ok-requires : tie.Need-state-ok-requires
 state-ok-requires c κs = search needs

@@ -1,4 +1,4 @@
--- `saved_words::point_axes_ok` meets its contract. Assumes nothing.
+-- `saved_points::point_axes_ok` meets its contract. Assumes nothing.
 use mathlib.Core.Path.{_≡_, sym}
 use mathlib.Core.Bool.{true}
 use native.Mathlib.Omega.{arith}
@@ -9,10 +9,10 @@ use Rattle.layout.specs.Layout.{axisCodes}
 use Rattle.floats.specs.Truth.{all-intro, all-fails}
 use Rattle.row_cells.specs.BitWalk.{at-bit, AtBit, Walking, walking-all, walking-more, walked}
 use Rattle.saved_state.specs.State.{pointAtOk}
-use Rattle.saved_words.proofs.Points.{point-absent}
+use Rattle.saved_points.proofs.Points.{point-absent}
 use borrow.Author.Needs.{needs}
-use Rattle.saved_words.proofs.point_axes_ok.Statement.{statement}
-use Rattle.saved_words.proofs.point_axes_ok.Tie as tie
+use Rattle.saved_points.proofs.point_axes_ok.Statement.{statement}
+use Rattle.saved_points.proofs.point_axes_ok.Tie as tie
 
 abbrev Inv-loop : tie.InvT-loop
 Inv-loop state w gs rest₀ rest = Walking (getD state w 0) axisCodes (λ (k : ℕ). pointAtOk state w k ≡ true) rest

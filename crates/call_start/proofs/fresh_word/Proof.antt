@@ -1,11 +1,11 @@
--- `call_start::start::fresh_word` meets its contract. Assumes nothing.
+-- `call_start::fresh_word` meets its contract. Assumes nothing.
 use mathlib.Core.Path.{sym, _∙_}
 use borrow.Author.Tests.{lt-ltb, le-ltb, eq-eqb, ne-eqb}
 use Rattle.floats.specs.Truth.{cond-t, cond-f}
 use Rattle.call_start.specs.Start.{freshWord}
 use borrow.Author.Needs.{needs}
-use Rattle.call_start.proofs.start.fresh_word.Statement.{statement}
-use Rattle.call_start.proofs.start.fresh_word.Tie as tie
+use Rattle.call_start.proofs.fresh_word.Statement.{statement}
+use Rattle.call_start.proofs.fresh_word.Tie as tie
 
 returns : tie.Need-returns
 unfolding freshWord

@@ -1,11 +1,11 @@
--- `saved_words::point_at_ok` meets its contract. Assumes nothing.
+-- `saved_points::point_at_ok` meets its contract. Assumes nothing.
 use mathlib.Core.Path.{sym, _∙_}
 use Rattle.row_cells.specs.Tested.{passed, failed}
 use Rattle.floats.specs.Truth.{and-t, and-f}
-use Rattle.saved_words.proofs.Points.{point-there}
+use Rattle.saved_points.proofs.Points.{point-there}
 use borrow.Author.Needs.{needs}
-use Rattle.saved_words.proofs.point_at_ok.Statement.{statement}
-use Rattle.saved_words.proofs.point_at_ok.Tie as tie
+use Rattle.saved_points.proofs.point_at_ok.Statement.{statement}
+use Rattle.saved_points.proofs.point_at_ok.Tie as tie
 
 has-bit-requires : tie.Need-has-bit-requires
 has-bit-requires c κs = search needs

@@ -6,7 +6,7 @@ use row_check::within_range;
 use saved_state::state::is_geometric;
 use saved_state::state::place;
 use saved_words::state_ok;
-ghost use Rattle.call_start.specs.Seed.{seedSpec};
+ghost use Rattle.call_seed.specs.Seed.{seedSpec};
 ghost use Rattle.call_reply.specs.Replies.{StateIs};
 
 // Makes the number whose bits are `value` the position of an axis.

@@ -1,9 +1,9 @@
--- `call_start::start::code_or_0` meets its contract. Assumes nothing.
+-- `call_start::code_or_0` meets its contract. Assumes nothing.
 use mathlib.Core.Path.{refl, sym}
 use lib.ListN.{List·getD-eq-default}
 use borrow.Author.Needs.{needs}
-use Rattle.call_start.proofs.start.code_or_0.Statement.{statement}
-use Rattle.call_start.proofs.start.code_or_0.Tie as tie
+use Rattle.call_start.proofs.code_or_0.Statement.{statement}
+use Rattle.call_start.proofs.code_or_0.Tie as tie
 
 mul-result : tie.Need-mul-result
 mul-result c = search needs

@@ -1,4 +1,4 @@
--- `call_start::start::start` meets its contract. Assumes nothing.
+-- `call_start::start` meets its contract. Assumes nothing.
 use mathlib.Core.Path.{refl, _∙_}
 use borrow.Author.Tests.{eq-eqb, ne-eqb}
 use Rattle.row_cells.specs.Tested.{passed, failed}
@@ -6,8 +6,8 @@ use Rattle.floats.specs.Truth.{cond-t, cond-f}
 use Rattle.call_start.specs.Start.{startSpec}
 use Rattle.call_reply.specs.ReplyLaws.{state-is}
 use borrow.Author.Needs.{needs}
-use Rattle.call_start.proofs.start.start.Statement.{statement}
-use Rattle.call_start.proofs.start.start.Tie as tie
+use Rattle.call_start.proofs.start.Statement.{statement}
+use Rattle.call_start.proofs.start.Tie as tie
 
 plain-reply-requires : tie.Need-plain-reply-requires
 plain-reply-requires c κs = search needs
