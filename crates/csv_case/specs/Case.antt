@@ -33,7 +33,8 @@ use Rattle.spline_places.specs.Groups as Groups
 use Rattle.spline_curve.specs.Runs as Curves
 use Rattle.spline_plan.specs.Emission as Emission
 use Rattle.saved_state.specs.State as State
-use Rattle.push_check.specs.Blocks as Blocks
+use Rattle.push_resolve.specs.Blocks as Blocks
+use Rattle.push_check.specs.Refusal as Refusal
 use Rattle.push_state.specs.Pushed as Pushed
 use Rattle.push_rows.specs.Answer as Answer
 use Rattle.call_reply.specs.Replies as Replies
@@ -76,7 +77,7 @@ unfolding Lists.all Lists.anyOf Lists.flatten Lists.keep Lists.member Lists.spli
     Points.firstCell Measured.metricOf Points.nextPoint Channels.placeOf Channels.pointRows Points.pointsFrom Points.startPoint Points.weightOf
     Groups.heldGroup Groups.isMarked Groups.ownCell Groups.pointGroup Groups.sampleCell Curves.runsOf Emission.splineGroups State.axesOk
     State.codeOk State.codesOk State.geometric State.heldOk State.heldRowOk State.heldRows State.placed State.pointAtOk State.pointOk State.pointWord
-    State.savedCheck State.stateOk State.storeOk State.tolOk Blocks.emits Blocks.isFull Blocks.kept Blocks.news Blocks.orNow Blocks.pushCheck
+    State.savedCheck State.stateOk State.storeOk State.tolOk Blocks.emits Refusal.isFull Blocks.kept Blocks.news Blocks.orNow Refusal.pushCheck
     Pushed.buffered Pushed.degreeWith Pushed.forgotten Pushed.opened Pushed.pushState Pushed.pushStore Pushed.trackTo Answer.answerAs Answer.ownAnswer
     Replies.tooFew Start.fresh Start.freshWord Start.startSpec Close.closeRows Close.closeSpec Close.closeState Close.untouched Held.emission
     Held.heldSpline Push.pushDone Push.pushRows Push.pushSpec Decimal.millionths Decimal.quotient Decimal.widthFrom Read.fraction Read.lineNumber Read.num

@@ -7,7 +7,7 @@ use lib.Dec.{eqb}
 use Rattle.floats.specs.Lists.{all}
 use Rattle.row_check.specs.Check.{shapeOk, numbersOk, turnOk, rowCheck}
 use Rattle.saved_state.specs.State.{stateOk, storeOk, held, heldRowOk, savedCheck}
-use Rattle.push_check.specs.Blocks.{isFull, pushCheck}
+use Rattle.push_check.specs.Refusal.{isFull, pushCheck}
 use Rattle.demand_calls.specs.Laws.{cond-both}
 
 pub record Refusal (n : ℕ) : Type 0 where

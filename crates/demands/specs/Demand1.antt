@@ -16,7 +16,7 @@ use Rattle.saved_state.specs.State.{stateOk, tolOk, codesOk, geometric, held, s
 use Rattle.call_reply.specs.Replies.{plain, AfterState, tooFew}
 use Rattle.call_start.specs.Start.{freshWord, fresh, startSpec}
 use Rattle.call_seed.specs.Seed.{seeded, seedSpec}
-use Rattle.push_check.specs.Blocks.{pushCheck}
+use Rattle.push_check.specs.Refusal.{pushCheck}
 use Rattle.call_push.specs.Push.{pushRows, pushDone, pushSpec}
 use Rattle.call_close.specs.Close.{untouched, fits, closeRows, closeState, closeSpec}
 use Rattle.demand_calls.specs.Laws.{cond-both}

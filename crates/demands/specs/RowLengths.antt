@@ -22,7 +22,7 @@ use Rattle.arc_rows.specs.Arc.{Answer, silent, passed, arcAnswer, fromStart, fr
 use Rattle.spline_emission.specs.Emission.{Spline, splineGroups, heldGroup, pointGroup}
 use Rattle.saved_state.specs.State.{held}
 use Rattle.push_rows.specs.Answer.{answerAs, ownAnswer}
-use Rattle.push_check.specs.Blocks.{emits}
+use Rattle.push_resolve.specs.Blocks.{emits}
 use Rattle.call_close.specs.Held.{emission}
 use Rattle.call_push.specs.Push.{pushRows}
 use Rattle.call_close.specs.Close.{closeRows}

@@ -20,7 +20,8 @@ use Rattle.call_start.specs.Start as Start
 use Rattle.call_reply.specs.Replies.{After}
 use Rattle.call_start.specs.Start.{fresh}
 use Rattle.call_push.specs.Push as Push
-use Rattle.push_check.specs.Blocks as Blocks
+use Rattle.push_resolve.specs.Blocks as Blocks
+use Rattle.push_check.specs.Refusal as Refusal
 use Rattle.push_state.specs.Pushed as Pushed
 use Rattle.push_rows.specs.Answer as Own
 use Rattle.call_push.specs.Push.{pushRows, pushSpec}
@@ -56,7 +57,7 @@ unfolding fresh Start.freshWord Lists.upto Lists.keep Lists.member Lists.flatten
     Check.numbersOk Check.above1000 Check.turnOk Check.rowCheck passed State.geometric State.pointWord State.tolOk State.codeOk State.codesOk State.axesOk
     State.pointAtOk State.pointOk State.heldOk State.stateOk State.storeOk State.heldRows State.heldRowOk State.savedCheck Bits.withBit State.placed
     Blocks.orNow Blocks.emits Blocks.kept Own.answerAs Own.ownAnswer Blocks.news Pushed.trackTo Pushed.pushState Pushed.pushStore Push.pushRows
-    Blocks.isFull Blocks.pushCheck Push.pushDone Push.pushSpec
+    Refusal.isFull Refusal.pushCheck Push.pushDone Push.pushSpec
 computed = refl
 
 -- the first word of answer i

@@ -22,7 +22,8 @@ use Rattle.saved_state.specs.State.{stateOk, held, position, curveStart, tolera
 use Rattle.call_close.specs.Held.{heldSpline, emission}
 use Rattle.call_reply.specs.Replies.{After, AfterState, plain}
 use Rattle.call_seed.specs.Seed.{seeded, seedSpec}
-use Rattle.push_check.specs.Blocks.{orNow, motionThen, emits, pushCheck}
+use Rattle.push_resolve.specs.Blocks.{orNow, motionThen, emits}
+use Rattle.push_check.specs.Refusal.{pushCheck}
 use Rattle.push_rows.specs.Answer.{answerAs, ownAnswer}
 use Rattle.call_push.specs.Push.{pushRows, pushDone, pushSpec}
 use Rattle.call_close.specs.Close.{closeRows, closeState, closeSpec}

@@ -13,10 +13,10 @@ use Rattle.row_cells.specs.Bits.{maskSum, withBit}
 use Rattle.row_cells.specs.Row.{motionOf}
 use Rattle.floats.specs.Truth.{by-bit}
 use Rattle.saved_state.specs.State.{held, geometricMask}
-use Rattle.push_check.specs.declared.Resolved.{Resolved}
-use Rattle.push_check.specs.Resolved.{resolved}
+use Rattle.push_resolve.specs.declared.Resolved.{Resolved}
+use Rattle.push_resolve.specs.Resolved.{resolved}
 use Rattle.push_state.specs.Pushed.{forgotten, buffered, trackTo, pushState}
-use Rattle.push_check.specs.Asks.{Block}
+use Rattle.push_resolve.specs.Asks.{Block}
 use Rattle.push_state.specs.PushLaws.{block-same, SameAxes, same-geometric, same-refl, same-trans, same-set, same-cond, same-forgotten}
 use Rattle.push_state.specs.PushLaws.{same-buffered, held-forgotten}
 

@@ -17,7 +17,7 @@ use Rattle.row_cells.specs.Bits.{has, withBit}
 use Rattle.row_cells.specs.Row.{presentOf, number}
 use Rattle.floats.specs.Truth.{by-bit}
 use Rattle.saved_state.specs.State.{plainDegree, axisCount, held, degree, geometric, position, placed}
-use Rattle.push_check.specs.Asks.{Block}
+use Rattle.push_resolve.specs.Asks.{Block}
 use Rattle.push_state.specs.Pushed.{trackTo, forgotten, opened, buffered, degreeWith}
 
 -- ---- a word of a spliced list

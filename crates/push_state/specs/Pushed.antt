@@ -13,7 +13,7 @@ use Rattle.motion.specs.Motion.{isSpline}
 use Rattle.row_cells.specs.Bits.{has, withBit}
 use Rattle.row_cells.specs.Row.{number, motionOf, presentOf, outRow}
 use Rattle.saved_state.specs.State.{plainDegree, degree, held, geometric, position, placed}
-use Rattle.push_check.specs.Blocks.{motionThen, planeThen, emits, kept, news}
+use Rattle.push_resolve.specs.Blocks.{motionThen, planeThen, emits, kept, news}
 
 -- ---- the state afterwards. 3.13: positions take the geometric cells present
 unfoldable pub trackTo : ℕ → List ℕ → List ℕ → List ℕ

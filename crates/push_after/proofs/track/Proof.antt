@@ -1,7 +1,7 @@
 -- `push_after::track` meets its contract. Assumes nothing.
 use mathlib.Core.Path.{_∙_}
 use native.Mathlib.Omega.{arith}
-use Rattle.push_check.specs.Asks.{Block}
+use Rattle.push_resolve.specs.Asks.{Block}
 use Rattle.push_after.proofs.Tracks.{Tracked, tracked-long, tracked-none, tracked-axis, tracked-fewer, tracked-more, tracked}
 use borrow.Author.Needs.{needs}
 use Rattle.push_after.proofs.track.Statement.{statement}

@@ -1,8 +1,8 @@
--- `push_check::resolve` meets its contract. Assumes nothing.
-use Rattle.push_check.specs.BlockLaws.{block-listed, resolved-is}
+-- `push_resolve::resolve` meets its contract. Assumes nothing.
+use Rattle.push_resolve.specs.BlockLaws.{block-listed, resolved-is}
 use borrow.Author.Needs.{needs}
-use Rattle.push_check.proofs.resolve.Statement.{statement}
-use Rattle.push_check.proofs.resolve.Tie as tie
+use Rattle.push_resolve.proofs.resolve.Statement.{statement}
+use Rattle.push_resolve.proofs.resolve.Tie as tie
 
 shared-slice-read-held : tie.Need-shared-slice-read-held
 shared-slice-read-held c = search needs

@@ -1,10 +1,10 @@
--- `push_check::or_now` meets its contract. Assumes nothing.
+-- `push_resolve::or_now` meets its contract. Assumes nothing.
 use mathlib.Core.Path.{sym}
 use borrow.Author.Tests.{eq-eqb, ne-eqb}
 use Rattle.floats.specs.Truth.{cond-t, cond-f}
-use Rattle.push_check.specs.Blocks.{orNow}
-use Rattle.push_check.proofs.or_now.Statement.{statement}
-use Rattle.push_check.proofs.or_now.Tie as tie
+use Rattle.push_resolve.specs.Blocks.{orNow}
+use Rattle.push_resolve.proofs.or_now.Statement.{statement}
+use Rattle.push_resolve.proofs.or_now.Tie as tie
 
 returns : tie.Need-returns
 unfolding orNow

@@ -1,10 +1,10 @@
--- `push_check::ends_spline` meets its contract. Assumes nothing.
+-- `push_resolve::ends_spline` meets its contract. Assumes nothing.
 use mathlib.Core.Path.{sym, ap}
 use mathlib.Core.Bool.{not}
 use borrow.Author.Tests.{eq-eqb, ne-eqb}
 use Rattle.floats.specs.Truth.{and-t, and-f}
-use Rattle.push_check.proofs.ends_spline.Statement.{statement}
-use Rattle.push_check.proofs.ends_spline.Tie as tie
+use Rattle.push_resolve.proofs.ends_spline.Statement.{statement}
+use Rattle.push_resolve.proofs.ends_spline.Tie as tie
 
 returns : tie.Need-returns
 returns c = sym (and-f _ (ap not (eq-eqb _ _ (c .if1 .taken))))

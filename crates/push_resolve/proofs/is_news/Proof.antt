@@ -1,11 +1,11 @@
--- `push_check::is_news` meets its contract. Assumes nothing.
+-- `push_resolve::is_news` meets its contract. Assumes nothing.
 use mathlib.Core.Path.{sym, ap, _∙_}
 use mathlib.Core.Bool.{not}
 use Rattle.floats.specs.Truth.{and-t, and-f}
 use Rattle.motion.specs.MotionLaws.{other-told}
 use borrow.Author.Needs.{needs}
-use Rattle.push_check.proofs.is_news.Statement.{statement}
-use Rattle.push_check.proofs.is_news.Tie as tie
+use Rattle.push_resolve.proofs.is_news.Statement.{statement}
+use Rattle.push_resolve.proofs.is_news.Tie as tie
 
 kind-of-requires : tie.Need-kind-of-requires
 kind-of-requires c κs = search needs

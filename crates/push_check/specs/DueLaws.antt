@@ -1,37 +1,25 @@
--- LAWS. A block that passes its checks has what the steps of a push ask; the room of one that is buffered. Assumes nothing.
+-- LAWS. The room of a block that is buffered; what a push is due, case by case. Assumes nothing.
 use Prim.Native.Nat.{ℕ, _+_, _*_, _/_, _%_, _<_, _≤_, min}
 use mathlib.Core.Path.{_≡_, sym, _∙_, ap}
-use mathlib.Core.Bool.{Bool, true, false, cond, not, _&&_, true≢false, false≢true}
+use mathlib.Core.Bool.{Bool, true, false, cond, _&&_, true≢false, false≢true}
 use mathlib.Core.List.{List}
 use native.Mathlib.Omega.{arith}
 use native.Mathlib.Nat.{div-add-mod'}
 use lib.Dec.{leb, eqb}
-use lib.ListN.{length, getD}
+use lib.ListN.{length}
 use borrow.Author.Tests.{leb-false, eq-eqb, ne-eqb, eqb-true, eqb-false}
-use Rattle.layout.specs.Layout.{rowWords, mostHeld, wWarned}
-use Rattle.motion.specs.Motion.{kindOf, splineKind, isSpline, isOther}
-use Rattle.row_cells.specs.Bits.{has}
+use Rattle.layout.specs.Layout.{rowWords, mostHeld}
+use Rattle.motion.specs.Motion.{splineKind, isSpline}
 use Rattle.row_check.specs.Check.{rowCheck}
-use Rattle.row_cells.specs.Row.{motionOf}
-use Rattle.row_check.specs.CheckLaws.{check-length, check-motion}
 use Rattle.floats.specs.Truth.{by-bit, and-t, cond-t, cond-f}
-use Rattle.saved_state.specs.State.{held, motionNow, stateOk, savedCheck, geometricMask}
-use Rattle.saved_state.specs.Asks.{Listed}
-use Rattle.saved_state.specs.StateLaws.{Good, good, axes-few}
-use Rattle.push_check.specs.Blocks.{motionThen, planeThen, emits, kept, news, isFull, pushCheck}
-use Rattle.push_check.specs.Asks.{Block}
-use Rattle.push_check.specs.Resolved.{resolved, due}
-use Rattle.push_check.specs.declared.Resolved.{Resolved}
+use Rattle.saved_state.specs.State.{savedCheck}
+use Rattle.push_resolve.specs.Blocks.{motionThen, kept}
+use Rattle.push_resolve.specs.Resolved.{resolved}
+use Rattle.push_resolve.specs.declared.Resolved.{Resolved}
+use Rattle.push_check.specs.Refusal.{isFull, pushCheck}
+use Rattle.push_check.specs.Due.{due}
 use Rattle.push_check.specs.declared.Due.{Due}
 use Rattle.push_check.specs.declared.Due.the-variants.{Refused, Push}
-
-pub block : (st r : List ℕ) → stateOk st ≡ true → rowCheck r ≡ 0 → Block st r
-block st r p q =
-    let g : Good st = good st p in
-    record { long = g .long; few = axes-few st (g .axes); wide = check-length r q; word = check-motion r q }
-
-pub block-listed : {st r : List ℕ} → Block st r → Listed st
-block-listed b = record { long = b .long; few = b .few }
 
 -- ---- a block that is buffered has room
 pub full-room : (st store r : List ℕ) → isSpline (motionThen st r) ≡ true → isFull st store r ≡ false
@@ -41,19 +29,6 @@ full-room st store r a b =
     let l : kept st r < min mostHeld (length store / rowWords) = leb-false (min mostHeld (length store / rowWords)) (kept st r) (sym (and-t _ a) ∙ b) in
     let d : length store / rowWords * rowWords + length store % rowWords ≡ length store = div-add-mod' (length store) rowWords in
     (omega arith, omega arith)
-
--- ---- what the code learns of a block one by one is the block resolved
-pub resolved-is : (st r : List ℕ) (b : Resolved)
-    → b .motion ≡ motionThen st r → b .plane ≡ planeThen st r → b .kind ≡ kindOf (b .motion)
-    → b .emits ≡ (not (eqb (held st) 0) && not (eqb (b .motion) (motionNow st))) → b .kept ≡ cond (b .emits) 0 (held st)
-    → b .news ≡ (isOther (motionOf r) && not (has (getD st wWarned 0) (motionOf r))) → b .axes ≡ geometricMask st
-    → b ≡ resolved st r
-unfolding emits kept news
-resolved-is st r b m p k e h n a =
-    let ek = k ∙ ap kindOf m in
-    let ee = e ∙ ap (λ (x : ℕ). not (eqb (held st) 0) && not (eqb x (motionNow st))) m in
-    let eh = h ∙ ap (λ (x : Bool). cond x 0 (held st)) ee in
-    λ i. record { kind = ek i; motion = m i; plane = p i; emits = ee i; kept = eh i; news = n i; axes = a i }
 
 -- ---- what a push is due, told apart
 abbrev isPush : Due → Bool
