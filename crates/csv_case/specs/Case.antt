@@ -35,6 +35,7 @@ use Rattle.spline_plan.specs.Emission as Emission
 use Rattle.saved_state.specs.State as State
 use Rattle.push_resolve.specs.Blocks as Blocks
 use Rattle.push_check.specs.Refusal as Refusal
+use Rattle.push_start.specs.Opened as Opened
 use Rattle.push_state.specs.Pushed as Pushed
 use Rattle.push_rows.specs.Answer as Answer
 use Rattle.call_reply.specs.Replies as Replies
@@ -78,7 +79,7 @@ unfolding Lists.all Lists.anyOf Lists.flatten Lists.keep Lists.member Lists.spli
     Groups.heldGroup Groups.isMarked Groups.ownCell Groups.pointGroup Groups.sampleCell Curves.runsOf Emission.splineGroups State.axesOk
     State.codeOk State.codesOk State.geometric State.heldOk State.heldRowOk State.heldRows State.placed State.pointAtOk State.pointOk State.pointWord
     State.savedCheck State.stateOk State.storeOk State.tolOk Blocks.emits Refusal.isFull Blocks.kept Blocks.news Blocks.orNow Refusal.pushCheck
-    Pushed.buffered Pushed.degreeWith Pushed.forgotten Pushed.opened Pushed.pushState Pushed.pushStore Pushed.trackTo Answer.answerAs Answer.ownAnswer
+    Pushed.buffered Pushed.degreeWith Opened.forgotten Opened.opened Pushed.pushState Pushed.pushStore Pushed.trackTo Answer.answerAs Answer.ownAnswer
     Replies.tooFew Start.fresh Start.freshWord Start.startSpec Close.closeRows Close.closeSpec Close.closeState Close.untouched Held.emission
     Held.heldSpline Push.pushDone Push.pushRows Push.pushSpec Decimal.millionths Decimal.quotient Decimal.widthFrom Read.fraction Read.lineNumber Read.num
     Read.number Read.run Read.unsigned Write.figures Write.millionthsText Write.numberText Words.motionOf Words.planeOf Words.seek LineText.endOf

@@ -18,7 +18,7 @@ use Rattle.row_check.specs.Check.{within, rowCheck}
 use Rattle.row_cells.specs.Row.{motionOf}
 use Rattle.saved_state.specs.State.{tolOk, codesOk, axesOk, axisCount, motionNow, held, geometric, heldRow, heldRowOk, storeOk, savedCheck, placed}
 use Rattle.saved_state.specs.StateLaws.{Good, good-ok, geometric-small}
-use Rattle.push_state.specs.PushLaws.{placed-keeps}
+use Rattle.push_start.specs.OpenedLaws.{placed-keeps}
 use Rattle.call_start.specs.Start.{fresh, freshWord}
 use Rattle.call_seed.specs.Seed.{seeded}
 use Rattle.demand_state.specs.Accepted.{Saved, saved}

@@ -31,10 +31,12 @@ use Rattle.saved_state.specs.StateLaws.{Good, good, good-ok, good-few, axes-few
 use Rattle.call_seed.specs.Seed.{seeded}
 use Rattle.push_resolve.specs.Blocks.{orNow, motionThen, planeThen, emits, kept, news}
 use Rattle.push_check.specs.Refusal.{isFull}
-use Rattle.push_state.specs.Pushed.{forgotten, opened, degreeWith, buffered, pushState, pushStore, trackTo}
-use Rattle.push_state.specs.PushLaws.{SameAxes, same-trans, same-set, same-placed, same-to, same-forgotten, same-opened, same-codes, same-geometric}
-use Rattle.push_state.specs.PushLaws.{placed-keeps, forgotten-keeps, held-forgotten, in-spliced, past-spliced, startWords}
-use Rattle.push_state.specs.PushLaws.{length-startWords, noWords, none-at}
+use Rattle.push_start.specs.Opened.{forgotten, opened}
+use Rattle.push_state.specs.Pushed.{degreeWith, buffered, pushState, pushStore, trackTo}
+use Rattle.push_start.specs.OpenedLaws.{SameAxes, same-trans, same-set, same-placed, same-forgotten, same-opened, same-codes, same-geometric}
+use Rattle.push_state.specs.PushLaws.{same-to}
+use Rattle.push_start.specs.OpenedLaws.{placed-keeps, forgotten-keeps, held-forgotten, in-spliced, past-spliced, startWords}
+use Rattle.push_start.specs.OpenedLaws.{length-startWords, noWords, none-at}
 use Rattle.push_check.specs.DueLaws.{full-room}
 use Rattle.saved_state.specs.Checked.{saved-ok, saved-rows}
 use Rattle.demand_state.specs.Lengths.{emptied, laid, pushState-steps, told, worded}

@@ -28,6 +28,7 @@ use Rattle.call_reply.specs.Replies as Replies
 use Rattle.call_push.specs.Push as Push
 use Rattle.push_resolve.specs.Blocks as Blocks
 use Rattle.push_check.specs.Refusal as Refusal
+use Rattle.push_start.specs.Opened as Opened
 use Rattle.push_state.specs.Pushed as Pushed
 use Rattle.push_rows.specs.Answer as Own
 use Rattle.call_close.specs.Close as Close
@@ -89,7 +90,7 @@ unfolding Lists.upto Lists.keep Lists.member Lists.anyOf Lists.flatten Lists.row
     Emission.pointGroup Emission.heldGroup Emission.splineGroups State.geometric State.pointWord State.tolOk State.codeOk State.codesOk State.axesOk
     State.pointAtOk State.pointOk State.heldOk State.stateOk State.storeOk State.heldRows State.heldRowOk State.savedCheck Bits.withBit State.placed
     Start.freshWord Start.fresh Start.startSpec Held.heldSpline Blocks.orNow Blocks.emits Blocks.kept Held.emission Own.answerAs Own.ownAnswer Blocks.news
-    Pushed.trackTo Pushed.forgotten Pushed.opened Pushed.degreeWith Pushed.buffered Pushed.pushState Pushed.pushStore Push.pushRows Refusal.isFull
+    Pushed.trackTo Opened.forgotten Opened.opened Pushed.degreeWith Pushed.buffered Pushed.pushState Pushed.pushStore Push.pushRows Refusal.isFull
     Refusal.pushCheck Close.untouched Replies.tooFew Push.pushDone Push.pushSpec Close.closeRows Close.closeState Close.closeSpec Demands.answer
     Calls.wrote Ieee.add Ieee.sub Ieee.mul Ieee.div Ieee.rem Ieee.neg Ieee.lt Ieee.le Ieee.eq Ieee.ofBits Ieee.toBits Ieee.ofInt lastOf
 asked t cs = lastOf (Start.startSpec (replicate stateWords 7) t xyz .state) (replicate (4 * rowWords) 0) cs

@@ -9,7 +9,7 @@ use layout::W_WARNED;
 use motion::is_spline;
 use push_resolve::Resolved;
 use push_state::buffer;
-use push_state::forget;
+use push_start::forget;
 use row_cells::lowest_bit;
 use row_cells::other_bits;
 use row_cells::set_bit;
@@ -24,7 +24,8 @@ ghost use Rattle.saved_state.specs.State.{held, geometricMask};
 ghost use Rattle.row_cells.specs.Bits.{withBit};
 ghost use Rattle.push_resolve.specs.Asks.{Block};
 ghost use Rattle.push_resolve.specs.Resolved.{resolved};
-ghost use Rattle.push_state.specs.Pushed.{forgotten, buffered, pushState, trackTo};
+ghost use Rattle.push_start.specs.Opened.{forgotten};
+ghost use Rattle.push_state.specs.Pushed.{buffered, pushState, trackTo};
 ghost use Rattle.push_state.specs.Stored.{Stores, storeWith};
 
 fn forget_if(state: &mut [u64], emitted: bool)

@@ -1,13 +1,13 @@
--- `push_state::forget` meets its contract. Assumes nothing.
+-- `push_start::forget` meets its contract. Assumes nothing.
 use mathlib.Core.Path.{ap}
 use mathlib.Core.List.{List}
 use Prim.Native.Nat.{ℕ}
 use lib.ListN.{set}
 use Rattle.layout.specs.Layout.{wHeld}
-use Rattle.push_state.specs.Pushed.{forgotten}
+use Rattle.push_start.specs.Opened.{forgotten}
 use borrow.Author.Needs.{needs}
-use Rattle.push_state.proofs.forget.Statement.{statement}
-use Rattle.push_state.proofs.forget.Tie as tie
+use Rattle.push_start.proofs.forget.Statement.{statement}
+use Rattle.push_start.proofs.forget.Tie as tie
 
 zero-start-requires : tie.Need-zero-start-requires
 zero-start-requires c κs = search needs

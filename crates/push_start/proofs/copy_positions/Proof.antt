@@ -1,4 +1,4 @@
--- `push_state::copy_positions` meets its contract. Assumes nothing.
+-- `push_start::copy_positions` meets its contract. Assumes nothing.
 use mathlib.Core.Path.{_≡_, ap, _∙_}
 use mathlib.Core.Option.{Option, Option·getD}
 use native.Mathlib.Omega.{arith}
@@ -6,10 +6,10 @@ use Prim.Native.Nat.{ℕ, _+_, _-_, _≤_}
 use Rattle.floats.specs.Splice.{Splicing, splicing-none, splicing-more}
 use Rattle.layout.specs.Layout.{axisCodes, wStart}
 use Rattle.saved_state.specs.State.{position}
-use Rattle.push_state.proofs.Opening.{position-under}
+use Rattle.push_start.proofs.Opening.{position-under}
 use borrow.Author.Needs.{needs}
-use Rattle.push_state.proofs.copy_positions.Statement.{statement}
-use Rattle.push_state.proofs.copy_positions.Tie as tie
+use Rattle.push_start.proofs.copy_positions.Statement.{statement}
+use Rattle.push_start.proofs.copy_positions.Tie as tie
 
 abbrev Inv-loop : tie.InvT-loop
 Inv-loop state₀ k₀ state k = (k ≤ axisCodes) × Splicing (λ (n : ℕ). Option·getD (position state₀ n) 0) (wStart + 1) k state₀ state

@@ -1,25 +1,20 @@
--- LAWS. What opening a curve, its degree and a buffered block lean on: each store to the state, put together to the definition. Assumes nothing.
-use Prim.Native.Nat.{ℕ, _+_, _<_, min, max}
+-- LAWS. What opening a curve leans on: each store to the state, put together to the definition. Assumes nothing.
+use Prim.Native.Nat.{ℕ, _+_, _<_}
 use mathlib.Core.Path.{_≡_, _∙_, ap, ap₂}
-use mathlib.Core.Bool.{true, false, cond}
+use mathlib.Core.Bool.{cond}
 use mathlib.Core.List.{List, [], _∷_}
 use mathlib.Core.Option.{Option, none, some, Option·getD}
 use native.Mathlib.Omega.{arith}
 use lib.ListN.{length, getD, set}
 use lib.Seq.{getD-set-other}
-use lib.Dec.{eqb}
-use Rattle.floats.specs.Numbers.{num}
 use Rattle.floats.specs.Lists.{upto, spliced}
 use Rattle.floats.specs.Fill.{upto-below}
 use Rattle.floats.specs.Splice.{Splicing, set-spliced, spliced-spliced}
-use Rattle.whole.specs.Whole.{truncCount}
-use Rattle.layout.specs.Layout.{axisCodes, rCells, wKnown, wStart, wDegree, wHeld, stateWords, mostDegree, cSD}
+use Rattle.layout.specs.Layout.{axisCodes, wKnown, wStart, wDegree, stateWords}
 use Rattle.row_cells.specs.Bits.{has}
-use Rattle.row_cells.specs.Row.{cell, number, presentOf}
-use Rattle.saved_state.specs.State.{plainDegree, held, degree, pointWord, position}
-use Rattle.push_state.specs.Pushed.{opened, degreeWith, buffered}
-use Rattle.push_state.specs.PushLaws.{same-opened}
-use Rattle.push_state.specs.PushLaws.{below-spliced}
+use Rattle.saved_state.specs.State.{plainDegree, pointWord, position}
+use Rattle.push_start.specs.Opened.{opened}
+use Rattle.push_start.specs.OpenedLaws.{same-opened, below-spliced}
 
 -- ---- opening: a position is read below the words that are written
 pub position-under : (f : ℕ → ℕ) (n : ℕ) (st st′ : List ℕ) (k : ℕ) → Splicing f (wStart + 1) n st st′ → length st ≡ stateWords → k < axisCodes
@@ -54,18 +49,3 @@ pub open-length : (st t : List ℕ) → length st ≡ stateWords
     → t ≡ spliced (set st wStart (getD st wKnown 0)) (wStart + 1) (upto (λ (k : ℕ). Option·getD (position (set st wStart (getD st wKnown 0)) k) 0) axisCodes)
     → length (set t wDegree plainDegree) ≡ length st
 open-length st t h e = ap length (open-done st t h e) ∙ same-opened st h .long
-
--- ---- the degree
-module _ (d : ℕ) (r : List ℕ) where
-  pub degree-there : has (presentOf r) cSD ≡ true → degreeWith d (number r cSD) ≡ max 1 (min mostDegree (truncCount (num (getD r (rCells + cSD) 0))))
-  unfolding number cell degreeWith
-  degree-there b = rw b
-
-  pub degree-absent : has (presentOf r) cSD ≡ false → degreeWith d (number r cSD) ≡ d
-  unfolding number cell degreeWith
-  degree-absent b = rw b
-
-pub buffer-done : (st r s : List ℕ) (d : ℕ) → s ≡ cond (eqb (held st) 0) (opened st) st → d ≡ degreeWith (degree s) (number r cSD)
-    → set (set s wDegree d) wHeld (held st + 1) ≡ buffered st r
-unfolding buffered
-buffer-done st r s d e f = rw (f, e)

@@ -1,10 +1,10 @@
--- `push_state::open_first` meets its contract. Assumes nothing.
+-- `push_start::open_first` meets its contract. Assumes nothing.
 use mathlib.Core.Path.{sym, _∙_}
 use borrow.Author.Tests.{eq-eqb, ne-eqb}
 use Rattle.floats.specs.Truth.{cond-t, cond-f}
 use borrow.Author.Needs.{needs}
-use Rattle.push_state.proofs.open_first.Statement.{statement}
-use Rattle.push_state.proofs.open_first.Tie as tie
+use Rattle.push_start.proofs.open_first.Statement.{statement}
+use Rattle.push_start.proofs.open_first.Tie as tie
 
 slice-read-if1 : tie.Need-slice-read-if1
 slice-read-if1 c = search needs

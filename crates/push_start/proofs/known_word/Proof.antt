@@ -1,12 +1,12 @@
--- `push_state::known_word` meets its contract. Assumes nothing.
+-- `push_start::known_word` meets its contract. Assumes nothing.
 use mathlib.Core.Path.{sym, ap, _∙_}
 use mathlib.Core.Option.{Option, Option·getD}
 use Prim.Native.Nat.{ℕ}
 use Rattle.floats.specs.Truth.{cond-t, cond-f}
 use Rattle.saved_state.specs.State.{pointWord}
 use borrow.Author.Needs.{needs}
-use Rattle.push_state.proofs.known_word.Statement.{statement}
-use Rattle.push_state.proofs.known_word.Tie as tie
+use Rattle.push_start.proofs.known_word.Statement.{statement}
+use Rattle.push_start.proofs.known_word.Tie as tie
 
 shared-slice-read-has-bit : tie.Need-shared-slice-read-has-bit
 shared-slice-read-has-bit c = search needs

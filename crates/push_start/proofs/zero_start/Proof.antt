@@ -1,12 +1,12 @@
--- `push_state::zero_start` meets its contract. Assumes nothing.
+-- `push_start::zero_start` meets its contract. Assumes nothing.
 use mathlib.Core.Path.{_≡_, refl}
 use native.Mathlib.Omega.{arith}
 use Prim.Native.Nat.{ℕ, _+_, _-_, _≤_}
 use Rattle.floats.specs.Splice.{Splicing, splicing-none, splicing-more}
 use Rattle.layout.specs.Layout.{axisCodes, wStart}
 use borrow.Author.Needs.{needs}
-use Rattle.push_state.proofs.zero_start.Statement.{statement}
-use Rattle.push_state.proofs.zero_start.Tie as tie
+use Rattle.push_start.proofs.zero_start.Statement.{statement}
+use Rattle.push_start.proofs.zero_start.Tie as tie
 
 abbrev Inv-loop : tie.InvT-loop
 Inv-loop state₀ k₀ state k = (k ≤ axisCodes + 1) × Splicing (λ (n : ℕ). 0) wStart k state₀ state

@@ -1,9 +1,9 @@
--- `push_state::open_curve` meets its contract. Assumes nothing.
+-- `push_start::open_curve` meets its contract. Assumes nothing.
 use lib.ListN.{length-set}
-use Rattle.push_state.proofs.Opening.{open-done, open-length}
+use Rattle.push_start.proofs.Opening.{open-done, open-length}
 use borrow.Author.Needs.{needs}
-use Rattle.push_state.proofs.open_curve.Statement.{statement}
-use Rattle.push_state.proofs.open_curve.Tie as tie
+use Rattle.push_start.proofs.open_curve.Statement.{statement}
+use Rattle.push_start.proofs.open_curve.Tie as tie
 
 slice-read-state : tie.Need-slice-read-state
 slice-read-state c = search needs
