@@ -5,7 +5,7 @@ use mathlib.Core.List.{List}
 use lib.Dec.{leb}
 use Rattle.layout.specs.Layout.{lastCode}
 use Rattle.floats.specs.Lists.{member}
-use Rattle.row_check.specs.Check.{within}
+use Rattle.row_numbers.specs.RowNumbers.{within}
 use Rattle.saved_state.specs.State.{stateOk, geometric, placed}
 use Rattle.call_reply.specs.Replies.{plain, AfterState}
 

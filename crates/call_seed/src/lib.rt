@@ -2,7 +2,7 @@
 use call_reply::Reply;
 use call_reply::plain_reply;
 use layout::LAST_CODE;
-use row_check::within_range;
+use row_numbers::within_range;
 use saved_state::state::is_geometric;
 use saved_state::state::place;
 use saved_words::state_ok;

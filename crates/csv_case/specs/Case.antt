@@ -14,6 +14,7 @@ use Rattle.trig.specs.Trig as Trig
 use Rattle.row_cells.specs.Bits as Bits
 use Rattle.row_cells.specs.Codes as Codes
 use Rattle.row_cells.specs.Row as Row
+use Rattle.row_numbers.specs.RowNumbers as RowNumbers
 use Rattle.row_check.specs.Check as Check
 use Rattle.row_made.specs.Made as Made
 use Rattle.arc_centre.specs.Centre as Centre
@@ -66,9 +67,9 @@ unfoldable pub says : List ℕ → Csv.Whole
 unfolding Lists.all Lists.anyOf Lists.flatten Lists.keep Lists.member Lists.spliced Lists.upto Motion.isBasis Motion.isCubic Motion.isOther
     Motion.isSpline Motion.kindOf Root.floorRoot Root.rootUnits Root.sqrt Whole.ceilCount Whole.halfUpCount Whole.truncCount Trig.acosSteps
     Trig.atan2Steps Trig.atanFrom Trig.atanLeft Trig.atanRight Trig.atanUp Trig.cosSteps Trig.sinSteps Bits.has Bits.withBit Codes.geometricOf
-    Codes.planeOk Codes.planeU Codes.planeV Row.cell Row.hasPoint Row.maskOf Row.number Row.outRow Row.rowOf Check.above1000 Check.cellOk
-    Check.numbersOk Check.rowCheck Check.shapeOk Check.turnOk Check.within Made.madeRow Made.rides Made.withRiders Centre.centreOf Centre.crCentre
-    Centre.radius Centre.sideOf Centre.wideCentre Arc.agree Arc.arcOf Arc.countOf Arc.stepOf Arc.sweepLeft Arc.sweepOf Arc.turned Arc.wantedOf
+    Codes.planeOk Codes.planeU Codes.planeV Row.cell Row.hasPoint Row.maskOf Row.number Row.outRow Row.rowOf RowNumbers.above1000 RowNumbers.cellOk
+    RowNumbers.numbersOk Check.rowCheck Check.shapeOk RowNumbers.turnOk RowNumbers.within Made.madeRow Made.rides Made.withRiders Centre.centreOf
+    Centre.crCentre Centre.radius Centre.sideOf Centre.wideCentre Arc.agree Arc.arcOf Arc.countOf Arc.stepOf Arc.sweepLeft Arc.sweepOf Arc.turned Arc.wantedOf
     Samples.arcRow Samples.lastCell Samples.midCell Samples.ramp ArcRowsArc.arcAnswer ArcRowsArc.arcRows ArcRowsArc.fromCentre ArcRowsArc.fromStart
     ArcRowsArc.heldAxes ArcRowsArc.passed ArcRowsArc.silent Metric.along Metric.chordTo Metric.chords Metric.deviationOf Metric.distTo Metric.dotTo
     Metric.lenTo Walk.flat Walk.near Walk.samples Slopes.akimaAt Slopes.akimaSlope Slopes.bend Slopes.bendBack Slopes.bent Slopes.cubicSlope

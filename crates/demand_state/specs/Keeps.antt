@@ -19,7 +19,8 @@ use Rattle.layout.specs.Layout.{cSD, listCodes}
 use Rattle.motion.specs.Motion.{isSpline, lastMotion}
 use Rattle.row_cells.specs.Codes.{planeXY, planeYZ, planeOk}
 use Rattle.row_cells.specs.Bits.{has, withBit}
-use Rattle.row_check.specs.Check.{within, rowCheck}
+use Rattle.row_numbers.specs.RowNumbers.{within}
+use Rattle.row_check.specs.Check.{rowCheck}
 use Rattle.row_cells.specs.Row.{number, motionOf, planeOf, presentOf, outRow}
 use Rattle.row_check.specs.CheckLaws.{check-motion, check-plane, check-shape, check-within, out-check}
 use Rattle.row_cells.specs.RowLaws.{out-motion, length-out}

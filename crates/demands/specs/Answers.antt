@@ -9,7 +9,7 @@ use borrow.Author.Tests.{eq-eqb, ne-eqb, le-leb, lt-leb}
 use Rattle.floats.specs.Truth.{by-bit, cond-t, cond-f}
 use Rattle.floats.specs.Lists.{flatten, spliced}
 use Rattle.layout.specs.Layout.{lastCode}
-use Rattle.row_check.specs.Check.{within}
+use Rattle.row_numbers.specs.RowNumbers.{within}
 use Rattle.saved_state.specs.State.{stateOk, held, savedCheck}
 use Rattle.call_reply.specs.Replies.{plain, After, tooFew}
 use Rattle.call_seed.specs.Seed.{seeded, seedSpec}

@@ -11,7 +11,7 @@ use Rattle.call_reply.specs.declared.Reply.{Reply}
 use Rattle.floats.specs.Lists.{member}
 use Rattle.floats.specs.Fill.{length-upto}
 use Rattle.layout.specs.Layout.{stateWords, lastCode}
-use Rattle.row_check.specs.Check.{within}
+use Rattle.row_numbers.specs.RowNumbers.{within}
 use Rattle.saved_state.specs.State.{stateOk, tolOk, codesOk, geometric, held, savedCheck}
 use Rattle.call_reply.specs.Replies.{plain, AfterState, tooFew}
 use Rattle.call_start.specs.Start.{freshWord, fresh, startSpec}

@@ -22,7 +22,7 @@ use Rattle.layout.specs.Layout.{axisCodes, mostHeld}
 use Rattle.motion.specs.Motion.{gOne, isCubic}
 use Rattle.row_cells.specs.Row.{cell, hasPoint, markOf, outRow}
 use Rattle.row_made.specs.Made.{madeRow}
-use Rattle.row_check.specs.Check.{within}
+use Rattle.row_numbers.specs.RowNumbers.{within}
 use Rattle.floats.specs.Truth.{by-bit, and-left, and-right, cond-t, cond-f}
 use Rattle.curve_metric.specs.Metric.{pointOf}
 use Rattle.curve_metric.specs.Ends.{EndsWith, ends-last}

@@ -14,6 +14,7 @@ use Rattle.row_cells.specs.Codes as Codes
 use Rattle.row_cells.specs.Row as Row
 use Rattle.row_cells.specs.Bits as Bits
 use Rattle.row_made.specs.Made as Made
+use Rattle.row_numbers.specs.RowNumbers as RowNumbers
 use Rattle.row_check.specs.Check as Check
 use Rattle.arc_rows.specs.Arc as Arc
 use Rattle.curve_metric.specs.Metric as Metric
@@ -79,8 +80,8 @@ unfolding Lists.upto Lists.keep Lists.member Lists.anyOf Lists.flatten Lists.row
     Whole.ceilCount Whole.halfUpCount Whole.truncCount Trig.sinSteps Trig.cosSteps Trig.atanFrom Trig.atanRight Trig.atanLeft Trig.atanUp Trig.atan2Steps
     Trig.acosSteps Motion.kindOf Motion.isSpline Motion.isOther Motion.isBasis Motion.isCubic Codes.planeU Codes.planeV Codes.planeOk Codes.geometricOf
     Bits.has Lists.all Row.cell Row.number Row.shown Row.axesOf Row.maskOf Row.rowOf Row.outRow Row.hasPoint Made.rides Made.withRiders Made.madeRow
-    Check.shapeOk Check.within Check.cellOk Check.numbersOk Check.above1000 Check.turnOk Check.rowCheck Arc.passed Arc.silent Arc.sideOf Arc.crCentre
-    Arc.centreOf
+    Check.shapeOk RowNumbers.within RowNumbers.cellOk RowNumbers.numbersOk RowNumbers.above1000 RowNumbers.turnOk Check.rowCheck Arc.passed Arc.silent
+    Arc.sideOf Arc.crCentre Arc.centreOf
     Arc.radius Arc.wideCentre Arc.agree Arc.sweepLeft Arc.sweepOf Arc.turned Arc.arcOf Arc.stepOf Arc.wantedOf Arc.countOf Arc.ramp Arc.lastCell
     Arc.midCell Arc.arcRow Arc.heldAxes Arc.arcRows Arc.fromCentre Arc.fromStart Arc.arcAnswer Metric.dotTo Metric.lenTo Metric.along Metric.distTo
     Metric.deviationOf Metric.chordTo Metric.chords Walk.near Walk.flat Walk.samples Basis.degreeOf Basis.knots Basis.share Basis.raisedAt Basis.levels

@@ -15,7 +15,7 @@ use Rattle.floats.specs.Fill.{lt-or-le}
 use Rattle.layout.specs.Layout.{axisCodes}
 use Rattle.motion.specs.Motion.{isSpline, kindOf}
 use Rattle.row_cells.specs.Row.{planeOf, outRow}
-use Rattle.row_check.specs.Check.{within}
+use Rattle.row_numbers.specs.RowNumbers.{within}
 use Rattle.floats.specs.Truth.{by-bit, cond-t, cond-f}
 use Rattle.spline_emission.specs.Emission.{Spline, splineGroups}
 use Rattle.saved_state.specs.State.{stateOk, held, position, curveStart, tolerance, motionNow, degree, savedCheck}

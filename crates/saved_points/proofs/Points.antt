@@ -8,7 +8,7 @@ use lib.ListN.{getD}
 use borrow.Author.Tests.{lt-ltb}
 use Rattle.layout.specs.Layout.{axisCodes, axisMasks}
 use Rattle.row_cells.specs.Bits.{has}
-use Rattle.row_check.specs.Check.{within}
+use Rattle.row_numbers.specs.RowNumbers.{within}
 use Rattle.floats.specs.Truth.{and-i, or-t, or-f, all-intro}
 use Rattle.row_cells.specs.Masks.{has-none}
 use Rattle.saved_state.specs.State.{pointAtOk, pointOk}

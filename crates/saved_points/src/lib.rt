@@ -3,7 +3,7 @@ use layout::AXIS_MASKS;
 use row_cells::has_bit;
 use row_cells::lowest_bit;
 use row_cells::other_bits;
-use row_check::within_range;
+use row_numbers::within_range;
 use saved_state::state::geometric_mask;
 ghost use mathlib.Core.Path.{_≡_};
 ghost use mathlib.Core.Bool.{true};

@@ -1,8 +1,8 @@
--- `row_check::is_above_1000` meets its contract. Assumes nothing.
+-- `row_numbers::is_above_1000` meets its contract. Assumes nothing.
 use borrow.Author.Tests.{lt-ltb, le-ltb}
-use Rattle.row_check.specs.Check.{above1000}
-use Rattle.row_check.proofs.is_above_1000.Statement.{statement}
-use Rattle.row_check.proofs.is_above_1000.Tie as tie
+use Rattle.row_numbers.specs.RowNumbers.{above1000}
+use Rattle.row_numbers.proofs.is_above_1000.Statement.{statement}
+use Rattle.row_numbers.proofs.is_above_1000.Tie as tie
 
 returns : tie.Need-returns
 unfolding above1000

@@ -1,10 +1,10 @@
--- `row_check::three_within` meets its contract. Assumes nothing.
+-- `row_numbers::three_within` meets its contract. Assumes nothing.
 use mathlib.Core.Path.{sym, _∙_}
 use Rattle.floats.specs.Truth.{and-t, and-f}
 use Rattle.row_cells.specs.Tested.{passed, failed}
 use borrow.Author.Needs.{needs}
-use Rattle.row_check.proofs.three_within.Statement.{statement}
-use Rattle.row_check.proofs.three_within.Tie as tie
+use Rattle.row_numbers.proofs.three_within.Statement.{statement}
+use Rattle.row_numbers.proofs.three_within.Tie as tie
 
 within-range-requires : tie.Need-within-range-requires
 within-range-requires c κs = search needs

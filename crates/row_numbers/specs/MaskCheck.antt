@@ -6,7 +6,7 @@ use Rattle.floats.specs.Lists.{all}
 use Rattle.layout.specs.Layout.{cells}
 use Rattle.row_cells.specs.Bits.{has}
 use Rattle.row_cells.specs.Row.{rawWord}
-use Rattle.row_check.specs.Check.{within}
+use Rattle.row_numbers.specs.RowNumbers.{within}
 
 -- cell k is in range, if the mask has it
 unfoldable pub maskCellOk : List ℕ → ℕ → ℕ → Bool

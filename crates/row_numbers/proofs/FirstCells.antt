@@ -9,8 +9,8 @@ use Rattle.layout.specs.Layout.{cells, cellMasks}
 use Rattle.row_cells.specs.Bits.{has}
 use Rattle.row_cells.specs.Row.{presentOf, rawWord}
 use Rattle.row_cells.specs.Masks.{has-half, has-0, not-0, has-mod}
-use Rattle.row_check.specs.Check.{within, cellOk, numbersOk}
-use Rattle.row_check.specs.MaskCheck.{maskCellOk, maskOk}
+use Rattle.row_numbers.specs.RowNumbers.{within, cellOk, numbersOk}
+use Rattle.row_numbers.specs.MaskCheck.{maskCellOk, maskOk}
 
 -- the mask of the cells X, Y and Z; masks of them are below the second
 abbrev xyz : ℕ

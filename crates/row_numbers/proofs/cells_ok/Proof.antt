@@ -1,17 +1,17 @@
--- `row_check::cells_ok` meets its contract. Assumes nothing.
+-- `row_numbers::cells_ok` meets its contract. Assumes nothing.
 use mathlib.Core.Path.{_≡_, sym, _∙_}
 use mathlib.Core.Bool.{true}
 use native.Mathlib.Omega.{arith}
 use Prim.Native.Nat.{ℕ}
 use Rattle.layout.specs.Layout.{cells}
 use Rattle.floats.specs.Truth.{all-intro, all-fails}
-use Rattle.row_check.specs.MaskCheck.{maskCellOk, maskOk}
-use Rattle.row_check.proofs.FirstCells.{absent-ok, there-ok}
+use Rattle.row_numbers.specs.MaskCheck.{maskCellOk, maskOk}
+use Rattle.row_numbers.proofs.FirstCells.{absent-ok, there-ok}
 use Rattle.row_cells.specs.BitWalk.{Walking, AtBit, at-bit, walking-all, walking-more, walked}
 use Rattle.row_cells.specs.Tested.{passed, failed}
 use borrow.Author.Needs.{needs}
-use Rattle.row_check.proofs.cells_ok.Statement.{statement}
-use Rattle.row_check.proofs.cells_ok.Tie as tie
+use Rattle.row_numbers.proofs.cells_ok.Statement.{statement}
+use Rattle.row_numbers.proofs.cells_ok.Tie as tie
 
 abbrev Inv-loop : tie.InvT-loop
 Inv-loop row mask rest₀ rest = Walking mask cells (λ (k : ℕ). maskCellOk row mask k ≡ true) rest

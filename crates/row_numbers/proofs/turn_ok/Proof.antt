@@ -1,11 +1,11 @@
--- `row_check::turn_ok` meets its contract. Assumes nothing.
+-- `row_numbers::turn_ok` meets its contract. Assumes nothing.
 use mathlib.Core.Path.{sym, ap, _∙_}
 use mathlib.Core.Bool.{not}
 use Rattle.floats.specs.Truth.{or-t, or-f}
-use Rattle.row_check.specs.Check.{turnOk}
+use Rattle.row_numbers.specs.RowNumbers.{turnOk}
 use borrow.Author.Needs.{needs}
-use Rattle.row_check.proofs.turn_ok.Statement.{statement}
-use Rattle.row_check.proofs.turn_ok.Tie as tie
+use Rattle.row_numbers.proofs.turn_ok.Statement.{statement}
+use Rattle.row_numbers.proofs.turn_ok.Tie as tie
 
 shared-slice-read-has-bit : tie.Need-shared-slice-read-has-bit
 shared-slice-read-has-bit c = search needs

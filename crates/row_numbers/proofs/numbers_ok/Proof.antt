@@ -1,11 +1,11 @@
--- `row_check::numbers_ok` meets its contract. Assumes nothing.
+-- `row_numbers::numbers_ok` meets its contract. Assumes nothing.
 use mathlib.Core.Path.{sym, _∙_}
 use Rattle.floats.specs.Truth.{and-t, and-f}
 use Rattle.row_cells.specs.Tested.{passed, failed}
-use Rattle.row_check.proofs.FirstCells.{numbers-mask, three-apart}
+use Rattle.row_numbers.proofs.FirstCells.{numbers-mask, three-apart}
 use borrow.Author.Needs.{needs}
-use Rattle.row_check.proofs.numbers_ok.Statement.{statement}
-use Rattle.row_check.proofs.numbers_ok.Tie as tie
+use Rattle.row_numbers.proofs.numbers_ok.Statement.{statement}
+use Rattle.row_numbers.proofs.numbers_ok.Tie as tie
 
 shared-slice-read-present : tie.Need-shared-slice-read-present
 shared-slice-read-present c = search needs
