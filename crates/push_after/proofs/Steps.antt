@@ -18,10 +18,8 @@ use Rattle.push_resolve.specs.Resolved.{resolved}
 use Rattle.push_start.specs.Opened.{forgotten}
 use Rattle.push_state.specs.Pushed.{buffered, trackTo, pushState}
 use Rattle.push_resolve.specs.Asks.{Block}
-use Rattle.push_start.specs.OpenedLaws.{SameAxes, same-geometric, same-refl, same-trans, same-set, same-cond, same-forgotten}
-use Rattle.push_state.specs.PushLaws.{block-same}
-use Rattle.push_start.specs.OpenedLaws.{held-forgotten}
-use Rattle.push_state.specs.PushLaws.{same-buffered}
+use Rattle.push_start.specs.OpenedLaws.{SameAxes, same-geometric, same-refl, same-trans, same-set, same-cond, same-forgotten, held-forgotten}
+use Rattle.push_state.specs.PushLaws.{block-same, same-buffered}
 
 pub record Step1 (st r s1 : List ℕ) (b : Resolved) : Type 0 where
   pub block : Block st r

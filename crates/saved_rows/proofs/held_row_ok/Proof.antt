@@ -1,10 +1,10 @@
--- `saved_check::held_row_ok` meets its contract. Assumes nothing.
+-- `saved_rows::held_row_ok` meets its contract. Assumes nothing.
 use mathlib.Core.Path.{ap, _∙_}
 use Rattle.saved_state.specs.State.{rowFits, heldRowOk}
 use Rattle.saved_state.specs.Walk.{part-row}
 use borrow.Author.Needs.{needs}
-use Rattle.saved_check.proofs.held_row_ok.Statement.{statement}
-use Rattle.saved_check.proofs.held_row_ok.Tie as tie
+use Rattle.saved_rows.proofs.held_row_ok.Statement.{statement}
+use Rattle.saved_rows.proofs.held_row_ok.Tie as tie
 
 mul-at : tie.Need-mul-at
 mul-at c = search needs

@@ -1,9 +1,9 @@
--- `push_after::forget_if` meets its contract. Assumes nothing.
+-- `push_steps::forget_if` meets its contract. Assumes nothing.
 use mathlib.Core.Path.{sym, _∙_}
 use Rattle.floats.specs.Truth.{cond-t, cond-f}
 use borrow.Author.Needs.{needs}
-use Rattle.push_after.proofs.forget_if.Statement.{statement}
-use Rattle.push_after.proofs.forget_if.Tie as tie
+use Rattle.push_steps.proofs.forget_if.Statement.{statement}
+use Rattle.push_steps.proofs.forget_if.Tie as tie
 
 forget-requires : tie.Need-forget-requires
 forget-requires c κs = search needs

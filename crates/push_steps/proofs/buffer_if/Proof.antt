@@ -1,9 +1,9 @@
--- `push_after::buffer_if` meets its contract. Assumes nothing.
+-- `push_steps::buffer_if` meets its contract. Assumes nothing.
 use mathlib.Core.Path.{sym, _∙_}
 use Rattle.floats.specs.Truth.{cond-t, cond-f}
 use borrow.Author.Needs.{needs}
-use Rattle.push_after.proofs.buffer_if.Statement.{statement}
-use Rattle.push_after.proofs.buffer_if.Tie as tie
+use Rattle.push_steps.proofs.buffer_if.Statement.{statement}
+use Rattle.push_steps.proofs.buffer_if.Tie as tie
 
 buffer-requires : tie.Need-buffer-requires
 buffer-requires c κs = search needs

@@ -1,4 +1,4 @@
--- `saved_check::held_rows_ok` meets its contract. Assumes nothing.
+-- `saved_rows::held_rows_ok` meets its contract. Assumes nothing.
 use mathlib.Core.Path.{_≡_, refl, sym, subst}
 use mathlib.Core.Bool.{true}
 use native.Mathlib.Omega.{arith}
@@ -8,8 +8,8 @@ use Rattle.floats.specs.Truth.{all-more, all-fails}
 use Rattle.floats.specs.Lists.{all}
 use Rattle.saved_state.specs.State.{heldRowOk}
 use borrow.Author.Needs.{needs}
-use Rattle.saved_check.proofs.held_rows_ok.Statement.{statement}
-use Rattle.saved_check.proofs.held_rows_ok.Tie as tie
+use Rattle.saved_rows.proofs.held_rows_ok.Statement.{statement}
+use Rattle.saved_rows.proofs.held_rows_ok.Tie as tie
 
 abbrev Inv-loop : tie.InvT-loop
 Inv-loop state store n i₀ i = (i ≤ n) × (all i (heldRowOk state store) ≡ true)

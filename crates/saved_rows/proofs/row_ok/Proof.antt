@@ -1,4 +1,4 @@
--- `saved_check::row_ok` meets its contract. Assumes nothing.
+-- `saved_rows::row_ok` meets its contract. Assumes nothing.
 use mathlib.Core.Path.{_≡_, refl, sym, ap, _∙_}
 use mathlib.Core.Bool.{Bool, true, false, cond}
 use Prim.Native.Nat.{ℕ}
@@ -8,8 +8,8 @@ use Rattle.floats.specs.Truth.{cond-t, cond-f}
 use Rattle.row_check.specs.Check.{rowCheck}
 use Rattle.row_check.specs.CheckLaws.{shape-length}
 use borrow.Author.Needs.{needs}
-use Rattle.saved_check.proofs.row_ok.Statement.{statement}
-use Rattle.saved_check.proofs.row_ok.Tie as tie
+use Rattle.saved_rows.proofs.row_ok.Statement.{statement}
+use Rattle.saved_rows.proofs.row_ok.Tie as tie
 
 shape-ok-requires : tie.Need-shape-ok-requires
 shape-ok-requires c κs = search needs

@@ -1,11 +1,11 @@
--- `push_after::track` meets its contract. Assumes nothing.
+-- `push_steps::track` meets its contract. Assumes nothing.
 use mathlib.Core.Path.{_∙_}
 use native.Mathlib.Omega.{arith}
 use Rattle.push_resolve.specs.Asks.{Block}
-use Rattle.push_after.proofs.Tracks.{Tracked, tracked-long, tracked-none, tracked-axis, tracked-fewer, tracked-more, tracked}
+use Rattle.push_steps.proofs.Tracks.{Tracked, tracked-long, tracked-none, tracked-axis, tracked-fewer, tracked-more, tracked}
 use borrow.Author.Needs.{needs}
-use Rattle.push_after.proofs.track.Statement.{statement}
-use Rattle.push_after.proofs.track.Tie as tie
+use Rattle.push_steps.proofs.track.Statement.{statement}
+use Rattle.push_steps.proofs.track.Tie as tie
 
 abbrev Inv-loop : tie.InvT-loop
 Inv-loop state₀ row axes rest₀ state rest = Tracked state₀ row rest state × Block state₀ row

@@ -1,7 +1,7 @@
--- `push_after::set_modal` meets its contract. Assumes nothing.
+-- `push_steps::set_modal` meets its contract. Assumes nothing.
 use borrow.Author.Needs.{needs}
-use Rattle.push_after.proofs.set_modal.Statement.{statement}
-use Rattle.push_after.proofs.set_modal.Tie as tie
+use Rattle.push_steps.proofs.set_modal.Statement.{statement}
+use Rattle.push_steps.proofs.set_modal.Tie as tie
 
 slice-write-state : tie.Need-slice-write-state
 slice-write-state c = search needs

@@ -1,11 +1,11 @@
--- `push_after::warn_if` meets its contract. Assumes nothing.
+-- `push_steps::warn_if` meets its contract. Assumes nothing.
 use mathlib.Core.Path.{sym, ap, _∙_}
 use lib.ListN.{set}
 use Rattle.floats.specs.Truth.{cond-t, cond-f}
 use Rattle.layout.specs.Layout.{wWarned}
 use borrow.Author.Needs.{needs}
-use Rattle.push_after.proofs.warn_if.Statement.{statement}
-use Rattle.push_after.proofs.warn_if.Tie as tie
+use Rattle.push_steps.proofs.warn_if.Statement.{statement}
+use Rattle.push_steps.proofs.warn_if.Tie as tie
 
 slice-read-p : tie.Need-slice-read-p
 slice-read-p c = search needs

@@ -1,4 +1,4 @@
--- `saved_check::row_fits` meets its contract. Assumes nothing.
+-- `saved_rows::row_fits` meets its contract. Assumes nothing.
 use mathlib.Core.Path.{sym, _∙_}
 use native.Mathlib.Omega.{arith}
 use borrow.Author.Tests.{eq-eqb, ne-eqb, eqb-true}
@@ -6,8 +6,8 @@ use Rattle.row_cells.specs.Tested.{passed, failed}
 use Rattle.floats.specs.Truth.{and-t, and-f, or-t, or-f}
 use Rattle.row_check.specs.CheckLaws.{check-length}
 use borrow.Author.Needs.{needs}
-use Rattle.saved_check.proofs.row_fits.Statement.{statement}
-use Rattle.saved_check.proofs.row_fits.Tie as tie
+use Rattle.saved_rows.proofs.row_fits.Statement.{statement}
+use Rattle.saved_rows.proofs.row_fits.Tie as tie
 
 row-ok-requires : tie.Need-row-ok-requires
 row-ok-requires c κs = search needs
