@@ -9,7 +9,7 @@ use Rattle.saved_state.specs.State.{held, savedCheck}
 use Rattle.call_reply.specs.declared.Reply.{Reply}
 use Rattle.call_reply.specs.Replies.{plain, After, tooFew}
 use Rattle.call_close.specs.Held.{emission}
-use Rattle.push_state.specs.Pushed.{forgotten}
+use Rattle.push_start.specs.Opened.{forgotten}
 use Rattle.spline_write.specs.Room.{hasRoom}
 
 -- 2.3: a refusal leaves every word

@@ -16,7 +16,7 @@ use Rattle.layout.specs.Layout.{axisCodes, axisMasks, rowWords, wStart, stateWo
 use Rattle.row_cells.specs.Bits.{has}
 use Rattle.row_cells.specs.Row.{shown, hasPoint}
 use Rattle.row_cells.specs.RowLaws.{length-out}
-use Rattle.row_put.specs.MadeLaws.{length-made}
+use Rattle.row_made.specs.MadeLaws.{length-made}
 use Rattle.floats.specs.Truth.{by-bit, cond-t, cond-f, all-at, and-right}
 use Rattle.floats.specs.Joins.{flatten-append}
 use Rattle.spline_channels.specs.Channels.{Spline, channels, pointRows, blockAt}

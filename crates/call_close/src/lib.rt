@@ -12,7 +12,7 @@ use layout::W_HELD;
 use layout::W_MOTION;
 use layout::W_START;
 use layout::W_TOLERANCE;
-use push_state::forget;
+use push_start::forget;
 use saved_check::saved_check;
 use spline_curve::Job;
 use spline_emission::emit_within;

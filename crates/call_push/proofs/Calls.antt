@@ -19,9 +19,11 @@ use Rattle.saved_state.specs.State.{held, savedCheck}
 use Rattle.call_reply.specs.declared.Reply.{Reply}
 use Rattle.call_reply.specs.Replies.{plain, After, tooFew, doneReply, PushIs}
 use Rattle.call_reply.specs.ReplyLaws.{answers}
-use Rattle.push_check.specs.Blocks.{emits, isFull, news, pushCheck}
-use Rattle.push_check.specs.declared.Resolved.{Resolved}
-use Rattle.push_check.specs.Resolved.{resolved, due}
+use Rattle.push_resolve.specs.Blocks.{emits, news}
+use Rattle.push_check.specs.Refusal.{isFull, pushCheck}
+use Rattle.push_resolve.specs.declared.Resolved.{Resolved}
+use Rattle.push_resolve.specs.Resolved.{resolved}
+use Rattle.push_check.specs.Due.{due}
 use Rattle.push_rows.specs.Answer.{ownAnswer}
 use Rattle.push_state.specs.Pushed.{pushState, pushStore}
 use Rattle.call_close.specs.Held.{emission}
@@ -38,7 +40,7 @@ use Rattle.call_close.specs.Emitted.{Put}
 use Rattle.call_close.specs.EmittedLaws.{room-left, room-short, put-refused, put-written}
 use Rattle.push_rows.specs.Few.{few-own}
 use Rattle.push_check.specs.declared.Due.the-variants.{Refused, Push}
-use Rattle.push_check.specs.BlockLaws.{due-refused, due-push}
+use Rattle.push_check.specs.DueLaws.{due-refused, due-push}
 use Rattle.call_push.specs.Settle.{Passed, Settles, settled}
 
 -- what a push that passes its checks has

@@ -8,7 +8,8 @@ use Rattle.floats.specs.Lists.{flatten, spliced}
 use Rattle.call_reply.specs.Replies.{plain, tooFew, After}
 use Rattle.call_close.specs.Held.{emission}
 use Rattle.call_close.specs.Close.{untouched, fits}
-use Rattle.push_check.specs.Blocks.{emits, news, pushCheck}
+use Rattle.push_resolve.specs.Blocks.{emits, news}
+use Rattle.push_check.specs.Refusal.{pushCheck}
 use Rattle.push_rows.specs.Answer.{ownAnswer}
 use Rattle.push_state.specs.Pushed.{pushState, pushStore}
 

@@ -14,8 +14,9 @@ use Rattle.trig.specs.Trig as Trig
 use Rattle.row_cells.specs.Bits as Bits
 use Rattle.row_cells.specs.Codes as Codes
 use Rattle.row_cells.specs.Row as Row
+use Rattle.row_numbers.specs.RowNumbers as RowNumbers
 use Rattle.row_check.specs.Check as Check
-use Rattle.row_put.specs.Made as Made
+use Rattle.row_made.specs.Made as Made
 use Rattle.arc_centre.specs.Centre as Centre
 use Rattle.arc_numbers.specs.Arc as Arc
 use Rattle.arc_sample.specs.Samples as Samples
@@ -33,7 +34,9 @@ use Rattle.spline_places.specs.Groups as Groups
 use Rattle.spline_curve.specs.Runs as Curves
 use Rattle.spline_plan.specs.Emission as Emission
 use Rattle.saved_state.specs.State as State
-use Rattle.push_check.specs.Blocks as Blocks
+use Rattle.push_resolve.specs.Blocks as Blocks
+use Rattle.push_check.specs.Refusal as Refusal
+use Rattle.push_start.specs.Opened as Opened
 use Rattle.push_state.specs.Pushed as Pushed
 use Rattle.push_rows.specs.Answer as Answer
 use Rattle.call_reply.specs.Replies as Replies
@@ -64,9 +67,9 @@ unfoldable pub says : List ℕ → Csv.Whole
 unfolding Lists.all Lists.anyOf Lists.flatten Lists.keep Lists.member Lists.spliced Lists.upto Motion.isBasis Motion.isCubic Motion.isOther
     Motion.isSpline Motion.kindOf Root.floorRoot Root.rootUnits Root.sqrt Whole.ceilCount Whole.halfUpCount Whole.truncCount Trig.acosSteps
     Trig.atan2Steps Trig.atanFrom Trig.atanLeft Trig.atanRight Trig.atanUp Trig.cosSteps Trig.sinSteps Bits.has Bits.withBit Codes.geometricOf
-    Codes.planeOk Codes.planeU Codes.planeV Row.cell Row.hasPoint Row.maskOf Row.number Row.outRow Row.rowOf Check.above1000 Check.cellOk
-    Check.numbersOk Check.rowCheck Check.shapeOk Check.turnOk Check.within Made.madeRow Made.rides Made.withRiders Centre.centreOf Centre.crCentre
-    Centre.radius Centre.sideOf Centre.wideCentre Arc.agree Arc.arcOf Arc.countOf Arc.stepOf Arc.sweepLeft Arc.sweepOf Arc.turned Arc.wantedOf
+    Codes.planeOk Codes.planeU Codes.planeV Row.cell Row.hasPoint Row.maskOf Row.number Row.outRow Row.rowOf RowNumbers.above1000 RowNumbers.cellOk
+    RowNumbers.numbersOk Check.rowCheck Check.shapeOk RowNumbers.turnOk RowNumbers.within Made.madeRow Made.rides Made.withRiders Centre.centreOf
+    Centre.crCentre Centre.radius Centre.sideOf Centre.wideCentre Arc.agree Arc.arcOf Arc.countOf Arc.stepOf Arc.sweepLeft Arc.sweepOf Arc.turned Arc.wantedOf
     Samples.arcRow Samples.lastCell Samples.midCell Samples.ramp ArcRowsArc.arcAnswer ArcRowsArc.arcRows ArcRowsArc.fromCentre ArcRowsArc.fromStart
     ArcRowsArc.heldAxes ArcRowsArc.passed ArcRowsArc.silent Metric.along Metric.chordTo Metric.chords Metric.deviationOf Metric.distTo Metric.dotTo
     Metric.lenTo Walk.flat Walk.near Walk.samples Slopes.akimaAt Slopes.akimaSlope Slopes.bend Slopes.bendBack Slopes.bent Slopes.cubicSlope
@@ -76,8 +79,8 @@ unfolding Lists.all Lists.anyOf Lists.flatten Lists.keep Lists.member Lists.spli
     Points.firstCell Measured.metricOf Points.nextPoint Channels.placeOf Channels.pointRows Points.pointsFrom Points.startPoint Points.weightOf
     Groups.heldGroup Groups.isMarked Groups.ownCell Groups.pointGroup Groups.sampleCell Curves.runsOf Emission.splineGroups State.axesOk
     State.codeOk State.codesOk State.geometric State.heldOk State.heldRowOk State.heldRows State.placed State.pointAtOk State.pointOk State.pointWord
-    State.savedCheck State.stateOk State.storeOk State.tolOk Blocks.emits Blocks.isFull Blocks.kept Blocks.news Blocks.orNow Blocks.pushCheck
-    Pushed.buffered Pushed.degreeWith Pushed.forgotten Pushed.opened Pushed.pushState Pushed.pushStore Pushed.trackTo Answer.answerAs Answer.ownAnswer
+    State.savedCheck State.stateOk State.storeOk State.tolOk Blocks.emits Refusal.isFull Blocks.kept Blocks.news Blocks.orNow Refusal.pushCheck
+    Pushed.buffered Pushed.degreeWith Opened.forgotten Opened.opened Pushed.pushState Pushed.pushStore Pushed.trackTo Answer.answerAs Answer.ownAnswer
     Replies.tooFew Start.fresh Start.freshWord Start.startSpec Close.closeRows Close.closeSpec Close.closeState Close.untouched Held.emission
     Held.heldSpline Push.pushDone Push.pushRows Push.pushSpec Decimal.millionths Decimal.quotient Decimal.widthFrom Read.fraction Read.lineNumber Read.num
     Read.number Read.run Read.unsigned Write.figures Write.millionthsText Write.numberText Words.motionOf Words.planeOf Words.seek LineText.endOf

@@ -15,7 +15,7 @@ use Rattle.call_reply.specs.declared.Reply.{Reply}
 use Rattle.call_reply.specs.Replies.{After, PushIs, tooFew}
 use Rattle.call_push.specs.Push.{pushSpec, pushRows, pushDone}
 use Rattle.call_close.specs.Close.{closeSpec, closeRows, untouched}
-use Rattle.push_check.specs.Blocks.{pushCheck}
+use Rattle.push_check.specs.Refusal.{pushCheck}
 use Rattle.saved_state.specs.State.{savedCheck}
 use Rattle.csv_line.specs.declared.End.{End}
 use Rattle.csv_line.specs.declared.End.the-variants as End

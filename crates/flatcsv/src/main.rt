@@ -21,7 +21,7 @@ const TOLERANCE: u64 = 0x3fb9_9999_9999_999a;
 fn start(state: &mut [u64; STATE_WORDS])
     ensures { λ r. ⌜ now (state .exit) ≡ startSpec (now (state .entry)) tolerance axes .state ⌝ }
 {
-    call_start::start::start(state, TOLERANCE, &[0, 1, 2]);
+    call_start::start(state, TOLERANCE, &[0, 1, 2]);
 }
 
 // What failed, if anything did, and the status: of a run that was made, with its last bytes in the two buffers.

@@ -19,7 +19,7 @@ use Rattle.floats.specs.Fill.{length-upto, at-upto, upto-below}
 use Rattle.floats.specs.Joins.{flatten-append}
 use Rattle.row_cells.specs.Bits.{has}
 use Rattle.row_cells.specs.Row.{axesOf, hasPoint, outRow}
-use Rattle.row_put.specs.MadeLaws.{made-same}
+use Rattle.row_made.specs.MadeLaws.{made-same}
 use Rattle.row_cells.specs.Masks.{member-small}
 use Rattle.spline_channels.specs.Flat.{Sized}
 use Rattle.spline_channels.specs.Channels.{Spline, channels, placeOf}

@@ -9,7 +9,7 @@ use Rattle.floats.specs.Lists.{upto, flatten}
 use Rattle.floats.specs.Fill.{length-upto}
 use Rattle.layout.specs.Layout.{rowWords}
 use Rattle.row_cells.specs.Row.{axesOf, outRow}
-use Rattle.row_put.specs.MadeLaws.{length-made}
+use Rattle.row_made.specs.MadeLaws.{length-made}
 use Rattle.row_cells.specs.RowLaws.{length-out}
 use Rattle.spline_channels.specs.Flat.{Sized, sized-append, length-flatten}
 use Rattle.spline_places.specs.declared.frame.Frame.{Frame}

@@ -14,8 +14,8 @@ use Rattle.floats.specs.Fill.{at-filled}
 use Rattle.layout.specs.Layout.{axisCodes, axisMasks, rowWords, rCells}
 use Rattle.row_cells.specs.Bits.{has}
 use Rattle.row_cells.specs.Row.{presentOf, cell, shown, axesOf}
-use Rattle.row_put.specs.Made.{madeRow}
-use Rattle.row_put.specs.MadeLaws.{made-same}
+use Rattle.row_made.specs.Made.{madeRow}
+use Rattle.row_made.specs.MadeLaws.{made-same}
 use Rattle.row_cells.specs.Masks.{has-none}
 use Rattle.row_cells.specs.BitOps.{has-and}
 use Rattle.spline_places.specs.declared.frame.Frame.{Frame}

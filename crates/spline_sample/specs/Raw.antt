@@ -8,7 +8,7 @@ use lib.ListN.{getD, take, drop}
 use Rattle.motion.specs.Motion.{gOne}
 use Rattle.row_cells.specs.Bits.{has}
 use Rattle.row_cells.specs.Row.{cell, axesOf}
-use Rattle.row_put.specs.Made.{madeRow}
+use Rattle.row_made.specs.Made.{madeRow}
 use Rattle.spline_places.specs.declared.frame.Frame.{Frame}
 use Rattle.spline_places.specs.declared.place.Place.{Place}
 
