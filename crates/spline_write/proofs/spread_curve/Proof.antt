@@ -21,11 +21,11 @@ slice-aggregate-spread c = search needs
 
 spread-requires : tie.Need-spread-requires
 spread-requires c κs =
-    let at-axes-mask2 = c .before .before in
-    let at-axes-mask = at-axes-mask2 .before in
-    let at-places-of = at-axes-mask .before .before in
+    let at-chans = c .before .before in
+    let at-axes = at-chans .before in
+    let at-places-of = at-axes .before .before in
     let start = at-places-of .before .before .before .before .before .before .before in (
-      spreads-at _ _ _ _ _ _ _ _ _ _ _ (at-axes-mask .axes-mask .ensures) (at-axes-mask2 .axes-mask2 .ensures) (at-places-of .places-of .ensures) _ ((start .pre) .0),
+      spreads-at _ _ _ _ _ _ _ _ _ _ _ (at-axes .axes-mask .ensures) (at-chans .axes-mask2 .ensures) (at-places-of .places-of .ensures) _ ((start .pre) .0),
       (start .pre) .1,
     )
 
@@ -35,11 +35,11 @@ same-length c = search needs
 returns : tie.Need-returns
 returns c =
     let at-spread = c .before .before in
-    let at-axes-mask2 = at-spread .before .before .before in
-    let at-axes-mask = at-axes-mask2 .before in
-    let at-places-of = at-axes-mask .before .before in
+    let at-chans = at-spread .before .before .before in
+    let at-axes = at-chans .before in
+    let at-places-of = at-axes .before .before in
     let spread = (at-spread .spread .ensures) in
-    spread-at _ _ _ _ _ _ _ _ _ _ _ (at-axes-mask .axes-mask .ensures) (at-axes-mask2 .axes-mask2 .ensures) (at-places-of .places-of .ensures) _ spread
+    spread-at _ _ _ _ _ _ _ _ _ _ _ (at-axes .axes-mask .ensures) (at-chans .axes-mask2 .ensures) (at-places-of .places-of .ensures) _ spread
 
 pub spread-curve-spec : {M : Type 1} → statement M
 spread-curve-spec =
