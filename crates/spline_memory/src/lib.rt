@@ -16,8 +16,31 @@ use spline_write::write_emission;
 ghost use Prim.Native.Nat.{_*_, _≤_, _<_};
 ghost use Rattle.fit_slopes.specs.Sizes.{smallPoints};
 ghost use Rattle.spline_memory.specs.Sizes.{middlePoints};
+ghost use Rattle.spline_plan.specs.Plans.{Rooms};
 ghost use Rattle.spline_write.specs.Emits.{mostOwn, Emitted};
 ghost use Rattle.spline_curve.specs.Asks.{Holds};
+
+// An emission in work memory that has room for it: planned, then written.
+fn emit_in(
+    job: Job,
+    axes: &[u64],
+    words: &[u64],
+    store: &[u64],
+    rows: &mut [u64],
+    pts: &mut [f64],
+    ws: &mut [f64],
+    ks: &mut [f64],
+    cs: &mut [f64],
+    counts: &mut [usize],
+    lefts: &mut [u8],
+) -> u64
+    requires { ⌜ Holds (now axes) (now words) (now store) (job .held) × (job .own ≤ mostOwn) ⌝ }
+    requires { ⌜ Rooms (job .held) (now pts) (now ws) (now ks) (now cs) (now counts) ⌝ }
+    ensures { λ r. ⌜ Emitted job (now (axes .entry)) (now (words .entry)) (now (store .entry)) (now (rows .entry)) r (now (rows .exit)) ⌝ }
+{
+    let e = plan_emission(job, axes, words, store, pts, ws, ks, cs, counts, lefts);
+    write_emission(e, axes, store, rows, pts, ws, ks, cs, counts, lefts)
+}
 
 // An emission in the work memory of a small spline.
 pub fn emit_small(job: Job, axes: &[u64], words: &[u64], store: &[u64], rows: &mut [u64]) -> u64
@@ -31,19 +54,19 @@ pub fn emit_small(job: Job, axes: &[u64], words: &[u64], store: &[u64], rows: &m
     let mut cs = [0.0f64; CONTROLS * SMALL_POINTS];
     let mut counts = [0usize; SMALL_POINTS];
     let mut lefts = [0u8; SMALL_LEFTS];
-    let e = plan_emission(
+    emit_in(
         job,
         axes,
         words,
         store,
+        rows,
         &mut pts,
         &mut ws,
         &mut ks,
         &mut cs,
         &mut counts,
         &mut lefts,
-    );
-    write_emission(e, axes, store, rows, &pts, &ws, &ks, &cs, &counts, &lefts)
+    )
 }
 
 // An emission in the work memory of a middling spline.
@@ -58,19 +81,19 @@ pub fn emit_middle(job: Job, axes: &[u64], words: &[u64], store: &[u64], rows: &
     let mut cs = [0.0f64; CONTROLS * MIDDLE_POINTS];
     let mut counts = [0usize; MIDDLE_POINTS];
     let mut lefts = [0u8; MIDDLE_LEFTS];
-    let e = plan_emission(
+    emit_in(
         job,
         axes,
         words,
         store,
+        rows,
         &mut pts,
         &mut ws,
         &mut ks,
         &mut cs,
         &mut counts,
         &mut lefts,
-    );
-    write_emission(e, axes, store, rows, &pts, &ws, &ks, &cs, &counts, &lefts)
+    )
 }
 
 // An emission in the work memory of any spline.
@@ -84,17 +107,17 @@ pub fn emit_large(job: Job, axes: &[u64], words: &[u64], store: &[u64], rows: &m
     let mut cs = [0.0f64; CONTROLS * MOST_POINTS];
     let mut counts = [0usize; MOST_POINTS];
     let mut lefts = [0u8; MOST_LEFTS];
-    let e = plan_emission(
+    emit_in(
         job,
         axes,
         words,
         store,
+        rows,
         &mut pts,
         &mut ws,
         &mut ks,
         &mut cs,
         &mut counts,
         &mut lefts,
-    );
-    write_emission(e, axes, store, rows, &pts, &ws, &ks, &cs, &counts, &lefts)
+    )
 }
