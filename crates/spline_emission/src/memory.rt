@@ -1,21 +1,19 @@
 // An emission in work memory by the spline's points.
-pub mod sizes;
-
+use crate::sizes::CONTROLS;
+use crate::sizes::KNOTS;
+use crate::sizes::MIDDLE_LEFTS;
+use crate::sizes::MIDDLE_POINTS;
+use crate::sizes::MOST_LEFTS;
+use crate::sizes::SMALL_LEFTS;
 use fit_slopes::sizes::SMALL_POINTS;
 use layout::AXIS_CODES;
 use layout::MOST_POINTS;
-use sizes::CONTROLS;
-use sizes::KNOTS;
-use sizes::MIDDLE_LEFTS;
-use sizes::MIDDLE_POINTS;
-use sizes::MOST_LEFTS;
-use sizes::SMALL_LEFTS;
 use spline_curve::Job;
 use spline_plan::plan_emission;
 use spline_write::write_emission;
 ghost use Prim.Native.Nat.{_*_, _≤_, _<_};
 ghost use Rattle.fit_slopes.specs.Sizes.{smallPoints};
-ghost use Rattle.spline_memory.specs.Sizes.{middlePoints};
+ghost use Rattle.spline_emission.specs.Sizes.{middlePoints};
 ghost use Rattle.spline_plan.specs.Plans.{Rooms};
 ghost use Rattle.spline_write.specs.Emits.{mostOwn, Emitted};
 ghost use Rattle.spline_curve.specs.Asks.{Holds};
