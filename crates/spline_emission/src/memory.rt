@@ -13,13 +13,12 @@ use spline_plan::plan_emission;
 use spline_write::write_emission;
 ghost use Prim.Native.Nat.{_*_, _≤_, _<_};
 ghost use Rattle.fit_slopes.specs.Sizes.{smallPoints};
-ghost use Rattle.spline_emission.specs.Sizes.{middlePoints};
-ghost use Rattle.spline_plan.specs.Plans.{Rooms};
+ghost use Rattle.spline_emission.specs.Sizes.{middlePoints, Tables};
 ghost use Rattle.spline_write.specs.Emits.{mostOwn, Emitted};
 ghost use Rattle.spline_curve.specs.Asks.{Holds};
 
-// An emission in work memory that has room for it: planned, then written.
-fn emit_in(
+// An emission of a small or middling spline, in work memory that has room for it: planned, then written.
+fn emit_few(
     job: Job,
     axes: &[u64],
     words: &[u64],
@@ -29,15 +28,16 @@ fn emit_in(
     ws: &mut [f64],
     ks: &mut [f64],
     cs: &mut [f64],
-    counts: &mut [usize],
     lefts: &mut [u8],
 ) -> u64
     requires { ⌜ Holds (now axes) (now words) (now store) (job .held) × (job .own ≤ mostOwn) ⌝ }
-    requires { ⌜ Rooms (job .held) (now pts) (now ws) (now ks) (now cs) (now counts) ⌝ }
+    requires { ⌜ job .held < middlePoints ⌝ }
+    requires { ⌜ Tables (job .held) (now pts) (now ws) (now ks) (now cs) ⌝ }
     ensures { λ r. ⌜ Emitted job (now (axes .entry)) (now (words .entry)) (now (store .entry)) (now (rows .entry)) r (now (rows .exit)) ⌝ }
 {
-    let e = plan_emission(job, axes, words, store, pts, ws, ks, cs, counts, lefts);
-    write_emission(e, axes, store, rows, pts, ws, ks, cs, counts, lefts)
+    let mut counts = [0usize; MIDDLE_POINTS];
+    let e = plan_emission(job, axes, words, store, pts, ws, ks, cs, &mut counts, lefts);
+    write_emission(e, axes, store, rows, pts, ws, ks, cs, &counts, lefts)
 }
 
 // An emission in the work memory of a small spline.
@@ -50,9 +50,8 @@ pub fn emit_small(job: Job, axes: &[u64], words: &[u64], store: &[u64], rows: &m
     let mut ws = [0.0f64; SMALL_POINTS];
     let mut ks = [0.0f64; KNOTS * SMALL_POINTS];
     let mut cs = [0.0f64; CONTROLS * SMALL_POINTS];
-    let mut counts = [0usize; SMALL_POINTS];
     let mut lefts = [0u8; SMALL_LEFTS];
-    emit_in(
+    emit_few(
         job,
         axes,
         words,
@@ -62,7 +61,6 @@ pub fn emit_small(job: Job, axes: &[u64], words: &[u64], store: &[u64], rows: &m
         &mut ws,
         &mut ks,
         &mut cs,
-        &mut counts,
         &mut lefts,
     )
 }
@@ -77,9 +75,8 @@ pub fn emit_middle(job: Job, axes: &[u64], words: &[u64], store: &[u64], rows: &
     let mut ws = [0.0f64; MIDDLE_POINTS];
     let mut ks = [0.0f64; KNOTS * MIDDLE_POINTS];
     let mut cs = [0.0f64; CONTROLS * MIDDLE_POINTS];
-    let mut counts = [0usize; MIDDLE_POINTS];
     let mut lefts = [0u8; MIDDLE_LEFTS];
-    emit_in(
+    emit_few(
         job,
         axes,
         words,
@@ -89,7 +86,6 @@ pub fn emit_middle(job: Job, axes: &[u64], words: &[u64], store: &[u64], rows: &
         &mut ws,
         &mut ks,
         &mut cs,
-        &mut counts,
         &mut lefts,
     )
 }
@@ -105,17 +101,17 @@ pub fn emit_large(job: Job, axes: &[u64], words: &[u64], store: &[u64], rows: &m
     let mut cs = [0.0f64; CONTROLS * MOST_POINTS];
     let mut counts = [0usize; MOST_POINTS];
     let mut lefts = [0u8; MOST_LEFTS];
-    emit_in(
+    let e = plan_emission(
         job,
         axes,
         words,
         store,
-        rows,
         &mut pts,
         &mut ws,
         &mut ks,
         &mut cs,
         &mut counts,
         &mut lefts,
-    )
+    );
+    write_emission(e, axes, store, rows, &pts, &ws, &ks, &cs, &counts, &lefts)
 }
