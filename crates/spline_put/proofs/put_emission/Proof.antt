@@ -1,10 +1,10 @@
--- `call_close::put_emission` meets its contract. Assumes nothing.
+-- `spline_put::put_emission` meets its contract. Assumes nothing.
 use native.Mathlib.Omega.{arith}
 use Rattle.saved_state.specs.Walk.{part-codes}
-use Rattle.call_close.proofs.Calls.{state-long, state-axes, holds-at, put-at}
+use Rattle.spline_put.proofs.Handed.{state-long, state-axes, holds-at, put-at}
 use borrow.Author.Needs.{needs}
-use Rattle.call_close.proofs.put_emission.Statement.{statement}
-use Rattle.call_close.proofs.put_emission.Tie as tie
+use Rattle.spline_put.proofs.put_emission.Statement.{statement}
+use Rattle.spline_put.proofs.put_emission.Tie as tie
 
 shared-slice-read-e : tie.Need-shared-slice-read-e
 shared-slice-read-e c =

@@ -33,12 +33,12 @@ use Rattle.spline_curve.specs.Asks.{Holds}
 use Rattle.saved_state.specs.State.{axisCount, motionNow, degree, held, tolerance, geometric, pointWord, curveStart, heldRows, codeOk, codesOk}
 use Rattle.saved_state.specs.State.{axesOk, stateOk, savedCheck}
 use Rattle.saved_state.specs.StateLaws.{Good, good, good-few, point-small}
-use Rattle.call_close.specs.Held.{heldSpline, emission}
+use Rattle.spline_put.specs.Held.{heldSpline, emission}
 use Rattle.saved_state.specs.Checked.{saved-ok, saved-store}
 use Rattle.spline_curve.specs.Widths.{runs-few}
 use Rattle.spline_sample.specs.SampleLaws.{bit-below}
 use Rattle.spline_plan.specs.Plans.{mostEmitted}
-use Rattle.call_close.specs.Emitted.{codesOf, startOf, splineIn, Put}
+use Rattle.spline_put.specs.Emitted.{codesOf, startOf, splineIn, Put}
 
 abbrev splineWith : List ℕ → (ℕ → Option ℕ) → List (List ℕ) → Spline
 splineWith st start blocks = record { motion = motionNow st; power = degree st; tol = tolerance st; axes = geometric st; start = start; blocks = blocks }
