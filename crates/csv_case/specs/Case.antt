@@ -42,7 +42,7 @@ use Rattle.push_rows.specs.Answer as Answer
 use Rattle.call_reply.specs.Replies as Replies
 use Rattle.call_start.specs.Start as Start
 use Rattle.call_close.specs.Close as Close
-use Rattle.call_close.specs.Held as Held
+use Rattle.spline_put.specs.Held as Held
 use Rattle.call_push.specs.Push as Push
 use Rattle.csv_decimal.specs.Decimal as Decimal
 use Rattle.csv_fields.specs.Read as Read
@@ -81,7 +81,7 @@ unfolding Lists.all Lists.anyOf Lists.flatten Lists.keep Lists.member Lists.spli
     State.codeOk State.codesOk State.geometric State.heldOk State.heldRowOk State.heldRows State.placed State.pointAtOk State.pointOk State.pointWord
     State.savedCheck State.stateOk State.storeOk State.tolOk Blocks.emits Refusal.isFull Blocks.kept Blocks.news Blocks.orNow Refusal.pushCheck
     Pushed.buffered Pushed.degreeWith Opened.forgotten Opened.opened Pushed.pushState Pushed.pushStore Pushed.trackTo Answer.answerAs Answer.ownAnswer
-    Replies.tooFew Start.fresh Start.freshWord Start.startSpec Close.closeRows Close.closeSpec Close.closeState Close.untouched Held.emission
+    Replies.tooFew Start.fresh Start.freshWord Start.startSpec Close.closeRows Close.closeSpec Close.closeState Replies.untouched Held.emission
     Held.heldSpline Push.pushDone Push.pushRows Push.pushSpec Decimal.millionths Decimal.quotient Decimal.widthFrom Read.fraction Read.lineNumber Read.num
     Read.number Read.run Read.unsigned Write.figures Write.millionthsText Write.numberText Words.motionOf Words.planeOf Words.seek LineText.endOf
     LineText.joined LineText.parted LineText.tailed Notice.noticeText Reader.cellIn Cells.cellOk Reader.cellsIn Cells.cellsOk Reader.fromCells

@@ -12,9 +12,9 @@ use Rattle.floats.specs.Lists.{isSome}
 use Rattle.layout.specs.Layout.{rowWords}
 use Rattle.row_cells.specs.Row.{lineOf}
 use Rattle.call_reply.specs.declared.Reply.{Reply}
-use Rattle.call_reply.specs.Replies.{After, PushIs, tooFew}
+use Rattle.call_reply.specs.Replies.{After, PushIs, tooFew, untouched}
 use Rattle.call_push.specs.Push.{pushSpec, pushRows, pushDone}
-use Rattle.call_close.specs.Close.{closeSpec, closeRows, untouched}
+use Rattle.call_close.specs.Close.{closeSpec, closeRows}
 use Rattle.push_check.specs.Refusal.{pushCheck}
 use Rattle.saved_state.specs.State.{savedCheck}
 use Rattle.csv_line.specs.declared.End.{End}

@@ -23,7 +23,7 @@ use Rattle.spline_emission.specs.Emission.{Spline, splineGroups, heldGroup, poi
 use Rattle.saved_state.specs.State.{held}
 use Rattle.push_rows.specs.Answer.{answerAs, ownAnswer}
 use Rattle.push_resolve.specs.Blocks.{emits}
-use Rattle.call_close.specs.Held.{emission}
+use Rattle.spline_put.specs.Held.{emission}
 use Rattle.call_push.specs.Push.{pushRows}
 use Rattle.call_close.specs.Close.{closeRows}
 

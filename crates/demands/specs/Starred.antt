@@ -24,7 +24,7 @@ use Rattle.curve_runs.specs.Runs as Runs
 use Rattle.spline_emission.specs.Emission as Emission
 use Rattle.saved_state.specs.State as State
 use Rattle.call_start.specs.Start as Start
-use Rattle.call_close.specs.Held as Held
+use Rattle.spline_put.specs.Held as Held
 use Rattle.call_reply.specs.Replies as Replies
 use Rattle.call_push.specs.Push as Push
 use Rattle.push_resolve.specs.Blocks as Blocks
@@ -92,7 +92,7 @@ unfolding Lists.upto Lists.keep Lists.member Lists.anyOf Lists.flatten Lists.row
     State.pointAtOk State.pointOk State.heldOk State.stateOk State.storeOk State.heldRows State.heldRowOk State.savedCheck Bits.withBit State.placed
     Start.freshWord Start.fresh Start.startSpec Held.heldSpline Blocks.orNow Blocks.emits Blocks.kept Held.emission Own.answerAs Own.ownAnswer Blocks.news
     Pushed.trackTo Opened.forgotten Opened.opened Pushed.degreeWith Pushed.buffered Pushed.pushState Pushed.pushStore Push.pushRows Refusal.isFull
-    Refusal.pushCheck Close.untouched Replies.tooFew Push.pushDone Push.pushSpec Close.closeRows Close.closeState Close.closeSpec Demands.answer
+    Refusal.pushCheck Replies.untouched Replies.tooFew Push.pushDone Push.pushSpec Close.closeRows Close.closeState Close.closeSpec Demands.answer
     Calls.wrote Ieee.add Ieee.sub Ieee.mul Ieee.div Ieee.rem Ieee.neg Ieee.lt Ieee.le Ieee.eq Ieee.ofBits Ieee.toBits Ieee.ofInt lastOf
 asked t cs = lastOf (Start.startSpec (replicate stateWords 7) t xyz .state) (replicate (4 * rowWords) 0) cs
 

@@ -20,7 +20,7 @@ use Rattle.floats.specs.Truth.{by-bit, cond-t, cond-f}
 use Rattle.floats.specs.Joins.{flatten-append}
 use Rattle.spline_emission.specs.Emission.{Spline, splineGroups}
 use Rattle.saved_state.specs.State.{stateOk, held, position, curveStart, tolerance, motionNow, degree, savedCheck}
-use Rattle.call_close.specs.Held.{heldSpline, emission}
+use Rattle.spline_put.specs.Held.{heldSpline, emission}
 use Rattle.call_reply.specs.Replies.{After, AfterState, plain}
 use Rattle.call_seed.specs.Seed.{seeded, seedSpec}
 use Rattle.push_resolve.specs.Blocks.{orNow, motionThen, emits}

@@ -28,7 +28,8 @@ use Rattle.spline_places.specs.declared.place.Place.{Place}
 use Rattle.spline_places.specs.Groups.{isBspline, sampleCell, ownCell, isMarked, pointGroup, heldGroup}
 use Rattle.spline_places.specs.Sizes.{sizeOf, moved, placeTo, samplesOf}
 use Rattle.spline_places.specs.SizeLaws.{place-next, place-points, moved-rows}
-use Rattle.spline_sample.specs.Raw.{rawCell, rawOwn, rawMark, rawMotion, rawRow, bareRow}
+use Rattle.spline_marks.specs.Marks.{rawMark, rawMotion}
+use Rattle.spline_sample.specs.Raw.{rawCell, rawOwn, rawRow, bareRow}
 use Rattle.spline_rows.specs.RawBlocks.{rawGroup, rawBlock, rawHeld}
 use Rattle.spline_curve.specs.Widths.{getD-map, sized-at}
 

@@ -20,7 +20,8 @@ use Rattle.row_cells.specs.Masks.{has-none}
 use Rattle.row_cells.specs.BitOps.{has-and}
 use Rattle.spline_places.specs.declared.frame.Frame.{Frame}
 use Rattle.spline_places.specs.declared.place.Place.{Place}
-use Rattle.spline_sample.specs.Raw.{rawCell, rawOwn, rawWord, rawMark, rawMotion, rawAt, samplesAt, rawRow, bareRow}
+use Rattle.spline_marks.specs.Marks.{rawMark, rawMotion}
+use Rattle.spline_sample.specs.Raw.{rawCell, rawOwn, rawWord, rawAt, samplesAt, rawRow, bareRow}
 use Rattle.spline_sample.specs.Puts.{Sound, OwnMask, Written, RowPut, BarePut}
 use Rattle.spline_sample.specs.SampleLaws.{bit-below}
 
