@@ -10,9 +10,12 @@ ghost use Rattle.csv_line.specs.LineText.{crlf, header, headerOut, endOf
 ghost use Rattle.csv_line.specs.Notice.{noticeText};
 use csv_figures::put_byte;
 
-// The word of a row that says which of its cells are present.
-// The columns of cells, behind the line number and the two words.
+// The columns of cells, behind the line number and the two words; and those before I, and before F.
 pub const COLUMNS: usize = 11;
+
+pub const I_COLUMN: usize = 3;
+
+pub const F_COLUMN: usize = 10;
 
 // Where the text of a line ends and its CRLF begins.
 pub enum End {
@@ -62,7 +65,7 @@ pub fn is_header(text: &[u8]) -> bool
     )
 }
 
-fn put_bytes(out: &mut [u8], n: usize, s: &[u8]) -> usize
+pub fn put_bytes(out: &mut [u8], n: usize, s: &[u8]) -> usize
     requires { ⌜ n + length (now s) ≤ length (now out) ⌝ }
     ensures { λ r. ⌜ Wrote (now (out .entry)) n (now (s .entry)) (now (out .exit)) r ⌝ }
 {
