@@ -30,7 +30,7 @@ use Rattle.csv_words.specs.Table.{short}
 use Rattle.csv_line.specs.LineText.{comma, crlf, columnCount, codeAt, tailed, joined}
 use Rattle.csv_line.specs.CodeLaws.{plane-low}
 use Rattle.csv_write.specs.declared.Passed.{Passed}
-use Rattle.csv_write.specs.Passing.{commas, Skipped}
+use Rattle.csv_write.specs.Passing.{iColumn, fColumn, commas, Skipped}
 use Rattle.csv_write.specs.Trying.{tried-good, tried-bad}
 use Rattle.csv_write.specs.Texts.{flatten-more, tailed-upto, row-text, cells-length, head-length}
 use Rattle.csv_write.specs.Writer.{cellText, cellShown, cellTexts, headFields, markText, rowText, headOk, writable, rowAt, Tried}
@@ -194,7 +194,8 @@ module _ (row : List ℕ) where
   puts-past {o} {o′} {o″} {n} {i} {at} {r} p s =
       let d = r .i - i in
       let e : i + d ≡ r .i = omega (arith, s .ahead) in
-      let gone : (k : ℕ) → i ≤ k → k < i + d → has (presentOf row) (codeAt k) ≡ false = λ (k : ℕ) (h : i ≤ k) (l : k < i + d). s .absent k h (omega (arith, s .ahead)) in
+      let gone : (k : ℕ) → i ≤ k → k < i + d → has (presentOf row) (codeAt k) ≡ false =
+      λ (k : ℕ) (h : i ≤ k) (l : k < i + d). s .absent k h (omega (arith, s .ahead)) in
       record {
         good = ap (λ (k : ℕ). all k (cellShown row)) (sym e) ∙ passed-shown i d (p .good) gone;
         wrote =
@@ -209,28 +210,28 @@ module _ (row : List ℕ) where
 bit-off : (m j : ℕ) → m / 2 ^ cOffset % 128 ≡ 0 → j < 7 → has m (j + cOffset) ≡ false
 unfolding has
 bit-off m zero h l = ne-eqb (m / 2 ^ cOffset % 2) 1 (λ e. omega arith)
-bit-off m (suc zero) h l = ne-eqb (m / 2 ^ 16 % 2) 1 (λ e. omega arith)
-bit-off m (suc (suc zero)) h l = ne-eqb (m / 2 ^ 17 % 2) 1 (λ e. omega arith)
-bit-off m (suc (suc (suc zero))) h l = ne-eqb (m / 2 ^ 18 % 2) 1 (λ e. omega arith)
-bit-off m (suc (suc (suc (suc zero)))) h l = ne-eqb (m / 2 ^ 19 % 2) 1 (λ e. omega arith)
-bit-off m (suc (suc (suc (suc (suc zero))))) h l = ne-eqb (m / 2 ^ 20 % 2) 1 (λ e. omega arith)
-bit-off m (suc (suc (suc (suc (suc (suc zero)))))) h l = ne-eqb (m / 2 ^ 21 % 2) 1 (λ e. omega arith)
+bit-off m (suc zero) h l = ne-eqb (m / 2 ^ (cOffset + 1) % 2) 1 (λ e. omega arith)
+bit-off m (suc (suc zero)) h l = ne-eqb (m / 2 ^ (cOffset + 2) % 2) 1 (λ e. omega arith)
+bit-off m (suc (suc (suc zero))) h l = ne-eqb (m / 2 ^ (cOffset + 3) % 2) 1 (λ e. omega arith)
+bit-off m (suc (suc (suc (suc zero)))) h l = ne-eqb (m / 2 ^ (cOffset + 4) % 2) 1 (λ e. omega arith)
+bit-off m (suc (suc (suc (suc (suc zero))))) h l = ne-eqb (m / 2 ^ (cOffset + 5) % 2) 1 (λ e. omega arith)
+bit-off m (suc (suc (suc (suc (suc (suc zero)))))) h l = ne-eqb (m / 2 ^ (cOffset + 6) % 2) 1 (λ e. omega arith)
 bit-off m (suc (suc (suc (suc (suc (suc (suc j))))))) h l = absurd (omega arith)
 
-middle-codes : all 7 (λ (j : ℕ). eqb (codeAt (j + 3)) (j + cOffset)) ≡ true
+middle-codes : all 7 (λ (j : ℕ). eqb (codeAt (j + iColumn)) (j + cOffset)) ≡ true
 unfolding all
 middle-codes = refl
 
-pub offsets-off : (m : ℕ) → m / 2 ^ cOffset % 128 ≡ 0 → (k : ℕ) → 3 ≤ k → k < 10 → has m (codeAt k) ≡ false
-offsets-off m h k a b = go (k - 3) (back k a) (omega arith)
+pub offsets-off : (m : ℕ) → m / 2 ^ cOffset % 128 ≡ 0 → (k : ℕ) → iColumn ≤ k → k < fColumn → has m (codeAt k) ≡ false
+offsets-off m h k a b = go (k - iColumn) (back k a) (omega arith)
   where
-    back : (k : ℕ) → 3 ≤ k → k - 3 + 3 ≡ k
+    back : (k : ℕ) → iColumn ≤ k → k - iColumn + iColumn ≡ k
     back k a = omega arith
 
-    go : (j : ℕ) → j + 3 ≡ k → j < 7 → has m (codeAt k) ≡ false
+    go : (j : ℕ) → j + iColumn ≡ k → j < 7 → has m (codeAt k) ≡ false
     go j e l =
         ap (λ (c : ℕ). has m (codeAt c)) (sym e)
-        ∙ ap (has m) (eqb-true (codeAt (j + 3)) (j + cOffset) (all-at 7 (λ (j : ℕ). eqb (codeAt (j + 3)) (j + cOffset)) j middle-codes l))
+        ∙ ap (has m) (eqb-true (codeAt (j + iColumn)) (j + cOffset) (all-at 7 (λ (j : ℕ). eqb (codeAt (j + iColumn)) (j + cOffset)) j middle-codes l))
         ∙ bit-off m j h l
 
 -- ---- `pass_offsets`
@@ -245,17 +246,17 @@ skips-none row o n i h =
       wrote = subst (λ (d : ℕ). Wrote o n (commas d) o n) (sym z) (record { next = omega arith; text = refl });
     }
 
-pub skips-offsets : {row o o′ : List ℕ} {n at i : ℕ} → i ≡ 3 → true ≡ eqb (presentOf row / 2 ^ cOffset % 128) 0
+pub skips-offsets : {row o o′ : List ℕ} {n at i : ℕ} → i ≡ iColumn → true ≡ eqb (presentOf row / 2 ^ cOffset % 128) 0
     → Wrote o n (comma ∷ comma ∷ comma ∷ comma ∷ comma ∷ comma ∷ comma ∷ []) o′ at
-    → Skipped row o n i o′ (record { at = at; i = 10 })
+    → Skipped row o n i o′ (record { at = at; i = fColumn })
 unfolding commas
 skips-offsets {row} {o} {o′} {n} {at} {i} e h w =
-    let z : 10 - i ≡ 7 = omega arith in
+    let z : fColumn - i ≡ 7 = omega arith in
     let off : presentOf row / 2 ^ cOffset % 128 ≡ 0 = eqb-true (presentOf row / 2 ^ cOffset % 128) 0 (sym h) in
     record {
       ahead = omega arith;
       below = omega arith;
-      absent = λ (k : ℕ) (a : i ≤ k) (b : k < 10). offsets-off (presentOf row) off k (omega arith) b;
+      absent = λ (k : ℕ) (a : i ≤ k) (b : k < fColumn). offsets-off (presentOf row) off k (omega arith) b;
       wrote = subst (λ (d : ℕ). Wrote o n (commas d) o′ at) (sym z) w;
     }
 

@@ -9,6 +9,13 @@ use Rattle.csv_figures.specs.Out.{Wrote}
 use Rattle.csv_line.specs.LineText.{comma, columnCount, codeAt}
 use Rattle.csv_write.specs.declared.Passed.{Passed}
 
+-- the columns of I, behind those of the axes, and of F, the last
+abbrev pub iColumn : ℕ
+iColumn = 3
+
+abbrev pub fColumn : ℕ
+fColumn = columnCount - 1
+
 unfoldable pub commas : ℕ → List ℕ
 commas zero = []
 commas (suc k) = comma ∷ commas k
