@@ -1,10 +1,11 @@
--- `csv_out::warned` meets its contract. Assumes nothing.
+-- `csv_answer::warned` meets its contract. Assumes nothing.
 use mathlib.Core.Path.{_≡_, refl}
 use native.Mathlib.Omega.{arith}
-use Rattle.csv_out.specs.SayLaws.{note, no-note, notice-short, warning-none, warning-some}
+use Rattle.csv_out.specs.SayLaws.{note, no-note, notice-short}
+use Rattle.csv_answer.specs.AnswerLaws.{warning-none, warning-some}
 use borrow.Author.Needs.{needs}
-use Rattle.csv_out.proofs.warned.Statement.{statement}
-use Rattle.csv_out.proofs.warned.Tie as tie
+use Rattle.csv_answer.proofs.warned.Statement.{statement}
+use Rattle.csv_answer.proofs.warned.Tie as tie
 
 returns : tie.Need-returns
 returns c = no-note (warning-none _ _ (omega arith))

@@ -1,11 +1,12 @@
--- `csv_out::answered` meets its contract. Assumes nothing.
+-- `csv_answer::answered` meets its contract. Assumes nothing.
 use mathlib.Core.Path.{_≡_, refl}
 use native.Mathlib.Omega.{arith}
-use Rattle.csv_out.specs.SayLaws.{say-noted, say-rows, answer-refused, answer-bad, answer-done}
+use Rattle.csv_out.specs.SayLaws.{say-noted}
+use Rattle.csv_answer.specs.AnswerLaws.{say-rows, answer-refused, answer-bad, answer-done}
 use Rattle.csv_write.specs.Trying.{tried-bad, tried-good}
 use borrow.Author.Needs.{needs}
-use Rattle.csv_out.proofs.answered.Statement.{statement}
-use Rattle.csv_out.proofs.answered.Tie as tie
+use Rattle.csv_answer.proofs.answered.Statement.{statement}
+use Rattle.csv_answer.proofs.answered.Tie as tie
 
 refuse-requires : tie.Need-refuse-requires
 refuse-requires c κs = search needs
