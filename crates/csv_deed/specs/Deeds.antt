@@ -7,7 +7,7 @@ use Rattle.text_lines.specs.declared.Found.the-variants as Found
 use Rattle.text_lines.specs.declared.Turn.{Turn}
 use Rattle.text_lines.specs.Cut.{between}
 use Rattle.csv_out.specs.declared.Run.{Run}
-use Rattle.csv_io.specs.Status.{goesOn, ended}
+use Rattle.csv_status.specs.Status.{goesOn, ended}
 use Rattle.csv_step.specs.Line.{csvLine, csvEnd}
 use Rattle.csv_step.specs.Csv.{still}
 use Rattle.csv_step.specs.Steps.{Slices, standing, Stepped}

@@ -1,12 +1,12 @@
 // Where the reading of the row text program stands behind a turn, and whether the run goes on.
-use csv_io::ENDED;
-use csv_io::GOES_ON;
-use csv_io::NO_INPUT;
 use csv_out::Run;
+use csv_status::ENDED;
+use csv_status::GOES_ON;
+use csv_status::NO_INPUT;
 use text_lines::Turn;
 ghost use mathlib.Core.Path.{_≡_};
 ghost use Prim.Native.Nat.{_<_};
-ghost use Rattle.csv_io.specs.Status.{goesOn, ended};
+ghost use Rattle.csv_status.specs.Status.{goesOn, ended};
 ghost use Rattle.csv_reading.specs.Reading.{goingOf, behind};
 
 // Where the reading stands: the unread bytes of the input buffer are from `at` up to `end`.

@@ -4,7 +4,7 @@ use mathlib.Core.Path.{_≡_}
 use mathlib.Core.Bool.{false}
 use mathlib.Core.List.{List, [], _++_}
 use lib.ListN.{take}
-use Rattle.csv_io.specs.Status.{goesOn, ended}
+use Rattle.csv_status.specs.Status.{goesOn, ended}
 use Rattle.csv_step.specs.Csv.{begun, csvSpec, Begins}
 use Rattle.csv_step.specs.Steps.{Slices, standing}
 use Rattle.csv_reading.specs.declared.Reading.{Reading}

@@ -7,7 +7,7 @@ use mathlib.Core.List.{List, [], _++_, append-nil, append-assoc}
 use native.Mathlib.Omega.{arith}
 use lib.ListN.{length, take}
 use Rattle.text_lines.specs.Cut.{cut}
-use Rattle.csv_io.specs.Status.{goesOn, ended}
+use Rattle.csv_status.specs.Status.{goesOn, ended}
 use Rattle.csv_step.specs.Line.{Stand, Step, csvLine}
 use Rattle.csv_step.specs.Csv.{andThen, still, csvRest, begun, Whole, csvSpec, Begins}
 use Rattle.csv_step.specs.CsvLaws.{then-assoc, then-still, rest-whole, rest-end, rest-refused}

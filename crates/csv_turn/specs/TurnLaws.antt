@@ -17,7 +17,7 @@ use Rattle.csv_out.specs.declared.Run.{Run}
 use Rattle.csv_out.specs.SayLaws.{adds-within}
 use Rattle.csv_io.specs.declared.Left.{Left}
 use Rattle.csv_io.specs.Flush.{outRoom, errRoom, SameLines, Emptied}
-use Rattle.csv_io.specs.Status.{goesOn, ended}
+use Rattle.csv_status.specs.Status.{goesOn, ended}
 use Rattle.csv_step.specs.Line.{Stand, Step, csvLine, csvEnd}
 use Rattle.csv_step.specs.Csv.{still}
 use Rattle.csv_step.specs.Steps.{Slices, standing, Stepped}

@@ -7,7 +7,7 @@ use mathlib.Core.List.{List, [], _++_}
 use lib.ListN.{length, take}
 use Rattle.text_lines.specs.Cut.{cut}
 use Rattle.csv_io.specs.Flush.{outRoom, errRoom}
-use Rattle.csv_io.specs.Status.{goesOn, ended}
+use Rattle.csv_status.specs.Status.{goesOn, ended}
 use Rattle.csv_step.specs.Line.{Step, csvLine, csvEnd}
 use Rattle.csv_step.specs.Csv.{still, Begins}
 use Rattle.csv_step.specs.Steps.{Slices, standing}

@@ -2,17 +2,17 @@
 // Memory is of a fixed size: text_lines reads, csv_deed does what was found, csv_io writes what waits.
 use csv_deed::done;
 use csv_io::ERR_ROOM;
-use csv_io::GOES_ON;
 use csv_io::OUT_ROOM;
 use csv_io::emptied;
 use csv_out::LENT_ROWS;
 use csv_reading::Reading;
+use csv_status::GOES_ON;
 use layout::MOST_HELD;
 use layout::ROW_WORDS;
 use layout::STATE_WORDS;
 use text_lines::next_turn;
 ghost use mathlib.Core.Path.{_≡_};
-ghost use Rattle.csv_io.specs.Status.{goesOn};
+ghost use Rattle.csv_status.specs.Status.{goesOn};
 ghost use Rattle.csv_step.specs.Steps.{slices};
 ghost use Rattle.csv_turn.specs.Turns.{Within, TurnIs};
 

@@ -3,9 +3,9 @@
 use csv_ending::Ending;
 use csv_io::ERR_ROOM;
 use csv_io::OUT_ROOM;
-use csv_io::report;
-use csv_io::tell;
 use csv_run::whole_run;
+use csv_status::report;
+use csv_status::tell;
 use csv_turn::INPUT;
 use csv_turn::ROWS;
 use csv_turn::STORE;

@@ -1,7 +1,7 @@
 -- `csv_turn::step` meets its contract. Assumes nothing.
 use mathlib.Core.Path.{_≡_}
 use native.Mathlib.Omega.{arith}
-use Rattle.csv_io.specs.Status.{goesOn}
+use Rattle.csv_status.specs.Status.{goesOn}
 use Rattle.csv_turn.specs.TurnLaws.{turn-is, failed-turn}
 use borrow.Author.Needs.{needs}
 use Rattle.csv_turn.proofs.step.Statement.{statement}

@@ -1,10 +1,10 @@
--- `csv_io::status_of` meets its contract. Assumes nothing.
+-- `csv_status::status_of` meets its contract. Assumes nothing.
 use mathlib.Core.Path.{_≡_}
 use native.Mathlib.Omega.{arith}
 use borrow.Author.Tests.{eq-eqb, ne-eqb}
-use Rattle.csv_io.specs.Status.{ended, statusOf}
-use Rattle.csv_io.proofs.status_of.Statement.{statement}
-use Rattle.csv_io.proofs.status_of.Tie as tie
+use Rattle.csv_status.specs.Status.{ended, statusOf}
+use Rattle.csv_status.proofs.status_of.Statement.{statement}
+use Rattle.csv_status.proofs.status_of.Tie as tie
 
 returns : tie.Need-returns
 unfolding statusOf
