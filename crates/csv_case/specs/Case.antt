@@ -52,8 +52,8 @@ use Rattle.csv_read.specs.Reader as Reader
 use Rattle.csv_write.specs.Writer as Writer
 use Rattle.text_lines.specs.Cut as Cut
 use Rattle.csv_out.specs.Say as Say
-use Rattle.csv_step.specs.Csv as Csv
-use Rattle.csv_step.specs.Line as Line
+use Rattle.csv_spec.specs.Csv as Csv
+use Rattle.csv_spec.specs.Line as Line
 
 -- a line of text, with its end
 abbrev pub line : String → List ℕ

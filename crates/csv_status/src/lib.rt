@@ -1,8 +1,9 @@
-// How a run of the row text program stands, its status, and one line for what could not be done.
+// How a run of the row text program stands: whether it may end or goes on, its status, and one line for what failed.
 use libc::STDERR_FILENO;
+ghost use mathlib.Core.Logic.{_⊎_};
 ghost use mathlib.Core.Path.{_≡_};
-ghost use Prim.Native.Nat.{_≤_};
-ghost use Rattle.csv_status.specs.Status.{statusOf};
+ghost use Prim.Native.Nat.{_≤_, _<_};
+ghost use Rattle.csv_status.specs.Status.{goesOn, mayEnd, statusOf};
 
 // The descriptor of the status.
 const STATUS_FILENO: i32 = 3;
@@ -17,6 +18,24 @@ pub const NO_INPUT: u64 = 2;
 pub const NO_OUTPUT: u64 = 3;
 
 pub const NO_ERROR: u64 = 4;
+
+// Whether the input may end: behind its last line, and not before its header.
+pub fn may_end(left: usize, physical: u64) -> bool
+    ensures { λ r. ⌜ r ≡ mayEnd left physical ⌝ }
+{
+    if left != 0 {
+        return false;
+    }
+    if physical == 1 { false } else { true }
+}
+
+// The turns that are left: none once the run is over.
+pub fn turns_left(turns: u64, over: u64) -> u64
+    requires { ⌜ 0 < turns ⌝ }
+    ensures { λ r. ⌜ (r < turns) × ((over ≡ goesOn) ⊎ (r ≡ 0)) ⌝ }
+{
+    if over == GOES_ON { turns - 1 } else { 0 }
+}
 
 // One plain line that names what failed.
 pub fn tell(over: u64) -> bool {
