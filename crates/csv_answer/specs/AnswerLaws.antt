@@ -1,12 +1,13 @@
 -- LAWS. From what the writer of rows promises to the bytes that wait. Assumes nothing.
 use Prim.Native.Nat.{ℕ, _+_, _*_, _≤_, _<_}
-use mathlib.Core.Path.{_≡_, sym, ap, _∙_, subst}
+use mathlib.Core.Path.{_≡_, _∙_, subst}
 use mathlib.Core.Bool.{true, false}
 use mathlib.Core.List.{List, []}
 use native.Mathlib.Omega.{arith}
 use lib.ListN.{length}
 use borrow.Author.Tests.{eq-eqb, ne-eqb}
 use Rattle.floats.specs.Truth.{all-at}
+use Rattle.call_reply.specs.declared.Reply.{Reply}
 use Rattle.csv_figures.specs.declared.Placed.{Placed}
 use Rattle.csv_figures.specs.declared.Placed.the-variants as Placed
 use Rattle.csv_line.specs.Notice.{noticeText}
@@ -18,6 +19,7 @@ use Rattle.csv_out.specs.Say.{Say, badText, refusal}
 use Rattle.csv_out.specs.Said.{Adds, Noted, Said}
 use Rattle.csv_out.specs.SayLaws.{says, adds-text}
 use Rattle.csv_answer.specs.Answer.{warningText, answer}
+use Rattle.csv_answer.specs.Answers.{AnswerFits, Answers, said}
 
 pub rows-short : (rows : List ℕ) (k : ℕ) → rowsWritable rows k ≡ true → length (rowsText rows k) ≤ rowRoom * k
 unfolding rowsWritable rowsText
@@ -70,3 +72,15 @@ say-rows {p} source warning count rows {o} {o′} {e} {e′} {run} {mid} {r} {x}
       out = adds-text (rowsText rows count) o o′ (run .out) (r .out) h (n .out ∙ g .1) (w .text (g .0));
       err = subst (λ (k : ℕ). Adds (warningText source warning) e k e′ (r .err)) (k .err) (n .err);
     })
+
+-- ---- a call's answer at a source line: the run that says it differs in that line alone
+abbrev pub at : Run → ℕ → Run
+at run source = record { out = run .out; err = run .err; physical = run .physical; source = source; refused = run .refused }
+
+pub same-fits : {code count rows out err source : ℕ} {run : Run} → AnswerFits code count rows out err run
+    → AnswerFits code count rows out err (at run source)
+same-fits w = record { lent = w .lent; outs = w .outs; errs = w .errs }
+
+pub said-answers : {source : ℕ} {reply : Reply} {rows o e o′ e′ : List ℕ} {run r : Run}
+    → Said (said source reply rows) (at run source) o e r o′ e′ → Answers source reply rows run o e r o′ e′
+said-answers w = record { physical = w .physical; line = w .source; refused = w .refused; out = w .out; err = w .err }

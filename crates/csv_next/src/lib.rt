@@ -7,7 +7,6 @@ use csv_status::GOES_ON;
 use text_lines::Found;
 use text_lines::Turn;
 use text_lines::next_turn;
-ghost use Prim.Native.Nat.{_≤_};
 ghost use lib.ListN.{length};
 ghost use Rattle.csv_next.specs.Next.{Held, Ready};
 
