@@ -15,7 +15,7 @@ use Rattle.layout.specs.Layout.{rowWords, rLine, rMotion, rPresent, rCells, cOf
 use Rattle.row_cells.specs.Codes.{planeXY, planeU, planeV}
 use Rattle.row_cells.specs.Bits.{has}
 use Rattle.row_cells.specs.Row.{cell, number, shown, maskOf, rowOf, outRow, hasPoint}
-use Rattle.row_put.specs.Made.{rides, withRiders, madeRow}
+use Rattle.row_made.specs.Made.{rides, withRiders, madeRow}
 use Rattle.arc_rows.specs.Arc.{Answer, passed, silent, sideOf, crCentre, centreOf, radius, wideCentre, agree, sweepLeft, sweepOf}
 use Rattle.arc_rows.specs.Arc.{turned, arcOf, stepOf, wantedOf, countOf, ramp, lastCell, midCell, arcRow, heldAxes, arcRows}
 use Rattle.arc_rows.specs.Arc.{fromCentre, fromStart, arcAnswer}

@@ -11,7 +11,7 @@ use Rattle.floats.specs.Lists.{upto}
 use Rattle.layout.specs.Layout.{axisCodes, rowWords}
 use Rattle.motion.specs.Motion.{gOne}
 use Rattle.row_cells.specs.Row.{shown, axesOf}
-use Rattle.row_put.specs.Made.{madeRow}
+use Rattle.row_made.specs.Made.{madeRow}
 use Rattle.arc_numbers.specs.Arc.{Ends}
 use Rattle.arc_numbers.specs.Types.{arcIs}
 use Rattle.arc_words.specs.Words.{sampleWord, lastWord}

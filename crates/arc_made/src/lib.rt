@@ -36,14 +36,14 @@ pub fn put_mid_row(
     let c = d.c;
     let mut words = [0u64; layout::AXIS_CODES];
     arc_words::put_sample(&mut words, c, d.u, d.v, starts, spans, f);
-    let made = row_put::Made {
+    let made = row_made::Made {
         axes: d.gs,
         mask: d.mask,
         first: k == 1,
         motion: G1,
         marked: true,
     };
-    row_put::put_made(rows, place, row, made, &words);
+    row_made::put_made(rows, place, row, made, &words);
 }
 
 pub fn put_last_row(
@@ -60,12 +60,12 @@ pub fn put_last_row(
 {
     let mut words = [0u64; layout::AXIS_CODES];
     arc_words::put_last(&mut words, row, e, d.u, d.v);
-    let made = row_put::Made {
+    let made = row_made::Made {
         axes: d.gs,
         mask: d.mask,
         first: first,
         motion: G1,
         marked: false,
     };
-    row_put::put_made(rows, place, row, made, &words);
+    row_made::put_made(rows, place, row, made, &words);
 }

@@ -12,7 +12,7 @@ use Rattle.floats.specs.Fill.{length-upto}
 use Rattle.motion.specs.Motion.{gOne}
 use Rattle.row_cells.specs.Codes.{planeU, planeV}
 use Rattle.row_cells.specs.Row.{motionOf, planeOf, markOf, carryOf, rowOf}
-use Rattle.row_put.specs.Made.{madeRow}
+use Rattle.row_made.specs.Made.{madeRow}
 use Rattle.floats.specs.Truth.{by-bit}
 use Rattle.arc_rows.specs.Arc.{mostArcRows, Answer, passed, silent, Ends, Arc, Centre, centred, warned, wantedOf, countOf}
 use Rattle.arc_rows.specs.Arc.{arcRow, arcRows, fromCentre, fromStart, arcAnswer}

@@ -21,7 +21,7 @@ use Rattle.row_cells.specs.Bits.{has}
 use Rattle.row_cells.specs.Row.{cell, shown, presentOf, axesOf}
 use Rattle.floats.specs.Truth.{by-bit}
 use Rattle.row_cells.specs.Masks.{mask-lt, has-mask, has-past, member-small}
-use Rattle.row_put.specs.MadeLaws.{made-same, length-made}
+use Rattle.row_made.specs.MadeLaws.{made-same, length-made}
 use Rattle.arc_numbers.specs.Arc.{Ends, Arc, angleAt, radiusAt}
 use Rattle.arc_sample.specs.Rowing.{Rowing, rowing-same, rowing-more}
 use Rattle.arc_words.specs.Words.{drawn, drawnMask, startOf, spanOf, rampOf, sampleWord, endWord, lastWord}

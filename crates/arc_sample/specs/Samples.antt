@@ -12,7 +12,7 @@ use Rattle.arc_numbers.specs.Arc.{Ends, Arc, angleAt, radiusAt}
 use Rattle.motion.specs.Motion.{gOne}
 use Rattle.row_cells.specs.Codes.{planeU, planeV}
 use Rattle.row_cells.specs.Row.{cell}
-use Rattle.row_put.specs.Made.{madeRow}
+use Rattle.row_made.specs.Made.{madeRow}
 
 -- an axis outside the plane goes evenly from its start to its end; it stays at its end where the start is not known
 unfoldable pub ramp : Option ℕ → ℕ → Float → Float

@@ -9,7 +9,7 @@ use bspline_channels::project_three;
 use bspline_channels::project_tops;
 use bspline_low::four::fourth_in;
 use bspline_low::low::shares_in;
-use bspline_tables::span::span_of;
+use bspline_span::span_of;
 use curve_metric::WIDEST;
 use layout::MOST_POINTS;
 ghost use mathlib.Core.Path.{_≡_};

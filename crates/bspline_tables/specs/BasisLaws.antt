@@ -1,7 +1,7 @@
 -- LAWS. A B-spline's runs: one a control point after the start, end to end all samples in curve order. Assumes nothing.
 use mathlib.Core.Path.{_≡_, refl, sym, ap, _∙_}
 use mathlib.Core.Bool.{Bool, true, false, cond}
-use mathlib.Core.List.{List, [], _∷_, _++_, map}
+use mathlib.Core.List.{List, [], _∷_, _++_, map, map-append}
 use mathlib.Core.Logic.{_⊎_, ⊎-elim}
 use Prim.Native.Nat.{ℕ, zero, suc, _+_, _-_, _≤_, _<_}
 use native.Mathlib.Nat.{eq-or-lt-of-le}
@@ -12,8 +12,8 @@ use lib.Ieee.{Float, lt}
 use borrow.Author.Tests.{le-leb, lt-leb, eq-eqb, ne-eqb}
 use Rattle.floats.specs.Lists.{upto, keep, flatten}
 use Rattle.floats.specs.Fill.{length-upto, at-upto, lt-or-le}
+use Rattle.floats.specs.Joins.{flatten-snoc, keep-here, keep-not}
 use Rattle.curve_metric.specs.Walk.{Sample}
-use Rattle.bspline_tables.specs.Joins.{flatten-snoc, map-append, keep-here, keep-not}
 use Rattle.bspline_tables.specs.Basis.{Bspline, basisOf, basisSamples, greville, ownerFrom, Owned, owned, runOf, basisRuns}
 
 abbrev pub pointIs : Owned → List Float

@@ -10,11 +10,11 @@ use lib.Ieee.{Float}
 use borrow.Author.Tests.{eq-eqb}
 use Rattle.floats.specs.Numbers.{ofNat}
 use Rattle.floats.specs.Lists.{upto, keep, flatten}
+use Rattle.floats.specs.Joins.{flatten-snoc, keep-append, keep-here, keep-none}
 use Rattle.layout.specs.Layout.{mostPoints}
 use Rattle.curve_metric.specs.Walk.{Sample, depth, samples}
 use Rattle.curve_metric.specs.WalkLaws.{samples-end}
 use Rattle.curve_metric.specs.Ends.{EndsWith, ends-one, ends-append, ends-map}
-use Rattle.bspline_tables.specs.Joins.{flatten-snoc, keep-append, keep-here, keep-none}
 use Rattle.bspline_tables.specs.Basis.{Bspline, degreeOf, spansOf, basisOf, evalBasis, basisSamples, ownerFrom, Owned, owned, runOf, basisRuns}
 use Rattle.bspline_tables.specs.BasisLaws.{pointIs, run-at, owner-in}
 use Rattle.bspline_tables.specs.LastOwner.{last-owner}

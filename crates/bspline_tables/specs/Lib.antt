@@ -1,7 +1,6 @@
 pub mod Basis
 pub mod BasisLaws
 pub mod EndPoint
-pub mod Joins
 pub mod LastOwner
 pub mod LastRun
 pub mod RowLaws

@@ -13,6 +13,7 @@ use borrow.Rule.Slice.PartMut.{putMid, postOf, post-is}
 use Rattle.floats.specs.Numbers.{at}
 use Rattle.floats.specs.Lists.{filled, row}
 use Rattle.floats.specs.Fill.{length-filled, at-filled}
+use Rattle.floats.specs.Parts.{part, length-part}
 use Rattle.bspline_tables.specs.Tables.{Rows}
 
 pub copied : (src dst : List Float) {i : ℕ} {xs : List Float} → length src ≡ length dst → i ≡ length dst → xs ≡ filled (at src) i dst → xs ≡ src
@@ -22,9 +23,6 @@ copied src dst {i} {xs} h ei e = e ∙ ext-getD nan (filled (at src) i dst) src
 
 pub within : (c m w a len : ℕ) → c < m → m * w ≤ len → a ≡ c * w → a + w ≤ len
 within c m w a len h hl e = rw (e, ← suc-mul c w) (le-trans (mul-le-mul-right w h) hl)
-
-pub next-row : (k n a : ℕ) → a ≡ k * n → a + n ≡ (k + 1) * n
-next-row k n a e = rw (add-one, suc-mul, e)
 
 -- of xs, which was l: rows before c are f 0 .. f (c - 1), and the others up to m are as they were
 pub record Rowing (l xs : List Float) (w m c : ℕ) (f : ℕ → List Float) : Type 0 where
@@ -110,17 +108,6 @@ rowing-more {l} {xs} {w} {m} {c} {a} {f} ys r h fit ea n e =
         omega arith
 
 -- ---- a row lent as a part of the slice, and back
-
-abbrev pub part : List Float → ℕ → ℕ → List Float
-part xs a n = take (a + n - a) (drop a xs)
-
-pub length-part : (xs : List Float) (a n : ℕ) → a + n ≤ length xs → length (part xs a n) ≡ n
-length-part xs a n h = length-take-le (a + n - a) (drop a xs) (rw length-drop (omega arith)) ∙ omega arith
-
-pub part-row : (xs : List Float) (k n a : ℕ) → a ≡ k * n → part xs a n ≡ row xs n k
-part-row xs k n a e =
-    let s : k * n + n - k * n ≡ n = omega arith in
-    rw (e, s)
 
 pub part-length : {l xs : List Float} {w m c a : ℕ} {f : ℕ → List Float} → Rowing l xs w m c f → c < m → m * w ≤ length l → a ≡ c * w → length (part xs a w) ≡ w
 part-length {l} {xs} {w} {m} {c} {a} r h fit ea = length-part xs a w (within c m w a (length xs) h (omega (arith, r .same)) ea)

@@ -1,13 +1,14 @@
--- LAWS. The knot span of a parameter lies below the last knot. Assumes nothing.
+-- LAWS. A number of points is a float, and the knot span of a parameter lies below the last knot. Assumes nothing.
 use mathlib.Core.Path.{_≡_, refl, sym, ap, _∙_, subst}
 use mathlib.Core.Bool.{Bool, true, false, _&&_, _||_, cond, true≢false}
 use mathlib.Core.Logic.{_⊎_, ⊎-elim}
 use Prim.Native.Nat.{ℕ, _+_, _-_, _*_, _/_, _^_, _<_, _≤_}
 use native.Mathlib.Nat.{mul-one, mul-right-comm, mul-le-mul-right, lt-of-mul-lt-mul-right, div-lt-iff-lt-mul}
 use native.Mathlib.Omega.{arith}
-use lib.Dec.{ltb, eqb}
+use lib.Dec.{T, ltb, eqb, le→leb}
+use lib.IntN.{pos}
 use lib.Ieee as Ieee
-use lib.Ieee.{Float, nan, inf, fin, up, down, lt, le, eq}
+use lib.Ieee.{Float, binary64, nan, inf, fin, up, down, lt, le, eq}
 use lib.Ieee.Fits.{down-pos}
 use lib.Ieee.Exact.{HasValue}
 use borrow.Author.Tests.{ltb-false, eq-eqb, lt-ltb}
@@ -16,6 +17,10 @@ use Rattle.floats.specs.FloatLaws.{whole-value}
 use Rattle.layout.specs.Layout.{mostPoints}
 use Rattle.whole.specs.Whole.{truncCount}
 use Rattle.bspline_tables.specs.Tables.{spanIn}
+
+pub whole-in : (n : ℕ) → n ≤ mostPoints → T (Ieee.inFloat binary64 (pos n))
+unfolding Ieee.inFloat
+whole-in n h = le→leb n 9007199254740992 (omega arith)
 
 or-false : (a b : Bool) → (a || b) ≡ false → a ≡ false
 or-false true b h = h

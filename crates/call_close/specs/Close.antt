@@ -1,23 +1,15 @@
 -- DEFINITIONS. What a close answers and leaves: rules 2.20, 3.15. Assumes nothing.
 use Prim.Native.Nat.{ℕ}
-use mathlib.Core.Bool.{Bool, cond}
+use mathlib.Core.Bool.{cond}
 use mathlib.Core.List.{List, []}
 use lib.ListN.{length}
 use lib.Dec.{eqb}
 use Rattle.floats.specs.Lists.{flatten, spliced}
 use Rattle.saved_state.specs.State.{held, savedCheck}
-use Rattle.call_reply.specs.declared.Reply.{Reply}
-use Rattle.call_reply.specs.Replies.{plain, After, tooFew}
-use Rattle.call_close.specs.Held.{emission}
-use Rattle.push_state.specs.Pushed.{forgotten}
-use Rattle.spline_write.specs.Room.{hasRoom}
-
--- 2.3: a refusal leaves every word
-unfoldable pub untouched : Reply → List ℕ → List ℕ → List ℕ → After
-untouched p st store rows = record { reply = p; state = st; store = store; rows = rows }
-
-abbrev pub fits : List (List ℕ) → List ℕ → Bool
-fits out rows = hasRoom (length out) rows
+use Rattle.call_reply.specs.Replies.{plain, After, tooFew, untouched}
+use Rattle.spline_put.specs.Held.{emission}
+use Rattle.push_start.specs.Opened.{forgotten}
+use Rattle.spline_write.specs.Room.{fits}
 
 unfoldable pub closeRows : List ℕ → List ℕ → List (List ℕ)
 closeRows st store = cond (eqb (held st) 0) [] (emission st store)

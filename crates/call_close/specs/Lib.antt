@@ -1,4 +1,1 @@
-pub mod Held
 pub mod Close
-pub mod Emitted
-pub mod EmittedLaws

@@ -13,19 +13,21 @@ use Rattle.floats.specs.Splice.{spliced-none, spliced-spliced}
 use Rattle.layout.specs.Layout.{rowWords, mostHeld}
 use Rattle.row_check.specs.Check.{rowCheck}
 use Rattle.floats.specs.Truth.{by-bit, cond-t, cond-f}
+use Rattle.floats.specs.Joins.{flatten-append}
 use Rattle.arc_rows.specs.declared.Plan.{Plan}
 use Rattle.saved_state.specs.State.{held, savedCheck}
 use Rattle.call_reply.specs.declared.Reply.{Reply}
-use Rattle.call_reply.specs.Replies.{plain, After, tooFew, doneReply, PushIs}
+use Rattle.call_reply.specs.Replies.{plain, After, tooFew, doneReply, PushIs, untouched}
 use Rattle.call_reply.specs.ReplyLaws.{answers}
-use Rattle.push_check.specs.Blocks.{emits, isFull, news, pushCheck}
-use Rattle.push_check.specs.declared.Resolved.{Resolved}
-use Rattle.push_check.specs.Resolved.{resolved, due}
+use Rattle.push_resolve.specs.Blocks.{emits, news}
+use Rattle.push_check.specs.Refusal.{isFull, pushCheck}
+use Rattle.push_resolve.specs.declared.Resolved.{Resolved}
+use Rattle.push_resolve.specs.Resolved.{resolved}
+use Rattle.push_check.specs.Due.{due}
 use Rattle.push_rows.specs.Answer.{ownAnswer}
 use Rattle.push_state.specs.Pushed.{pushState, pushStore}
-use Rattle.call_close.specs.Held.{emission}
+use Rattle.spline_put.specs.Held.{emission}
 use Rattle.call_push.specs.Push.{pushRows, pushDone, pushSpec}
-use Rattle.call_close.specs.Close.{untouched}
 use Rattle.saved_state.specs.Checked.{saved-ok}
 use Rattle.saved_state.specs.StateLaws.{good, good-few}
 use Rattle.push_rows.specs.Own.{Ready, OwnPlanned, ownRows}
@@ -33,13 +35,12 @@ use Rattle.push_rows.specs.OwnLaws.{ready}
 use Rattle.spline_write.specs.Room.{putWithin}
 use Rattle.call_push.specs.Before.{before}
 use Rattle.call_push.specs.BeforeLaws.{before-words}
-use Rattle.call_close.specs.Emitted.{Put}
-use Rattle.call_close.specs.EmittedLaws.{room-left, room-short, put-refused, put-written}
+use Rattle.spline_put.specs.Emitted.{Put}
+use Rattle.spline_put.specs.EmittedLaws.{room-left, room-short, put-refused, put-written}
 use Rattle.push_rows.specs.Few.{few-own}
 use Rattle.push_check.specs.declared.Due.the-variants.{Refused, Push}
-use Rattle.push_check.specs.BlockLaws.{due-refused, due-push}
+use Rattle.push_check.specs.DueLaws.{due-refused, due-push}
 use Rattle.call_push.specs.Settle.{Passed, Settles, settled}
-use Rattle.spline_channels.specs.Flat.{flatten-append}
 
 -- what a push that passes its checks has
 pub record Passes (st store r : List ℕ) : Type 0 where

@@ -7,7 +7,7 @@ use lib.ListN.{length}
 use Rattle.floats.specs.Lists.{flatten}
 use Rattle.layout.specs.Layout.{rowWords}
 use Rattle.floats.specs.Truth.{by-bit}
-use Rattle.call_close.specs.EmittedLaws.{emission-words}
+use Rattle.spline_put.specs.EmittedLaws.{emission-words}
 use Rattle.call_push.specs.Before.{before}
 
 pub before-words : (e : Bool) (st store : List ℕ) → length (flatten (before e st store)) ≡ length (before e st store) * rowWords

@@ -5,10 +5,11 @@ use mathlib.Core.List.{List, _++_}
 use lib.ListN.{length}
 use lib.Dec.{eqb}
 use Rattle.floats.specs.Lists.{flatten, spliced}
-use Rattle.call_reply.specs.Replies.{plain, tooFew, After}
-use Rattle.call_close.specs.Held.{emission}
-use Rattle.call_close.specs.Close.{untouched, fits}
-use Rattle.push_check.specs.Blocks.{emits, news, pushCheck}
+use Rattle.call_reply.specs.Replies.{plain, tooFew, After, untouched}
+use Rattle.spline_put.specs.Held.{emission}
+use Rattle.spline_write.specs.Room.{fits}
+use Rattle.push_resolve.specs.Blocks.{emits, news}
+use Rattle.push_check.specs.Refusal.{pushCheck}
 use Rattle.push_rows.specs.Answer.{ownAnswer}
 use Rattle.push_state.specs.Pushed.{pushState, pushStore}
 

@@ -8,9 +8,10 @@ use Rattle.floats.specs.Lists.{flatten, spliced}
 use Rattle.layout.specs.Layout.{rowWords, mostHeld}
 use Rattle.arc_rows.specs.declared.Plan.{Plan}
 use Rattle.saved_state.specs.State.{held}
-use Rattle.push_check.specs.Blocks.{isFull, news, pushCheck}
-use Rattle.push_check.specs.declared.Resolved.{Resolved}
-use Rattle.push_check.specs.Resolved.{resolved}
+use Rattle.push_resolve.specs.Blocks.{news}
+use Rattle.push_check.specs.Refusal.{isFull, pushCheck}
+use Rattle.push_resolve.specs.declared.Resolved.{Resolved}
+use Rattle.push_resolve.specs.Resolved.{resolved}
 use Rattle.push_state.specs.Pushed.{pushState, pushStore}
 use Rattle.push_rows.specs.Own.{Ready, OwnPlanned, ownRows}
 use Rattle.call_reply.specs.Replies.{After, doneReply}

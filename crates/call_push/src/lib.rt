@@ -1,6 +1,5 @@
 // Pushing a block: what it is due, the held spline that goes out before it, its own rows, the store, the state, the reply.
 use arc_rows::Plan;
-use call_close::put_emission;
 use call_reply::Reply;
 use call_reply::done_reply;
 use call_reply::plain_reply;
@@ -9,10 +8,11 @@ use layout::ROW_WORDS;
 use push_after::push_state;
 use push_after::push_store;
 use push_check::Due;
-use push_check::Resolved;
 use push_check::check_push;
+use push_resolve::Resolved;
 use push_rows::plan_own;
 use push_rows::write_own;
+use spline_put::put_emission;
 use spline_write::has_room;
 ghost use mathlib.Core.Path.{_≡_};
 ghost use mathlib.Core.Bool.{cond};
@@ -20,7 +20,7 @@ ghost use Prim.Native.Nat.{_≤_};
 ghost use Rattle.spline_write.specs.Emits.{mostOwn};
 ghost use Rattle.saved_state.specs.State.{savedCheck};
 ghost use Rattle.call_reply.specs.Replies.{PushIs};
-ghost use Rattle.call_close.specs.Emitted.{Put};
+ghost use Rattle.spline_put.specs.Emitted.{Put};
 ghost use Rattle.call_push.specs.Before.{before};
 ghost use Rattle.call_push.specs.Push.{pushSpec};
 ghost use Rattle.call_push.specs.Settle.{Passed, Settles, settled};

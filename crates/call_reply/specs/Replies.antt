@@ -39,3 +39,7 @@ pub record PushIs (p : After) (r : Reply) (s t u : List ℕ) : Type 0 where
   pub state : s ≡ p .state
   pub store : t ≡ p .store
   pub rows : u ≡ p .rows
+
+-- 2.3: a refusal leaves every word
+unfoldable pub untouched : Reply → List ℕ → List ℕ → List ℕ → After
+untouched p st store rows = record { reply = p; state = st; store = store; rows = rows }

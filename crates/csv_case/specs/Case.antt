@@ -14,8 +14,9 @@ use Rattle.trig.specs.Trig as Trig
 use Rattle.row_cells.specs.Bits as Bits
 use Rattle.row_cells.specs.Codes as Codes
 use Rattle.row_cells.specs.Row as Row
+use Rattle.row_numbers.specs.RowNumbers as RowNumbers
 use Rattle.row_check.specs.Check as Check
-use Rattle.row_put.specs.Made as Made
+use Rattle.row_made.specs.Made as Made
 use Rattle.arc_centre.specs.Centre as Centre
 use Rattle.arc_numbers.specs.Arc as Arc
 use Rattle.arc_sample.specs.Samples as Samples
@@ -33,13 +34,15 @@ use Rattle.spline_places.specs.Groups as Groups
 use Rattle.spline_curve.specs.Runs as Curves
 use Rattle.spline_plan.specs.Emission as Emission
 use Rattle.saved_state.specs.State as State
-use Rattle.push_check.specs.Blocks as Blocks
+use Rattle.push_resolve.specs.Blocks as Blocks
+use Rattle.push_check.specs.Refusal as Refusal
+use Rattle.push_start.specs.Opened as Opened
 use Rattle.push_state.specs.Pushed as Pushed
 use Rattle.push_rows.specs.Answer as Answer
 use Rattle.call_reply.specs.Replies as Replies
 use Rattle.call_start.specs.Start as Start
 use Rattle.call_close.specs.Close as Close
-use Rattle.call_close.specs.Held as Held
+use Rattle.spline_put.specs.Held as Held
 use Rattle.call_push.specs.Push as Push
 use Rattle.csv_decimal.specs.Decimal as Decimal
 use Rattle.csv_fields.specs.Read as Read
@@ -52,8 +55,9 @@ use Rattle.csv_read.specs.Reader as Reader
 use Rattle.csv_write.specs.Writer as Writer
 use Rattle.text_lines.specs.Cut as Cut
 use Rattle.csv_out.specs.Say as Say
-use Rattle.csv_step.specs.Csv as Csv
-use Rattle.csv_step.specs.Line as Line
+use Rattle.csv_answer.specs.Answer as Answered
+use Rattle.csv_spec.specs.Csv as Csv
+use Rattle.csv_spec.specs.Line as Line
 
 -- a line of text, with its end
 abbrev pub line : String → List ℕ
@@ -64,9 +68,9 @@ unfoldable pub says : List ℕ → Csv.Whole
 unfolding Lists.all Lists.anyOf Lists.flatten Lists.keep Lists.member Lists.spliced Lists.upto Motion.isBasis Motion.isCubic Motion.isOther
     Motion.isSpline Motion.kindOf Root.floorRoot Root.rootUnits Root.sqrt Whole.ceilCount Whole.halfUpCount Whole.truncCount Trig.acosSteps
     Trig.atan2Steps Trig.atanFrom Trig.atanLeft Trig.atanRight Trig.atanUp Trig.cosSteps Trig.sinSteps Bits.has Bits.withBit Codes.geometricOf
-    Codes.planeOk Codes.planeU Codes.planeV Row.cell Row.hasPoint Row.maskOf Row.number Row.outRow Row.rowOf Check.above1000 Check.cellOk
-    Check.numbersOk Check.rowCheck Check.shapeOk Check.turnOk Check.within Made.madeRow Made.rides Made.withRiders Centre.centreOf Centre.crCentre
-    Centre.radius Centre.sideOf Centre.wideCentre Arc.agree Arc.arcOf Arc.countOf Arc.stepOf Arc.sweepLeft Arc.sweepOf Arc.turned Arc.wantedOf
+    Codes.planeOk Codes.planeU Codes.planeV Row.cell Row.hasPoint Row.maskOf Row.number Row.outRow Row.rowOf RowNumbers.above1000 RowNumbers.cellOk
+    RowNumbers.numbersOk Check.rowCheck Check.shapeOk RowNumbers.turnOk RowNumbers.within Made.madeRow Made.rides Made.withRiders Centre.centreOf
+    Centre.crCentre Centre.radius Centre.sideOf Centre.wideCentre Arc.agree Arc.arcOf Arc.countOf Arc.stepOf Arc.sweepLeft Arc.sweepOf Arc.turned Arc.wantedOf
     Samples.arcRow Samples.lastCell Samples.midCell Samples.ramp ArcRowsArc.arcAnswer ArcRowsArc.arcRows ArcRowsArc.fromCentre ArcRowsArc.fromStart
     ArcRowsArc.heldAxes ArcRowsArc.passed ArcRowsArc.silent Metric.along Metric.chordTo Metric.chords Metric.deviationOf Metric.distTo Metric.dotTo
     Metric.lenTo Walk.flat Walk.near Walk.samples Slopes.akimaAt Slopes.akimaSlope Slopes.bend Slopes.bendBack Slopes.bent Slopes.cubicSlope
@@ -76,15 +80,15 @@ unfolding Lists.all Lists.anyOf Lists.flatten Lists.keep Lists.member Lists.spli
     Points.firstCell Measured.metricOf Points.nextPoint Channels.placeOf Channels.pointRows Points.pointsFrom Points.startPoint Points.weightOf
     Groups.heldGroup Groups.isMarked Groups.ownCell Groups.pointGroup Groups.sampleCell Curves.runsOf Emission.splineGroups State.axesOk
     State.codeOk State.codesOk State.geometric State.heldOk State.heldRowOk State.heldRows State.placed State.pointAtOk State.pointOk State.pointWord
-    State.savedCheck State.stateOk State.storeOk State.tolOk Blocks.emits Blocks.isFull Blocks.kept Blocks.news Blocks.orNow Blocks.pushCheck
-    Pushed.buffered Pushed.degreeWith Pushed.forgotten Pushed.opened Pushed.pushState Pushed.pushStore Pushed.trackTo Answer.answerAs Answer.ownAnswer
-    Replies.tooFew Start.fresh Start.freshWord Start.startSpec Close.closeRows Close.closeSpec Close.closeState Close.untouched Held.emission
+    State.savedCheck State.stateOk State.storeOk State.tolOk Blocks.emits Refusal.isFull Blocks.kept Blocks.news Blocks.orNow Refusal.pushCheck
+    Pushed.buffered Pushed.degreeWith Opened.forgotten Opened.opened Pushed.pushState Pushed.pushStore Pushed.trackTo Answer.answerAs Answer.ownAnswer
+    Replies.tooFew Start.fresh Start.freshWord Start.startSpec Close.closeRows Close.closeSpec Close.closeState Replies.untouched Held.emission
     Held.heldSpline Push.pushDone Push.pushRows Push.pushSpec Decimal.millionths Decimal.quotient Decimal.widthFrom Read.fraction Read.lineNumber Read.num
     Read.number Read.run Read.unsigned Write.figures Write.millionthsText Write.numberText Words.motionOf Words.planeOf Words.seek LineText.endOf
     LineText.joined LineText.parted LineText.tailed Notice.noticeText Reader.cellIn Cells.cellOk Reader.cellsIn Cells.cellsOk Reader.fromCells
     Cells.given Reader.readRow Writer.cellShown Writer.cellText Writer.cellTexts Writer.headOk Writer.markText Writer.outFields Writer.rowFields
-    Writer.rowText Writer.rowsText Writer.rowsWritable Writer.writable Cut.linesFrom Cut.restFrom Say.answer Say.heading Say.nextLine Say.refusal
-    Say.warningText Csv.begun Csv.csvFinish Csv.csvLines Csv.csvRest Csv.csvSpec Line.csvClose Line.csvEnd Line.csvLine Line.onRow Line.onText
+    Writer.rowText Writer.rowsText Writer.rowsWritable Writer.writable Cut.linesFrom Cut.restFrom Answered.answer Say.heading Say.nextLine Say.refusal
+    Answered.warningText Csv.begun Csv.csvFinish Csv.csvLines Csv.csvRest Csv.csvSpec Line.csvClose Line.csvEnd Line.csvLine Line.onRow Line.onText
     Line.unread Ieee.add Ieee.sub Ieee.mul Ieee.div Ieee.rem Ieee.neg Ieee.lt Ieee.le Ieee.eq Ieee.ofBits Ieee.toBits Ieee.ofInt
 says input = Csv.csvSpec input
 

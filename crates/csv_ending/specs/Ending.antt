@@ -1,6 +1,6 @@
 -- CONTRACTS. The end of a run of the row text program. Assumes nothing.
 use mathlib.Core.Path.{_≡_}
-use Rattle.csv_io.specs.Status.{ended}
+use Rattle.csv_status.specs.Status.{ended}
 use Rattle.csv_reading.specs.declared.Reading.{Reading}
 use Rattle.csv_ending.specs.declared.Ending.{Ending}
 

@@ -1,10 +1,10 @@
 // The end of a run of the row text program: what still waits is written.
 use csv_io::ERR_ROOM;
-use csv_io::GOES_ON;
-use csv_io::NO_INPUT;
 use csv_io::OUT_ROOM;
 use csv_io::flush;
 use csv_reading::Reading;
+use csv_status::GOES_ON;
+use csv_status::NO_INPUT;
 ghost use Prim.Native.Nat.{_≤_};
 ghost use Rattle.csv_io.specs.Flush.{outRoom, errRoom};
 ghost use Rattle.csv_ending.specs.Ending.{LastIs};

@@ -3,8 +3,9 @@ use mathlib.Core.Path.{_≡_, refl, ap, _∙_}
 use Prim.Native.Nat.{ℕ, _+_, _-_, _*_, _^_, _≤_, _<_}
 use native.Mathlib.Omega.{arith}
 use native.Mathlib.Numerals.{add-one}
-use mathlib.Core.Bool.{Bool, true, false}
+use mathlib.Core.Bool.{Bool, true, false, cond}
 use mathlib.Core.List.{List, [], _∷_}
+use lib.Dec.{eqb}
 use lib.ListN.{length, take, drop, getD, length-drop}
 use lib.Seq.{take-all}
 use lib.Ieee.{Float}
@@ -80,6 +81,17 @@ minus-in t h r q = rw (eq-eqb (getD t 0 0) 45 h) (q ∙ ap (unsigned true) (tail
 pub no-minus : (t : List ℕ) → (getD t 0 0 ≡ 45 → ⊥) → (r : Number) → r ≡ unsigned false t → r ≡ number t
 unfolding number
 no-minus t h r q = rw (ne-eqb (getD t 0 0) 45 h) q
+
+-- what stands behind the sign, where there is one
+pub signed : (t : List ℕ) (m : Bool) (a : ℕ) → m ≡ eqb (getD t 0 0) 45 → a ≡ cond m 1 0 → (r : Number) → r ≡ unsigned m (take (length t - a) (drop a t))
+    → r ≡ number t
+unfolding number
+signed t m a e w r q = q ∙ ap (unsigned m) (tail-is t a) ∙ go m e w
+  where
+    go : (m : Bool) → m ≡ eqb (getD t 0 0) 45 → a ≡ cond m 1 0
+        → unsigned m (drop a t) ≡ cond (eqb (getD t 0 0) 45) (unsigned true (drop 1 t)) (unsigned false t)
+    go true e w = rw (← e) (ap (λ (k : ℕ). unsigned true (drop k t)) w)
+    go false e w = rw (← e) (ap (λ (k : ℕ). unsigned false (drop k t)) w)
 
 module _ (t : List ℕ) (k v : ℕ) (e : k ≡ run 10 t) (w : v ≡ num 0 (take k t)) where
   pub line-none : k ≡ 0 → Line.Bad ≡ lineNumber t

@@ -2,6 +2,8 @@
 use layout::LINE_NUMBERS;
 ghost use mathlib.Core.Path.{_≡_};
 ghost use Prim.Native.Nat.{_≤_, _<_};
+ghost use mathlib.Core.Bool.{cond};
+ghost use lib.Dec.{eqb};
 ghost use lib.ListN.{take};
 ghost use Rattle.csv_fields.specs.Read.{run, num, fraction, unsigned, number, lineNumber};
 
@@ -81,17 +83,30 @@ fn read_unsigned(minus: bool, s: &[u8]) -> Number
     Number::Bad
 }
 
-// The number that the text s is.
+fn is_minus(b: u8) -> bool
+    ensures { λ r. ⌜ r ≡ eqb b 45 ⌝ }
+{
+    b == b'-'
+}
+
+// How many bytes the sign takes.
+fn sign_width(minus: bool) -> usize
+    ensures { λ r. ⌜ (r ≡ cond minus 1 0) × (r ≤ 1) ⌝ }
+{
+    if minus { 1 } else { 0 }
+}
+
+// The number that the text s is. What stands behind the sign is read in one place, whatever the sign, so that its code is laid
+// where it is used: a call of it for each sign costs more than the reading of a digit.
 pub fn read_number(s: &[u8]) -> Number
     ensures { λ r. ⌜ r ≡ number (now (s .entry)) ⌝ }
 {
     if s.len() == 0 {
         return Number::Bad;
     }
-    if s[0] == b'-' {
-        return read_unsigned(true, &s[1..]);
-    }
-    read_unsigned(false, s)
+    let minus = is_minus(s[0]);
+    let from = sign_width(minus);
+    read_unsigned(minus, &s[from..])
 }
 
 // The line number that the text s is.

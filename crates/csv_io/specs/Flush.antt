@@ -7,7 +7,7 @@ use Rattle.csv_out.specs.declared.Run.{Run}
 use Rattle.csv_out.specs.Say.{noticeRoom, callRoom}
 use Rattle.csv_io.specs.declared.Sent.{Sent}
 use Rattle.csv_io.specs.declared.Left.{Left}
-use Rattle.csv_io.specs.Status.{ended}
+use Rattle.csv_status.specs.Status.{ended}
 
 -- the bytes that the two buffers have room for: what may wait, and what a line adds to it
 abbrev pub outRoom : ℕ

@@ -1,17 +1,17 @@
-// What the row text program writes to descriptors: what waits, one line for what could not be done, and its status.
+// What the row text program hands to descriptors: the rows and the notices that wait.
 use csv_out::CALL_ROOM;
 use csv_out::NOTICE_ROOM;
 use csv_out::Run;
+use csv_status::GOES_ON;
+use csv_status::NO_ERROR;
+use csv_status::NO_OUTPUT;
 use libc::STDERR_FILENO;
 use libc::STDOUT_FILENO;
 ghost use mathlib.Core.Path.{_≡_};
 ghost use Prim.Native.Nat.{_≤_};
 ghost use lib.ListN.{length};
+ghost use Rattle.csv_status.specs.Status.{ended};
 ghost use Rattle.csv_io.specs.Flush.{HandedOver, Flushed, Emptied};
-ghost use Rattle.csv_io.specs.Status.{ended, statusOf};
-
-// The descriptor of the status.
-const STATUS_FILENO: i32 = 3;
 
 // The bytes that the two buffers have room for: what may wait, and what a line adds to it.
 pub const OUT_ROOM: usize = 2 * CALL_ROOM;
@@ -22,17 +22,6 @@ pub const ERR_ROOM: usize = 4096;
 const WAITING: usize = OUT_ROOM - CALL_ROOM;
 
 const NOTICES: usize = ERR_ROOM - NOTICE_ROOM;
-
-// The run goes on; it has ended; standard input, output or error failed.
-pub const GOES_ON: u64 = 0;
-
-pub const ENDED: u64 = 1;
-
-pub const NO_INPUT: u64 = 2;
-
-pub const NO_OUTPUT: u64 = 3;
-
-pub const NO_ERROR: u64 = 4;
 
 // How many bytes were handed to each of the two, and how it went: GOES_ON, NO_OUTPUT or NO_ERROR.
 pub struct Sent {
@@ -112,35 +101,4 @@ pub fn emptied(run: Run, out: &[u8], err: &[u8]) -> Left
         notices: 0,
         over: GOES_ON,
     }
-}
-
-// One plain line that names what failed.
-pub fn tell(over: u64) -> bool {
-    match over {
-        NO_INPUT => io::write_all(
-            STDERR_FILENO,
-            b"flatcsv: standard input could not be read\n",
-        ),
-        NO_OUTPUT => io::write_all(
-            STDERR_FILENO,
-            b"flatcsv: standard output could not be written\n",
-        ),
-        _ => true,
-    }
-}
-
-// 0 done, 1 refused, 2 could not read or write, or did not come to the end.
-fn status_of(over: u64, refused: bool) -> u8
-    ensures { λ r. ⌜ (r ≡ statusOf over refused) × (r ≤ 2) ⌝ }
-{
-    if over != ENDED {
-        return 2;
-    }
-    if refused { 1 } else { 0 }
-}
-
-// The status, as one digit.
-pub fn report(over: u64, refused: bool) -> bool {
-    let digit = [b'0' + status_of(over, refused)];
-    io::write_all(STATUS_FILENO, &digit)
 }

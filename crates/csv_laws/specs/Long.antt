@@ -24,10 +24,10 @@ use Rattle.csv_forms.specs.Forms.{CellForm, absent, present, FieldsForm}
 use Rattle.csv_forms.specs.RowForms.{accepted-has-form}
 use Rattle.csv_out.specs.Say.{refusal, heading}
 use Rattle.text_lines.specs.Cut.{lf, cut, restFrom}
-use Rattle.csv_step.specs.Line.{Stand, Step, unread, onText, onEnd, counted, csvLine}
-use Rattle.csv_step.specs.LineLaws.{end-at, end-left}
-use Rattle.csv_step.specs.Csv.{andThen, csvRest, begun, Whole, csvSpec}
-use Rattle.csv_step.specs.CsvLaws.{rest-line, rest-end, rest-refused, then-still}
+use Rattle.csv_spec.specs.Line.{Stand, Step, unread, onText, onEnd, counted, csvLine}
+use Rattle.csv_spec.specs.LineLaws.{end-at, end-left}
+use Rattle.csv_spec.specs.Csv.{andThen, csvRest, begun, Whole, csvSpec}
+use Rattle.csv_spec.specs.CsvLaws.{rest-line, rest-end, rest-refused, then-still}
 use Rattle.csv_laws.specs.Output.{linesSaid, longestRow}
 use Rattle.csv_laws.specs.Refusals.{whole, whole-lines}
 

@@ -7,8 +7,8 @@ use lib.ListN.{length}
 use Rattle.csv_line.specs.LineText.{crlf, headerOut, parted, joined}
 use Rattle.csv_forms.specs.Clean.{cleanAll}
 use Rattle.text_lines.specs.Cut.{linesFrom}
-use Rattle.csv_step.specs.Line.{Step}
-use Rattle.csv_step.specs.Csv.{csvLines, begun}
+use Rattle.csv_spec.specs.Line.{Step}
+use Rattle.csv_spec.specs.Csv.{csvLines, begun}
 
 -- the whole lines of an input, each done from what the one before it left; its end is not
 abbrev pub linesSaid : List ℕ → Step

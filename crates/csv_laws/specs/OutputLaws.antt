@@ -19,13 +19,14 @@ use Rattle.csv_read.specs.Reader.{readRow}
 use Rattle.csv_write.specs.Writer.{rowAt, rowsText, rowsWritable, writable, rowText, outFields}
 use Rattle.csv_write.specs.Texts.{flatten-more}
 use Rattle.csv_forms.specs.RoundTrip.{written-is-clean}
-use Rattle.csv_out.specs.Say.{Say, badText, lastLine, nextLine, refusal, heading, answer}
+use Rattle.csv_out.specs.Say.{Say, badText, lastLine, nextLine, refusal, heading}
+use Rattle.csv_answer.specs.Answer.{answer}
 use Rattle.text_lines.specs.Cut.{linesFrom, restFrom}
 use Rattle.csv_out.specs.SayLaws.{heading-good, heading-bad}
-use Rattle.csv_step.specs.Line.{Stand, Step, spoken, unread, onRow, onRead, onText, onEnd, csvLine, csvClose, csvEnd}
-use Rattle.csv_step.specs.Csv.{andThen, still, csvLines, csvFinish, csvRest, begun, csvSpec}
-use Rattle.csv_step.specs.CsvLaws.{finish-then, refused-lines}
-use Rattle.csv_step.specs.LineLaws.{text-header}
+use Rattle.csv_spec.specs.Line.{Stand, Step, spoken, unread, onRow, onRead, onText, onEnd, csvLine, csvClose, csvEnd}
+use Rattle.csv_spec.specs.Csv.{andThen, still, csvLines, csvFinish, csvRest, begun, csvSpec}
+use Rattle.csv_spec.specs.CsvLaws.{finish-then, refused-lines}
+use Rattle.csv_spec.specs.LineLaws.{text-header}
 use Rattle.csv_laws.specs.Output.{CleanText, CleanLines, none, then, Output, nothing, headed}
 
 -- ---- rows

@@ -12,9 +12,10 @@ use Rattle.csv_line.specs.declared.End.the-variants as End
 use Rattle.csv_line.specs.LineText.{endOf, header, headerOut, crlf}
 use Rattle.csv_read.specs.Reader.{readRow}
 use Rattle.csv_write.specs.Writer.{rowsText, rowsWritable}
-use Rattle.csv_out.specs.Say.{Say, badText, refusal, heading, answer, warningText}
+use Rattle.csv_out.specs.Say.{Say, badText, refusal, heading}
+use Rattle.csv_answer.specs.Answer.{answer, warningText}
 use Rattle.csv_out.specs.SayLaws.{says}
-use Rattle.csv_step.specs.Line.{Stand, Step, unread, onRow, onRead, onText, onEnd, csvLine, csvClose, csvEnd}
+use Rattle.csv_spec.specs.Line.{Stand, Step, unread, onRow, onRead, onText, onEnd, csvLine, csvClose, csvEnd}
 
 -- what is said, where it is a refusal, has no bytes for standard output
 abbrev Quiet : Say → Type 0

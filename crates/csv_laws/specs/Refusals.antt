@@ -6,9 +6,9 @@ use mathlib.Core.List.{List, [], _∷_, _++_, append-nil}
 use lib.ListN.{length}
 use Rattle.text_lines.specs.Cut.{cut, linesFrom, restFrom}
 use Rattle.text_lines.specs.CutLaws.{lines-pieces, rest-pieces}
-use Rattle.csv_step.specs.Line.{Stand, Step, csvLine}
-use Rattle.csv_step.specs.Csv.{andThen, still, csvLines, csvFinish, csvRest, begun, Whole, csvSpec, Begins}
-use Rattle.csv_step.specs.CsvLaws.{then-assoc, then-still, finish-then, refused-lines, rest-whole, rest-refused}
+use Rattle.csv_spec.specs.Line.{Stand, Step, csvLine}
+use Rattle.csv_spec.specs.Csv.{andThen, still, csvLines, csvFinish, csvRest, begun, Whole, csvSpec, Begins}
+use Rattle.csv_spec.specs.CsvLaws.{then-assoc, then-still, finish-then, refused-lines, rest-whole, rest-refused}
 use Rattle.csv_laws.specs.Output.{linesSaid}
 use Rattle.csv_laws.specs.Quiet.{line-quiet}
 

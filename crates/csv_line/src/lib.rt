@@ -1,6 +1,4 @@
 // Lines: their ends, the headers, the columns, and the lines of standard error.
-use layout::AXIS_CODES;
-use layout::C_OFFSET;
 ghost use mathlib.Core.Path.{_≡_};
 ghost use mathlib.Core.List.{_++_};
 ghost use Prim.Native.Nat.{_+_, _≤_, _<_};
@@ -12,9 +10,12 @@ ghost use Rattle.csv_line.specs.LineText.{crlf, header, headerOut, endOf
 ghost use Rattle.csv_line.specs.Notice.{noticeText};
 use csv_figures::put_byte;
 
-// The word of a row that says which of its cells are present.
-// The columns of cells, behind the line number and the two words.
+// The columns of cells, behind the line number and the two words; and those before I, and before F.
 pub const COLUMNS: usize = 11;
+
+pub const I_COLUMN: usize = 3;
+
+pub const F_COLUMN: usize = 10;
 
 // Where the text of a line ends and its CRLF begins.
 pub enum End {
@@ -64,7 +65,7 @@ pub fn is_header(text: &[u8]) -> bool
     )
 }
 
-fn put_bytes(out: &mut [u8], n: usize, s: &[u8]) -> usize
+pub fn put_bytes(out: &mut [u8], n: usize, s: &[u8]) -> usize
     requires { ⌜ n + length (now s) ≤ length (now out) ⌝ }
     ensures { λ r. ⌜ Wrote (now (out .entry)) n (now (s .entry)) (now (out .exit)) r ⌝ }
 {
@@ -97,27 +98,17 @@ pub fn put_header(out: &mut [u8], n: usize) -> usize
     put_crlf(out, a)
 }
 
-// Columns before those of I, and of F; how far a code from I to SD lies behind its column; F, behind N.
-const AXIS_COLUMNS: usize = 3;
-
-const F_COLUMN: usize = 10;
-
-const OFFSET_SHIFT: usize = C_OFFSET - AXIS_COLUMNS;
-
-const CODE_OF_F: usize = AXIS_CODES + 1;
+// The codes of the cells by columns, five bits each: F, SD PW TURN CR K J I, Z Y X. A number from which one is shifted out, and
+// not a table or tests of the column, since it is asked for each cell that is read or written.
+const CODES: u64 = 0x2e_b49c_a307_8820;
 
 // The code of the cell in column i: X Y Z, I J K CR TURN PW SD, F.
 pub fn code_at(i: usize) -> usize
     requires { ⌜ i < columnCount ⌝ }
     ensures { λ r. ⌜ (r ≡ codeAt i) × (r < cells) ⌝ }
 {
-    if i < AXIS_COLUMNS {
-        return i;
-    }
-    if i < F_COLUMN {
-        return i + OFFSET_SHIFT;
-    }
-    CODE_OF_F
+    let d = 5 * i;
+    ((CODES >> d) % 32) as usize
 }
 
 // A line of standard error: a warning, or a refusal.

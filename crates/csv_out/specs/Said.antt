@@ -1,13 +1,11 @@
 -- CONTRACTS. What is said, of the buffers in which bytes wait. Assumes nothing.
-use Prim.Native.Nat.{ℕ, _+_, _*_, _≤_}
+use Prim.Native.Nat.{ℕ, _+_}
 use mathlib.Core.Path.{_≡_}
 use mathlib.Core.Bool.{Bool}
 use mathlib.Core.List.{List, _++_}
 use lib.ListN.{length, take}
-use Rattle.layout.specs.Layout.{rowWords}
 use Rattle.csv_out.specs.declared.Run.{Run}
-use Rattle.csv_write.specs.Writer.{rowRoom}
-use Rattle.csv_out.specs.Say.{Say, noticeRoom, nextLine}
+use Rattle.csv_out.specs.Say.{Say, nextLine}
 
 -- n bytes waited in o, and then r in o′: those n, and behind them t
 pub record Adds (t o : List ℕ) (n : ℕ) (o′ : List ℕ) (r : ℕ) : Type 0 where
@@ -38,9 +36,3 @@ pub record NextIs (run r : Run) : Type 0 where
   pub refused : r .refused ≡ run .refused
   pub out : r .out ≡ run .out
   pub err : r .err ≡ run .err
-
--- room for what a call answers: its rows, where it is done, and one notice
-pub record AnswerFits (code count rows out err : ℕ) (run : Run) : Type 0 where
-  pub lent : code ≡ 0 → count * rowWords ≤ rows
-  pub outs : code ≡ 0 → run .out + rowRoom * count ≤ out
-  pub errs : run .err + noticeRoom ≤ err

@@ -1,12 +1,12 @@
--- DEFINITIONS. What the row text program says to a header, to what a call answered, and to text that it cannot read. Assumes nothing.
+-- DEFINITIONS. What the row text program says to a header and to text that it cannot read. Assumes nothing.
 use Prim.Native.Nat.{ℕ, _+_, _*_}
 use mathlib.Core.Bool.{Bool, true, false, cond}
 use mathlib.Core.List.{List, [], _++_}
-use lib.Dec.{ltb, eqb}
+use lib.Dec.{ltb}
 use Rattle.csv_words.specs.Words.{same}
 use Rattle.csv_line.specs.LineText.{crlf, header, headerOut}
 use Rattle.csv_line.specs.Notice.{noticeText}
-use Rattle.csv_write.specs.Writer.{rowRoom, rowsText, rowsWritable}
+use Rattle.csv_write.specs.Writer.{rowRoom}
 
 -- how many bytes the lines are never longer than: one of standard error, the header, a row
 abbrev pub noticeRoom : ℕ
@@ -46,13 +46,3 @@ refusal line number = record { refused = true; out = []; err = noticeText line n
 -- the first line, at its number: the one header is read, and then the other is written
 unfoldable pub heading : ℕ → List ℕ → Say
 heading physical text = cond (same header text) (record { refused = false; out = headerOut ++ crlf; err = [] }) (refusal physical badText)
-
--- 0 is no warning
-unfoldable pub warningText : ℕ → ℕ → List ℕ
-warningText source warning = cond (eqb warning 0) [] (noticeText source warning false)
-
--- a call answered at a source line: all its rows and its warning, or its refusal, or that a number of them has no text
-unfoldable pub answer : ℕ → ℕ → ℕ → ℕ → List ℕ → Say
-answer source code count warning rows =
-    let done : Say = record { refused = false; out = rowsText rows count; err = warningText source warning } in
-    cond (eqb code 0) (cond (rowsWritable rows count) done (refusal source badText)) (refusal source code)

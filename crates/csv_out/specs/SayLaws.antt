@@ -1,5 +1,5 @@
 -- LAWS. From what the writers of lines promise to the bytes that wait. Assumes nothing.
-use Prim.Native.Nat.{ℕ, zero, suc, _+_, _-_, _*_, _≤_, _<_, zero-le}
+use Prim.Native.Nat.{ℕ, zero, suc, _+_, _≤_, zero-le}
 use mathlib.Core.Path.{_≡_, refl, sym, ap, _∙_, subst}
 use mathlib.Core.Bool.{Bool, true, false, cond}
 use mathlib.Core.List.{List, [], _∷_, _++_, append-nil}
@@ -7,10 +7,6 @@ use native.Mathlib.Omega.{arith}
 use native.Mathlib.Nat.{add-zero}
 use lib.ListN.{length, take, drop, length-append}
 use lib.Seq.{sets, sets-eq, length-sets, take-at, length-take-le}
-use borrow.Author.Tests.{eq-eqb, ne-eqb}
-use Rattle.floats.specs.Truth.{all-at}
-use Rattle.csv_figures.specs.declared.Placed.{Placed}
-use Rattle.csv_figures.specs.declared.Placed.the-variants as Placed
 use Rattle.csv_figures.specs.Out.{Wrote}
 use Rattle.csv_figures.specs.Write.{wholeText}
 use Rattle.csv_decimal.specs.Widths.{width-ten}
@@ -18,12 +14,9 @@ use Rattle.csv_figures.specs.Writers.{whole-length}
 use Rattle.csv_words.specs.Text.{bytes}
 use Rattle.csv_words.specs.Words.{same}
 use Rattle.csv_line.specs.LineText.{crlf, header, headerOut}
-use Rattle.csv_write.specs.Texts.{several-length, row-length}
-use Rattle.csv_write.specs.Trying.{tried-good}
 use Rattle.csv_line.specs.Notice.{noticeText}
-use Rattle.csv_write.specs.Writer.{rowRoom, rowText, rowAt, rowsText, writable, rowsWritable, Tried}
 use Rattle.csv_out.specs.declared.Run.{Run}
-use Rattle.csv_out.specs.Say.{Say, noticeRoom, headerRoom, badText, refusal, heading, warningText, answer}
+use Rattle.csv_out.specs.Say.{Say, noticeRoom, headerRoom, badText, refusal, heading}
 use Rattle.csv_out.specs.Said.{Adds, Noted, Said}
 
 -- ---- how long the lines are
@@ -43,12 +36,6 @@ notice-short line number refused = go (cond refused (bytes ",refused") []) (shor
 
 pub header-short : length (headerOut ++ crlf) ≤ headerRoom
 header-short = lib.Dec.lit≤ tt
-
-pub rows-short : (rows : List ℕ) (k : ℕ) → rowsWritable rows k ≡ true → length (rowsText rows k) ≤ rowRoom * k
-unfolding rowsWritable rowsText
-rows-short rows k e =
-    several-length (λ (i : ℕ). rowText (rowAt rows i)) rowRoom k
-    (λ (i : ℕ) (l : i < k). row-length (rowAt rows i) (all-at k (λ (i : ℕ). writable (rowAt rows i)) i e l))
 
 -- ---- bytes that are added
 pub adds-none : (o : List ℕ) (n : ℕ) → Adds [] o n o n
@@ -93,52 +80,7 @@ pub heading-bad : (physical : ℕ) (text : List ℕ) → same header text ≡ fa
 unfolding heading refusal
 heading-bad physical text e = rw e
 
-pub warning-none : (source warning : ℕ) → warning ≡ 0 → warningText source warning ≡ []
-unfolding warningText
-warning-none source warning e = rw (eq-eqb warning 0 e)
-
-pub warning-some : (source warning : ℕ) → (warning ≡ 0 → ⊥) → warningText source warning ≡ noticeText source warning false
-unfolding warningText
-warning-some source warning e = rw (ne-eqb warning 0 e)
-
-module _ (source code count warning : ℕ) (rows : List ℕ) where
-  pub answer-refused : (code ≡ 0 → ⊥) → answer source code count warning rows ≡ says true [] (noticeText source code true)
-  unfolding answer refusal
-  answer-refused e = rw (ne-eqb code 0 e)
-
-  pub answer-bad : code ≡ 0 → rowsWritable rows count ≡ false → answer source code count warning rows ≡ says true [] (noticeText source badText true)
-  unfolding answer refusal
-  answer-bad e f = rw (eq-eqb code 0 e, f)
-
-  pub answer-done : code ≡ 0 → rowsWritable rows count ≡ true
-      → answer source code count warning rows ≡ says false (rowsText rows count) (warningText source warning)
-  unfolding answer
-  answer-done e f = rw (eq-eqb code 0 e, f)
-
 -- ---- the answers of the proofs, in one step each
--- the lines of a run stay, and so does what waits for standard error
-pub record SameRun (run mid : Run) : Type 0 where
-  pub err : mid .err ≡ run .err
-  pub physical : mid .physical ≡ run .physical
-  pub source : mid .source ≡ run .source
-
--- a call's rows, and then its warning
-pub say-rows : {p : Say} (source warning count : ℕ) (rows : List ℕ) {o o′ e e′ : List ℕ} {run mid r : Run} {x : Placed}
-    → p ≡ says false (rowsText rows count) (warningText source warning)
-    → Tried (rowsWritable rows count) (rowsText rows count) o (run .out) o′ x → x ≡ Placed.Upto (mid .out)
-    → run .out + rowRoom * count ≤ length o → SameRun run mid → Noted false (warningText source warning) mid e r e′ → Said p run o e r o′ e′
-say-rows {p} source warning count rows {o} {o′} {e} {e′} {run} {mid} {r} {x} z w q room k n =
-    let g = tried-good w q in
-    let h : run .out + length (rowsText rows count) ≤ length o = omega (arith, rows-short rows count (g .0)) in
-    rw z
-    (record {
-      physical = n .physical ∙ k .physical;
-      source = n .source ∙ k .source;
-      refused = n .refused;
-      out = adds-text (rowsText rows count) o o′ (run .out) (r .out) h (n .out ∙ g .1) (w .text (g .0));
-      err = subst (λ (k : ℕ). Adds (warningText source warning) e k e′ (r .err)) (k .err) (n .err);
-    })
-
 pub note : {b : Bool} {s t e e′ : List ℕ} {run r : Run} → s ≡ t → r .out ≡ run .out → r .physical ≡ run .physical
     → r .source ≡ run .source → r .refused ≡ b → length t ≤ noticeRoom
     → run .err + noticeRoom ≤ length e → Wrote e (run .err) t e′ (r .err) → Noted b s run e r e′

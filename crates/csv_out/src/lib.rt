@@ -1,12 +1,11 @@
-// What the row text program says to a line: bytes that are added to what waits for standard output, and bytes that are
-// added to what waits for standard error. Nothing is written to a descriptor here.
-use csv_figures::Placed;
-ghost use mathlib.Core.Bool.{true, false};
-ghost use Prim.Native.Nat.{_+_, _*_, _≤_};
+// What the row text program says to a header and to text that it cannot read: bytes that are added to what waits for
+// standard output, and bytes that are added to what waits for standard error. Nothing is written to a descriptor here.
+ghost use mathlib.Core.Bool.{true};
+ghost use Prim.Native.Nat.{_+_, _≤_};
 ghost use lib.ListN.{length};
 ghost use Rattle.csv_line.specs.Notice.{noticeText};
-ghost use Rattle.csv_out.specs.Say.{noticeRoom, headerRoom, heading, warningText, answer};
-ghost use Rattle.csv_out.specs.Said.{Noted, Said, NextIs, AnswerFits};
+ghost use Rattle.csv_out.specs.Say.{noticeRoom, headerRoom, heading};
+ghost use Rattle.csv_out.specs.Said.{Noted, Said, NextIs};
 
 // How long the lines of standard error and those of rows never are longer than, and how many rows a call is lent room for.
 pub const NOTICE_ROOM: usize = 32;
@@ -48,24 +47,6 @@ pub fn refuse(run: Run, err: &mut [u8], line: u64, number: u64) -> Run
     }
 }
 
-// A call's warning, where it has one.
-fn warned(run: Run, err: &mut [u8], warning: u64) -> Run
-    requires { ⌜ run .err + noticeRoom ≤ length (now err) ⌝ }
-    ensures { λ r. ⌜ Noted (run .refused) (warningText (run .source) warning) run (now (err .entry)) r (now (err .exit)) ⌝ }
-{
-    if warning == 0 {
-        return run;
-    }
-    let n = csv_line::put_notice(err, run.err, run.source, warning, false);
-    Run {
-        out: run.out,
-        err: n,
-        physical: run.physical,
-        source: run.source,
-        refused: run.refused,
-    }
-}
-
 // The first line: the header, which is answered by the second, or not.
 pub fn headed(run: Run, text: &[u8], out: &mut [u8], err: &mut [u8]) -> Run
     requires { ⌜ (run .out + headerRoom ≤ length (now out)) × (run .err + noticeRoom ≤ length (now err)) ⌝ }
@@ -84,41 +65,6 @@ pub fn headed(run: Run, text: &[u8], out: &mut [u8], err: &mut [u8]) -> Run
         };
     }
     refuse(run, err, run.physical, BAD_TEXT)
-}
-
-// What a call answered: its rows, and its warning or its refusal. A refused call writes no row, and neither does one
-// with a number that has no text.
-pub fn answered(
-    run: Run,
-    code: u64,
-    count: u64,
-    warning: u64,
-    rows: &[u64],
-    out: &mut [u8],
-    err: &mut [u8],
-) -> Run
-    requires { ⌜ AnswerFits code count (length (now rows)) (length (now out)) (length (now err)) run ⌝ }
-    ensures { λ r.
-        let p = answer (run .source) code count warning (now (rows .entry)) in
-        ⌜ Said p run (now (out .entry)) (now (err .entry)) r (now (out .exit)) (now (err .exit)) ⌝ }
-{
-    if code != 0 {
-        return refuse(run, err, run.source, code);
-    }
-    let Placed::Upto(n) = csv_write::write_rows(rows, count as usize, out, run.out) else {
-        return refuse(run, err, run.source, BAD_TEXT);
-    };
-    warned(
-        Run {
-            out: n,
-            err: run.err,
-            physical: run.physical,
-            source: run.source,
-            refused: false,
-        },
-        err,
-        warning,
-    )
 }
 
 // The next line: one more, up to the last that is counted.

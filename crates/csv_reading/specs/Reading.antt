@@ -1,12 +1,16 @@
 -- DEFINITIONS. Where the reading of the row text program stands. Assumes nothing.
 use Prim.Native.Nat.{ℕ}
-use mathlib.Core.Bool.{Bool, cond}
+use mathlib.Core.Bool.{Bool, false, cond}
 use mathlib.Core.List.{List}
 use Rattle.text_lines.specs.declared.Turn.{Turn}
 use Rattle.text_lines.specs.Cut.{between}
 use Rattle.csv_out.specs.declared.Run.{Run}
-use Rattle.csv_io.specs.Status.{goesOn, ended}
+use Rattle.csv_status.specs.Status.{goesOn, ended}
 use Rattle.csv_reading.specs.declared.Reading.{Reading}
+
+-- before the first line
+abbrev pub firstReading : Reading
+firstReading = record { at = 0; end = 0; run = record { out = 0; err = 0; physical = 1; source = 0; refused = false }; over = goesOn }
 
 -- a refusal ends the run
 abbrev pub goingOf : Bool → ℕ

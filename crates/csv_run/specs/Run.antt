@@ -1,20 +1,16 @@
 -- CONTRACTS. A whole run of the row text program: its turns from the first to the last, and its end. Assumes nothing.
 use Prim.Native.Nat.{ℕ}
 use mathlib.Core.Path.{_≡_}
-use mathlib.Core.Bool.{false}
 use mathlib.Core.List.{List, [], _++_}
 use lib.ListN.{take}
-use Rattle.csv_io.specs.Status.{goesOn, ended}
-use Rattle.csv_step.specs.Csv.{begun, csvSpec, Begins}
-use Rattle.csv_step.specs.Steps.{Slices, standing}
+use Rattle.csv_status.specs.Status.{goesOn, ended}
+use Rattle.csv_spec.specs.Csv.{begun, csvSpec, Begins}
+use Rattle.csv_run.specs.Steps.{Slices, standing}
 use Rattle.csv_reading.specs.declared.Reading.{Reading}
-use Rattle.csv_turn.specs.Turns.{Within, TurnIs}
+use Rattle.csv_reading.specs.Reading.{firstReading}
+use Rattle.csv_run.specs.Turns.{Within, TurnIs}
 use Rattle.csv_ending.specs.declared.Ending.{Ending}
 use Rattle.csv_ending.specs.Ending.{LastIs}
-
--- before the first line
-abbrev pub firstReading : Reading
-firstReading = record { at = 0; end = 0; run = record { out = 0; err = 0; physical = 1; source = 0; refused = false }; over = goesOn }
 
 -- turns one after another, the first from `firstReading` and each from where the one before it went on: the last of them left the
 -- reading s, the input buffer b and the lent memory m, and they read `got` and handed over `outs` and `errs`, in this order

@@ -7,17 +7,17 @@ use mathlib.Core.List.{List, [], _++_, append-nil, append-assoc}
 use native.Mathlib.Omega.{arith}
 use lib.ListN.{length, take}
 use Rattle.text_lines.specs.Cut.{cut}
-use Rattle.csv_io.specs.Status.{goesOn, ended}
-use Rattle.csv_step.specs.Line.{Stand, Step, csvLine}
-use Rattle.csv_step.specs.Csv.{andThen, still, csvRest, begun, Whole, csvSpec, Begins}
-use Rattle.csv_step.specs.CsvLaws.{then-assoc, then-still, rest-whole, rest-end, rest-refused}
-use Rattle.csv_step.specs.Steps.{Slices, standing}
+use Rattle.csv_status.specs.Status.{goesOn, ended}
+use Rattle.csv_spec.specs.Line.{Stand, Step, csvLine}
+use Rattle.csv_spec.specs.Csv.{andThen, still, csvRest, begun, Whole, csvSpec, Begins}
+use Rattle.csv_spec.specs.CsvLaws.{then-assoc, then-still, rest-whole, rest-end, rest-refused}
+use Rattle.csv_run.specs.Steps.{Slices, standing}
 use Rattle.csv_reading.specs.declared.Reading.{Reading}
-use Rattle.csv_reading.specs.Reading.{goingOf, unread}
-use Rattle.csv_turn.specs.Turns.{Within, Spoke, Went, Closed, Failed, TurnIs}
+use Rattle.csv_reading.specs.Reading.{firstReading, goingOf, unread}
+use Rattle.csv_run.specs.Turns.{Within, Spoke, Went, Closed, Failed, TurnIs}
 use Rattle.csv_ending.specs.declared.Ending.{Ending}
 use Rattle.csv_ending.specs.Ending.{LastIs}
-use Rattle.csv_run.specs.Run.{firstReading, Turns, none, then, AllTurns, Ran}
+use Rattle.csv_run.specs.Run.{Turns, none, then, AllTurns, Ran}
 
 -- what stands, and what was said so far: handed over, or waiting
 abbrev put : Stand → List ℕ → List ℕ → Step

@@ -1,20 +1,20 @@
 -- What the steps of the writer do. Assumes nothing.
-use Prim.Native.Nat.{ℕ, suc, _+_, _-_, _*_, _≤_, _<_}
+use Prim.Native.Nat.{ℕ, zero, suc, _+_, _-_, _*_, _/_, _%_, _^_, _≤_, _<_}
 use mathlib.Core.Path.{_≡_, refl, sym, ap, _∙_, subst}
 use mathlib.Core.Bool.{Bool, true, false, cond, _&&_, and-false}
-use mathlib.Core.List.{List, [], _∷_, _++_, append-nil}
+use mathlib.Core.List.{List, [], _∷_, _++_, append-nil, append-assoc}
 use native.Mathlib.Omega.{arith}
 use native.Mathlib.Numerals.{add-one}
-use native.Mathlib.Nat.{mul-suc, le-trans}
-use lib.Dec.{ltb}
+use native.Mathlib.Nat.{add-zero, mul-suc, le-trans}
+use lib.Dec.{ltb, eqb}
 use lib.ListN.{length, take, drop, getD, set}
 use lib.Seq.{sets, length-sets, take-set-le}
 use lib.Ieee.{Float}
-use borrow.Author.Tests.{lt-ltb, le-ltb, eq-eqb, ne-eqb}
+use borrow.Author.Tests.{lt-ltb, le-ltb, eq-eqb, ne-eqb, eqb-true}
 use Rattle.floats.specs.Numbers.{num}
 use Rattle.floats.specs.Lists.{upto, flatten, all}
-use Rattle.floats.specs.Truth.{and-i, and-f, all-fails, all-more}
-use Rattle.layout.specs.Layout.{rCells, lineNumbers, rowWords}
+use Rattle.floats.specs.Truth.{and-i, and-f, all-at, all-fails, all-more}
+use Rattle.layout.specs.Layout.{cOffset, rCells, lineNumbers, rowWords}
 use Rattle.row_cells.specs.Codes.{planeOk}
 use Rattle.row_cells.specs.Bits.{has}
 use Rattle.row_cells.specs.Row.{lineOf, motionOf, planeOf, markOf, presentOf}
@@ -29,6 +29,8 @@ use Rattle.csv_words.specs.Words.{wordAt, planeText}
 use Rattle.csv_words.specs.Table.{short}
 use Rattle.csv_line.specs.LineText.{comma, crlf, columnCount, codeAt, tailed, joined}
 use Rattle.csv_line.specs.CodeLaws.{plane-low}
+use Rattle.csv_write.specs.declared.Passed.{Passed}
+use Rattle.csv_write.specs.Passing.{iColumn, fColumn, commas, Skipped}
 use Rattle.csv_write.specs.Trying.{tried-good, tried-bad}
 use Rattle.csv_write.specs.Texts.{flatten-more, tailed-upto, row-text, cells-length, head-length}
 use Rattle.csv_write.specs.Writer.{cellText, cellShown, cellTexts, headFields, markText, rowText, headOk, writable, rowAt, Tried}
@@ -140,6 +142,123 @@ module _ (ok : ℕ → Bool) (f : ℕ → List ℕ) (w : ℕ) where
 
   pub puts-all : {o o′ : List ℕ} {n i at : ℕ} (k : ℕ) → Putting ok f w o n i o′ at → i ≡ k → Tried (all k ok) (flatten (upto f k)) o n o′ (Placed.Upto at)
   puts-all {o} {o′} {n} {i} {at} k p e = subst (λ (j : ℕ). Tried (all j ok) (flatten (upto f j)) o n o′ (Placed.Upto at)) e (tried (p .good) (p .wrote))
+
+-- ---- columns that are passed together
+commas-length : (d : ℕ) → length (commas d) ≡ d
+unfolding commas
+commas-length zero = refl
+commas-length (suc d) = ap suc (commas-length d)
+
+commas-more : (d : ℕ) → commas d ++ (comma ∷ []) ≡ commas (suc d)
+unfolding commas
+commas-more zero = refl
+commas-more (suc d) = ap (λ (l : List ℕ). comma ∷ l) (commas-more d)
+
+module _ (row : List ℕ) where
+  texts : ℕ → List ℕ
+  texts k = comma ∷ cellText row k
+
+  absent-text : (k : ℕ) → has (presentOf row) (codeAt k) ≡ false → texts k ≡ comma ∷ []
+  unfolding cellText texts
+  absent-text k e = rw e
+
+  absent-shown : (k : ℕ) → has (presentOf row) (codeAt k) ≡ false → cellShown row k ≡ true
+  unfolding cellShown
+  absent-shown k e = rw e
+
+  passed-text : (i d : ℕ) → ((k : ℕ) → i ≤ k → k < i + d → has (presentOf row) (codeAt k) ≡ false)
+      → flatten (upto texts (i + d)) ≡ flatten (upto texts i) ++ commas d
+  unfolding commas
+  passed-text i zero a = ap (λ (k : ℕ). flatten (upto texts k)) (add-zero i) ∙ sym (append-nil (flatten (upto texts i)))
+  passed-text i (suc d) a =
+      let next : i + suc d ≡ suc (i + d) = omega arith in
+      ap (λ (k : ℕ). flatten (upto texts k)) next
+      ∙ flatten-more texts (i + d)
+      ∙ ap (λ (l : List ℕ). flatten (upto texts (i + d)) ++ l) (absent-text (i + d) (a (i + d) (omega arith) (omega arith)))
+      ∙ ap (λ (l : List ℕ). l ++ (comma ∷ [])) (passed-text i d (λ (k : ℕ) (h : i ≤ k) (l : k < i + d). a k h (omega arith)))
+      ∙ append-assoc (flatten (upto texts i)) (commas d) (comma ∷ [])
+      ∙ ap (λ (l : List ℕ). flatten (upto texts i) ++ l) (commas-more d)
+
+  passed-shown : (i d : ℕ) → all i (cellShown row) ≡ true → ((k : ℕ) → i ≤ k → k < i + d → has (presentOf row) (codeAt k) ≡ false)
+      → all (i + d) (cellShown row) ≡ true
+  passed-shown i zero g a = ap (λ (k : ℕ). all k (cellShown row)) (add-zero i) ∙ g
+  passed-shown i (suc d) g a =
+      let next : i + suc d ≡ i + d + 1 = omega arith in
+      ap (λ (k : ℕ). all k (cellShown row)) next
+      ∙ all-more (i + d) (cellShown row) (passed-shown i d g (λ (k : ℕ) (h : i ≤ k) (l : k < i + d). a k h (omega arith)))
+      (absent-shown (i + d) (a (i + d) (omega arith) (omega arith)))
+
+  pub puts-past : {o o′ o″ : List ℕ} {n i at : ℕ} {r : Passed} → Putting (cellShown row) (λ (k : ℕ). comma ∷ cellText row k) 18 o n i o′ at
+      → Skipped row o′ at i o″ r → Putting (cellShown row) (λ (k : ℕ). comma ∷ cellText row k) 18 o n (r .i) o″ (r .at)
+  unfolding texts
+  puts-past {o} {o′} {o″} {n} {i} {at} {r} p s =
+      let d = r .i - i in
+      let e : i + d ≡ r .i = omega (arith, s .ahead) in
+      let gone : (k : ℕ) → i ≤ k → k < i + d → has (presentOf row) (codeAt k) ≡ false =
+      λ (k : ℕ) (h : i ≤ k) (l : k < i + d). s .absent k h (omega (arith, s .ahead)) in
+      record {
+        good = ap (λ (k : ℕ). all k (cellShown row)) (sym e) ∙ passed-shown i d (p .good) gone;
+        wrote =
+            subst (λ (l : List ℕ). Wrote o n l o″ (r .at)) (sym (passed-text i d gone) ∙ ap (λ (k : ℕ). flatten (upto texts k)) e)
+            (wrote-then (p .wrote) (s .wrote));
+        room = omega (arith, p .room, s .wrote .next, commas-length d, s .ahead);
+        ahead = omega (arith, p .ahead, s .wrote .next);
+        same = wrote-length (s .wrote) ∙ p .same;
+      }
+
+-- no column from I to SD is present
+bit-off : (m j : ℕ) → m / 2 ^ cOffset % 128 ≡ 0 → j < 7 → has m (j + cOffset) ≡ false
+unfolding has
+bit-off m zero h l = ne-eqb (m / 2 ^ cOffset % 2) 1 (λ e. omega arith)
+bit-off m (suc zero) h l = ne-eqb (m / 2 ^ (cOffset + 1) % 2) 1 (λ e. omega arith)
+bit-off m (suc (suc zero)) h l = ne-eqb (m / 2 ^ (cOffset + 2) % 2) 1 (λ e. omega arith)
+bit-off m (suc (suc (suc zero))) h l = ne-eqb (m / 2 ^ (cOffset + 3) % 2) 1 (λ e. omega arith)
+bit-off m (suc (suc (suc (suc zero)))) h l = ne-eqb (m / 2 ^ (cOffset + 4) % 2) 1 (λ e. omega arith)
+bit-off m (suc (suc (suc (suc (suc zero))))) h l = ne-eqb (m / 2 ^ (cOffset + 5) % 2) 1 (λ e. omega arith)
+bit-off m (suc (suc (suc (suc (suc (suc zero)))))) h l = ne-eqb (m / 2 ^ (cOffset + 6) % 2) 1 (λ e. omega arith)
+bit-off m (suc (suc (suc (suc (suc (suc (suc j))))))) h l = absurd (omega arith)
+
+middle-codes : all 7 (λ (j : ℕ). eqb (codeAt (j + iColumn)) (j + cOffset)) ≡ true
+unfolding all
+middle-codes = refl
+
+pub offsets-off : (m : ℕ) → m / 2 ^ cOffset % 128 ≡ 0 → (k : ℕ) → iColumn ≤ k → k < fColumn → has m (codeAt k) ≡ false
+offsets-off m h k a b = go (k - iColumn) (back k a) (omega arith)
+  where
+    back : (k : ℕ) → iColumn ≤ k → k - iColumn + iColumn ≡ k
+    back k a = omega arith
+
+    go : (j : ℕ) → j + iColumn ≡ k → j < 7 → has m (codeAt k) ≡ false
+    go j e l =
+        ap (λ (c : ℕ). has m (codeAt c)) (sym e)
+        ∙ ap (has m) (eqb-true (codeAt (j + iColumn)) (j + cOffset) (all-at 7 (λ (j : ℕ). eqb (codeAt (j + iColumn)) (j + cOffset)) j middle-codes l))
+        ∙ bit-off m j h l
+
+-- ---- `pass_offsets`
+pub skips-none : (row o : List ℕ) (n i : ℕ) → i < columnCount → Skipped row o n i o (record { at = n; i = i })
+unfolding commas
+skips-none row o n i h =
+    let z : i - i ≡ 0 = omega arith in
+    record {
+      ahead = omega arith;
+      below = h;
+      absent = λ (k : ℕ) (a : i ≤ k) (b : k < i). absurd (omega arith);
+      wrote = subst (λ (d : ℕ). Wrote o n (commas d) o n) (sym z) (record { next = omega arith; text = refl });
+    }
+
+pub skips-offsets : {row o o′ : List ℕ} {n at i : ℕ} → i ≡ iColumn → true ≡ eqb (presentOf row / 2 ^ cOffset % 128) 0
+    → Wrote o n (comma ∷ comma ∷ comma ∷ comma ∷ comma ∷ comma ∷ comma ∷ []) o′ at
+    → Skipped row o n i o′ (record { at = at; i = fColumn })
+unfolding commas
+skips-offsets {row} {o} {o′} {n} {at} {i} e h w =
+    let z : fColumn - i ≡ 7 = omega arith in
+    let off : presentOf row / 2 ^ cOffset % 128 ≡ 0 = eqb-true (presentOf row / 2 ^ cOffset % 128) 0 (sym h) in
+    record {
+      ahead = omega arith;
+      below = omega arith;
+      absent = λ (k : ℕ) (a : i ≤ k) (b : k < fColumn). offsets-off (presentOf row) off k (omega arith) b;
+      wrote = subst (λ (d : ℕ). Wrote o n (commas d) o′ at) (sym z) w;
+    }
 
 -- ---- the whole line
 pub cells-tried : {o o′ : List ℕ} {n : ℕ} {r : Placed} (row : List ℕ)

@@ -1,3 +1,4 @@
 pub mod Writer
 pub mod Trying
 pub mod Texts
+pub mod Passing

@@ -12,6 +12,7 @@ use borrow.Author.Tests.{ltb-true}
 use Rattle.floats.specs.Numbers.{num}
 use Rattle.floats.specs.Lists.{upto, flatten, all}
 use Rattle.floats.specs.Truth.{and-left, and-right, all-at}
+use Rattle.floats.specs.Joins.{flatten-append}
 use Rattle.layout.specs.Layout.{rCells, lineNumbers}
 use Rattle.row_cells.specs.Codes.{planeOk}
 use Rattle.row_cells.specs.Bits.{has}
@@ -28,11 +29,6 @@ use Rattle.csv_line.specs.CodeLaws.{plane-low}
 use Rattle.csv_write.specs.Writer.{rowRoom, cellText, cellShown, cellTexts, headFields, rowFields, markText, outFields, rowText, headOk, writable}
 
 -- ---- together
-pub flatten-append : (xs ys : List (List ℕ)) → flatten (xs ++ ys) ≡ flatten xs ++ flatten ys
-unfolding flatten
-flatten-append [] ys = refl
-flatten-append (x ∷ xs) ys = ap (λ (l : List ℕ). x ++ l) (flatten-append xs ys) ∙ sym (append-assoc x (flatten xs) (flatten ys))
-
 pub flatten-more : (f : ℕ → List ℕ) (n : ℕ) → flatten (upto f (suc n)) ≡ flatten (upto f n) ++ f n
 unfolding upto flatten
 flatten-more f n = flatten-append (upto f n) (f n ∷ []) ∙ ap (λ (l : List ℕ). flatten (upto f n) ++ l) (append-nil (f n))

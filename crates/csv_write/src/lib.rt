@@ -2,8 +2,11 @@
 use csv_figures::Placed;
 use csv_figures::put_byte;
 use csv_line::COLUMNS;
+use csv_line::F_COLUMN;
+use csv_line::I_COLUMN;
 use csv_line::code_at;
 use csv_line::put_crlf;
+use layout::C_OFFSET;
 use layout::LINE_NUMBERS;
 use layout::R_CELLS;
 use layout::R_LINE;
@@ -14,16 +17,21 @@ use layout::R_PRESENT;
 use layout::ROW_WORDS;
 ghost use mathlib.Core.Path.{_≡_};
 ghost use mathlib.Core.List.{_∷_, _++_};
-ghost use Prim.Native.Nat.{_+_, _*_, _≤_, _<_};
+ghost use Prim.Native.Nat.{_+_, _*_, _/_, _%_, _^_, _≤_, _<_};
+ghost use lib.Dec.{eqb};
 ghost use lib.ListN.{length};
-ghost use Rattle.layout.specs.Layout.{rowWords};
+ghost use Rattle.layout.specs.Layout.{rowWords, cOffset};
 ghost use Rattle.floats.specs.Lists.{all};
 ghost use Rattle.row_cells.specs.Row.{motionOf, planeOf};
 ghost use Rattle.csv_figures.specs.Out.{Wrote};
 ghost use Rattle.csv_line.specs.LineText.{comma, crlf, columnCount, tailed, joined};
+ghost use Rattle.csv_write.specs.Passing.{Skipped};
 ghost use Rattle.csv_write.specs.Writer.{rowRoom, cellText, cellShown, cellTexts, headFields, markText, rowText, writable, rowsText, rowsWritable, Tried};
 
 const MOTIONS: u64 = 16;
+
+// The masks of the seven codes from I to SD are below this.
+const OFFSETS: u64 = 128;
 
 // A comma and the cell of column i.
 fn put_cell(row: &[u64], out: &mut [u8], n: usize, i: usize) -> Placed
@@ -38,6 +46,34 @@ fn put_cell(row: &[u64], out: &mut [u8], n: usize, i: usize) -> Placed
     Placed::Upto(at)
 }
 
+// Whether a row with these cells has none from I to SD.
+fn no_offsets(mask: u64) -> bool
+    ensures { λ r. ⌜ r ≡ eqb (mask / 2 ^ cOffset % 128) 0 ⌝ }
+{
+    (mask >> C_OFFSET) % OFFSETS == 0
+}
+
+// Where columns of absent cells are passed: the next column, and its place.
+pub struct Passed {
+    pub at: usize,
+    pub i: usize,
+}
+
+// The columns from I to SD together, where i is the first of them and none has a cell: most rows are such. Elsewhere none is passed.
+fn pass_offsets(row: &[u64], out: &mut [u8], n: usize, i: usize) -> Passed
+    requires { ⌜ (length (now row) ≡ rowWords) × ((i < columnCount) × (n + 18 ≤ length (now out))) ⌝ }
+    ensures { λ r. ⌜ Skipped (now (row .entry)) (now (out .entry)) n i (now (out .exit)) r ⌝ }
+{
+    if i == I_COLUMN {
+        if no_offsets(row[R_PRESENT]) {
+            let at = csv_line::put_bytes(out, n, b",,,,,,,");
+            return Passed { at, i: F_COLUMN };
+        }
+        return Passed { at: n, i };
+    }
+    Passed { at: n, i }
+}
+
 fn put_cells(row: &[u64], out: &mut [u8], n: usize) -> Placed
     requires { ⌜ (length (now row) ≡ rowWords) × (n + 198 ≤ length (now out)) ⌝ }
     ensures { λ r. ⌜ Tried (all columnCount (cellShown (now (row .entry)))) (tailed (cellTexts (now (row .entry)) columnCount))
@@ -46,11 +82,12 @@ fn put_cells(row: &[u64], out: &mut [u8], n: usize) -> Placed
     let mut at = n;
     let mut i: usize = 0;
     while i < COLUMNS {
-        let Placed::Upto(next) = put_cell(row, out, at, i) else {
+        let passed = pass_offsets(row, out, at, i);
+        let Placed::Upto(next) = put_cell(row, out, passed.at, passed.i) else {
             return Placed::Refused;
         };
         at = next;
-        i += 1;
+        i = passed.i + 1;
     }
     Placed::Upto(at)
 }

@@ -3,14 +3,13 @@ use mathlib.Core.Path.{_≡_, sym, _∙_}
 use mathlib.Core.List.{List}
 use Prim.Native.Nat.{ℕ, _+_, _*_, _-_, _≤_, _<_}
 use native.Mathlib.Numerals.{add-one}
-use native.Mathlib.Nat.{suc-mul}
 use native.Mathlib.Omega.{arith}
-use lib.ListN.{length, getD, take, drop, length-drop}
-use lib.Seq.{length-take-le}
+use lib.ListN.{length, getD}
 use lib.Ieee.{Float}
 use Rattle.root.specs.Root.{root}
 use Rattle.floats.specs.Numbers.{_⊕_, _⊖_, _⊗_, at}
-use Rattle.floats.specs.Lists.{row, rowsOf}
+use Rattle.floats.specs.Lists.{rowsOf}
+use Rattle.floats.specs.Parts.{part, length-part, part-row, next-row}
 use Rattle.curve_metric.specs.Below.{Below}
 use Rattle.curve_metric.specs.Metric.{lenTo, chordTo, pointOf}
 use Rattle.curve_metric.specs.Points.{point-rows}
@@ -21,27 +20,12 @@ module _ (a b : List Float) (ms : List ℕ) (k : ℕ) where
   unfolding lenTo
   len-more e = rw (add-one, e)
 
--- the part of n cells from a on
-abbrev pub part : List Float → ℕ → ℕ → List Float
-part xs a n = take (a + n - a) (drop a xs)
-
-pub length-part : (xs : List Float) (a n : ℕ) → a + n ≤ length xs → length (part xs a n) ≡ n
-length-part xs a n h = length-take-le (a + n - a) (drop a xs) (rw length-drop (omega arith)) ∙ omega arith
-
-pub part-row : (xs : List Float) (k n a : ℕ) → a ≡ k * n → part xs a n ≡ row xs n k
-part-row xs k n a e =
-    let s : k * n + n - k * n ≡ n = omega arith in
-    rw (e, s)
-
 pub parts-fit : (xs : List Float) (ms : List ℕ) (a n : ℕ) → Below ms n → a + n + n ≤ length xs
     → Below ms (length (part xs a n)) × (length (part xs a n) ≤ length (part xs (a + n) n))
 parts-fit xs ms a n b h =
     let e : length (part xs a n) ≡ n = length-part xs a n (omega arith) in
     let e2 : length (part xs (a + n) n) ≡ n = length-part xs (a + n) n h in
     (rw e b, omega (arith, e, e2))
-
-pub next-row : (k n a : ℕ) → a ≡ k * n → a + n ≡ (k + 1) * n
-next-row k n a e = rw (add-one, suc-mul, e)
 
 pub chord-more : (xs : List Float) (n m : ℕ) (ms : List ℕ) (k a : ℕ) {t g r : Float} → k + 1 < m → a ≡ k * n → t ≡ chordTo (rowsOf xs n m) ms k
     → g ≡ lenTo (part xs a n) (part xs (a + n) n) ms (length ms) → r ≡ root g → t ⊕ r ≡ chordTo (rowsOf xs n m) ms (k + 1)

@@ -1,7 +1,7 @@
 // The halving of a stretch of a curve: its samples counted by owner, with what the writing will remember.
 use curve_flat::is_flat;
 use curve_flat::point_at;
-use curve_tally::count_sample;
+use curve_owner::count_sample;
 use curve_walk::Interval;
 use curve_walk::Reached;
 use curve_walk::Shape;

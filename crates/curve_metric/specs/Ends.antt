@@ -1,6 +1,6 @@
 -- LAWS. Lists of points: what stands last. Assumes nothing.
 use mathlib.Core.Path.{_≡_, refl, sym, ap, _∙_}
-use mathlib.Core.List.{List, [], _∷_, _++_, map, append-assoc}
+use mathlib.Core.List.{List, [], _∷_, _++_, map, append-assoc, map-append}
 use Prim.Native.Nat.{ℕ, _+_, _-_, _≤_}
 use native.Mathlib.Omega.{arith}
 use lib.ListN.{length, getD, length-append}
@@ -29,10 +29,6 @@ module _ {A : Type 0} where
       let n : length xs ≡ length (e .front) + 1 = ap length (e .is) ∙ length-append (e .front) (x ∷ []) in
       let k : length xs - 1 ≡ length (e .front) = omega arith in
       ap (λ (i : ℕ). getD xs i d) k ∙ ap (λ (l : List A). getD l (length (e .front)) d) (e .is) ∙ getD-at (e .front) x [] d (length (e .front)) refl
-
-map-append : {A B : Type 0} (f : A → B) (us vs : List A) → map f (us ++ vs) ≡ map f us ++ map f vs
-map-append f [] vs = refl
-map-append f (u ∷ us) vs = ap (λ (l : List _). f u ∷ l) (map-append f us vs)
 
 pub ends-map : {A B : Type 0} (f : A → B) {xs : List A} {x : A} → EndsWith xs x → EndsWith (map f xs) (f x)
 ends-map f {xs} {x} e = record { front = map f (e .front); is = ap (map f) (e .is) ∙ map-append f (e .front) (x ∷ []) }

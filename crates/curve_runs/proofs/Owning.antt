@@ -10,8 +10,8 @@ use lib.Seq.{getD-set-same, getD-set-other}
 use lib.Ieee.{Float}
 use borrow.Author.Tests.{eqb-true, eqb-false, eq-eqb, ne-eqb}
 use Rattle.floats.specs.Lists.{keep}
+use Rattle.floats.specs.Joins.{keep-here, keep-not}
 use Rattle.curve_metric.specs.Walk.{Sample}
-use Rattle.bspline_tables.specs.Joins.{keep-here, keep-not}
 use Rattle.bspline_tables.specs.Basis.{Bspline, ownerFrom, Owned, owned, runOf}
 use Rattle.bspline_tables.specs.BasisLaws.{owner-in}
 use Rattle.curve_walk.specs.Walks.{bumped, counted}

@@ -165,7 +165,7 @@ theFit d ms pts = fitOf (cubicKind (d .kind)) (rows d pts) (chords (rows d pts) 
 none-flat : (k : ℕ) → flatten {A = List Float} (upto (λ (i : ℕ). []) k) ≡ []
 unfolding upto flatten
 none-flat zero = refl
-none-flat (suc k) = Rattle.bspline_tables.specs.Joins.flatten-snoc (upto (λ (i : ℕ). []) k) [] ∙ mathlib.Core.List.append-nil _ ∙ none-flat k
+none-flat (suc k) = Rattle.floats.specs.Joins.flatten-snoc (upto (λ (i : ℕ). []) k) [] ∙ mathlib.Core.List.append-nil _ ∙ none-flat k
 
 module _ {d : Drawing} {k : Kept} {ms : List ℕ} {pts ws ks cs : List Float} (r : Ready d (Form.Fit k) ms pts ws ks cs) where
   fit-runs : drawnRuns d ms pts ws ≡ fitRuns (cubicKind (d .kind)) ms (d .tol) (rows d pts)

@@ -39,7 +39,7 @@ pub fn prepare(
     let n = d.n;
     let ch = d.ch;
     if is_basis(kind) {
-        let degree = bspline_tables::tables::prepare_basis(pts, ws, n, ch, d.degree, ks, cs);
+        let degree = bspline_tables::prepare_basis(pts, ws, n, ch, d.degree, ks, cs);
         return Form::Basis(degree);
     }
     let cubic = is_cubic(kind);

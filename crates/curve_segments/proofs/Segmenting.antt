@@ -13,10 +13,10 @@ use lib.Ieee.{Float, le}
 use Rattle.floats.specs.Numbers.{_⊖_, 1e-12, at}
 use Rattle.floats.specs.Lists.{upto, flatten, row}
 use Rattle.floats.specs.Fill.{Filling, filling-more, at-filled, past-filled, lt-or-le}
+use Rattle.floats.specs.Parts.{part, length-part, part-row}
 use Rattle.curve_metric.specs.Walk.{Sample, samples, depth}
 use Rattle.curve_metric.specs.WalkLaws.{samples-le}
 use Rattle.curve_metric.specs.Points.{row-fits}
-use Rattle.bspline_tables.specs.RowLaws.{part, length-part, part-row}
 use Rattle.curve_walk.specs.declared.Form.{Form}
 use Rattle.curve_walk.specs.declared.Form.the-variants.{Basis, Fit}
 use Rattle.curve_walk.specs.declared.Shape.{Shape}

@@ -2,7 +2,7 @@
 use crate::at_stretch;
 use curve_count::count_walk;
 use curve_metric::DEPTH;
-use curve_tally::remember;
+use curve_owner::remember;
 use curve_walk::Form;
 use curve_walk::Interval;
 use curve_walk::Kept;

@@ -23,7 +23,7 @@ pub fn at_stretch(s: Shape, k: Kept, ks: &[f64], i: usize) -> Shape
     let points = k.points;
     let end = ks[i];
     let times = n + n;
-    let piece = fit_point::piece(&ks[n..times], points, end);
+    let piece = fit_piece::piece(&ks[n..times], points, end);
     let here = Kept {
         points: points,
         piece: piece,

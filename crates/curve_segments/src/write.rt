@@ -1,7 +1,7 @@
 // The samples of a fit, written.
 use crate::at_stretch;
 use curve_metric::DEPTH;
-use curve_tally::put_sample;
+use curve_put::put_sample;
 use curve_walk::Form;
 use curve_walk::Interval;
 use curve_walk::Kept;

@@ -1,22 +1,20 @@
 -- LAWS. One more knot span. Assumes nothing.
 use mathlib.Core.Path.{_≡_, refl, ap, _∙_}
-use mathlib.Core.List.{List, [], _++_}
+use mathlib.Core.List.{List, [], _++_, map-append}
 use Prim.Native.Nat.{ℕ, zero, suc, _+_, _-_, _*_, _^_, _<_, _≤_}
 use native.Mathlib.Numerals.{add-one}
 use native.Mathlib.Nat.{mul-le-mul-right, suc-mul}
 use native.Mathlib.Omega.{arith}
-use lib.Dec.{T, le→leb}
-use lib.IntN.{pos}
 use lib.ListN.{length, getD, length-append}
 use lib.Ieee as Ieee
-use lib.Ieee.{Float, binary64}
+use lib.Ieee.{Float}
 use Rattle.floats.specs.Numbers.{ofNat, f0}
 use Rattle.floats.specs.Lists.{upto, filled, flatten}
+use Rattle.floats.specs.Joins.{flatten-snoc}
 use Rattle.layout.specs.Layout.{mostPoints}
 use Rattle.curve_metric.specs.Below.{Below}
 use Rattle.curve_metric.specs.Walk.{Sample, samples, depth}
 use Rattle.curve_metric.specs.WalkLaws.{samples-le}
-use Rattle.bspline_tables.specs.Joins.{flatten-snoc, map-append}
 use Rattle.curve_walk.specs.declared.Shape.{Shape}
 use Rattle.curve_walk.specs.Walks.{encode, pointAt, ownOf, endOwner, counted, pointsOf}
 use Rattle.curve_walk.specs.Asks.{Tables, Stretch, Counted, Counts, Written, Fresh}
@@ -34,10 +32,6 @@ zero-time = refl
 pub first-point : (s : Shape) (ks cs : List Float) (l : List Float) {r : List Float} → r ≡ filled (pointAt s ks cs f0) (s .ch) l
     → r ≡ filled (pointAt s ks cs (ofNat 0)) (s .ch) l
 first-point s ks cs l e = e ∙ ap (λ (t : Float). filled (pointAt s ks cs t) (s .ch) l) zero-time
-
-pub whole-in : (n : ℕ) → n ≤ mostPoints → T (Ieee.inFloat binary64 (pos n))
-unfolding Ieee.inFloat
-whole-in n h = le→leb n 9007199254740992 (omega arith)
 
 pub stretch-of : {s : Shape} {ms : List ℕ} {ks cs q0 q1 : List Float} → Tables s ks cs → Below ms (s .ch) → length q0 ≡ s .ch → length q1 ≡ s .ch
     → Stretch s ms ks cs q0 q1

@@ -7,7 +7,7 @@ use native.Mathlib.Nat.{mul-le-mul-right, suc-mul}
 use native.Mathlib.Omega.{arith}
 use lib.ListN.{length, length-append}
 use Rattle.floats.specs.Lists.{upto, flatten}
-use Rattle.bspline_tables.specs.Joins.{flatten-snoc}
+use Rattle.floats.specs.Joins.{flatten-snoc}
 use Rattle.layout.specs.Layout.{mostPoints}
 use Rattle.curve_metric.specs.Walk.{depth}
 use Rattle.curve_walk.specs.Asks.{Recalls, Stored, Cursor}

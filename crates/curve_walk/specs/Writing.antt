@@ -1,6 +1,6 @@
 -- LAWS. What is written, one part after another. Assumes nothing.
 use mathlib.Core.Path.{_≡_, refl, sym, ap, _∙_, subst}
-use mathlib.Core.List.{List, [], _∷_, _++_, map}
+use mathlib.Core.List.{List, [], _∷_, _++_, map, map-append}
 use mathlib.Core.Bool.{Bool, true, false}
 use Prim.Native.Nat.{ℕ, zero, suc, _+_, _-_, _≤_, _<_}
 use native.Mathlib.Omega.{arith}
@@ -11,9 +11,9 @@ use Rattle.floats.specs.Numbers.{at, bits}
 use Rattle.floats.specs.Lists.{upto, flatten, spliced}
 use Rattle.floats.specs.Fill.{length-upto, at-upto}
 use Rattle.floats.specs.Splice.{Splicing, spliced-spliced, length-spliced, spliced-none}
+use Rattle.floats.specs.Joins.{flatten-append, flatten-one}
 use Rattle.curve_metric.specs.Walk.{Sample, samples, flat, middle}
 use Rattle.curve_metric.specs.WalkLaws.{samples-zero, samples-flat, samples-halves}
-use Rattle.bspline_tables.specs.Joins.{flatten-append, flatten-one, map-append}
 use Rattle.curve_walk.specs.Walks.{encode, pointsOf}
 use Rattle.curve_walk.specs.Asks.{Written}
 

@@ -1,8 +1,8 @@
 // The halving of a stretch of a curve once more: its samples written, stopping where the count did.
 use curve_flat::is_flat;
 use curve_flat::point_at;
-use curve_tally::is_remembered;
-use curve_tally::put_sample;
+use curve_put::is_remembered;
+use curve_put::put_sample;
 use curve_walk::Interval;
 use curve_walk::Place;
 use curve_walk::Shape;

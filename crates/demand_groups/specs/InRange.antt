@@ -13,7 +13,7 @@ use lib.Ieee.Exact.{HasValue, odd-sign}
 use lib.Ieee.Bits.{ofBits-toBits, ofBits-fits}
 use Rattle.floats.specs.Numbers.{num, bits}
 use Rattle.floats.specs.FloatLaws.{tidy, modest}
-use Rattle.row_check.specs.Check.{within}
+use Rattle.row_numbers.specs.RowNumbers.{within}
 use Rattle.floats.specs.Truth.{cond-f}
 
 value-modest : (y : Float) (s : Bool) (a c : ℕ) → HasValue y s a c → 0 < c → a ≤ 2 ^ 50 * c → modest y

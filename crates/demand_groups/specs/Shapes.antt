@@ -17,12 +17,13 @@ use Rattle.layout.specs.Layout.{cells, lastCode, cPW}
 use Rattle.row_cells.specs.Bits.{has, maskSum}
 use Rattle.row_cells.specs.Row.{cell, number, lineOf, planeOf, markOf, carryOf, presentOf, rowOf, outRow}
 use Rattle.spline_points.specs.Points.{weightOf}
-use Rattle.row_put.specs.Made.{rides, withRiders, madeRow, madeCell}
-use Rattle.row_check.specs.Check.{within, rowCheck}
+use Rattle.row_made.specs.Made.{rides, withRiders, madeRow, madeCell}
+use Rattle.row_numbers.specs.RowNumbers.{within}
+use Rattle.row_check.specs.Check.{rowCheck}
 use Rattle.floats.specs.Truth.{by-bit, cond-t, cond-f}
 use Rattle.row_cells.specs.Masks.{mask-lt, has-past}
 use Rattle.row_cells.specs.RowLaws.{length-out, out-mark, row-present, out-line, out-plane, out-carry, out-cell}
-use Rattle.row_put.specs.MadeLaws.{made-is, length-made, made-cell}
+use Rattle.row_made.specs.MadeLaws.{made-is, length-made, made-cell}
 use Rattle.row_check.specs.CheckLaws.{check-cell-within}
 use Rattle.demand_calls.specs.Laws.{none-some}
 use Rattle.demand_groups.specs.InRange.{shown-same}

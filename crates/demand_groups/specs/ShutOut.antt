@@ -5,9 +5,9 @@ use mathlib.Core.List.{List, [], _∷_}
 use native.Mathlib.Omega.{arith}
 use lib.ListN.{length, getD, length-append, length-map}
 use Rattle.floats.specs.Lists.{flatten}
+use Rattle.floats.specs.Joins.{flatten-append}
 use Rattle.layout.specs.Layout.{rowWords}
 use Rattle.demand_calls.specs.Every.{Every, nil, more}
-use Rattle.spline_channels.specs.Flat.{flatten-append}
 use Rattle.demand_groups.specs.Group.{rowAt}
 use Rattle.demand_groups.specs.Written.{Piece, groups, Grouped, Written}
 

@@ -11,7 +11,7 @@ use Rattle.motion.specs.Motion.{gOne, isSpline, isBasis}
 use Rattle.row_cells.specs.Codes.{planeXY}
 use Rattle.row_cells.specs.Row.{cell, number, motionOf, planeOf, presentOf, hasPoint}
 use Rattle.row_cells.specs.Bits.{has}
-use Rattle.push_check.specs.Blocks.{orNow}
+use Rattle.push_resolve.specs.Blocks.{orNow}
 use Rattle.push_state.specs.Pushed.{degreeWith}
 use Rattle.demand_calls.specs.Runs.{Event, seed, block, closed}
 

@@ -22,10 +22,11 @@ use Rattle.saved_state.specs.State.{plainDegree, tolerance, axisCount, geometri
 use Rattle.saved_state.specs.State.{curveStart, heldRow, heldRows}
 use Rattle.saved_state.specs.StateLaws.{geometric-small}
 use Rattle.call_start.specs.Start.{freshWord, fresh}
-use Rattle.call_start.specs.Seed.{seeded}
-use Rattle.push_check.specs.Blocks.{orNow, motionThen, planeThen, emits, kept}
-use Rattle.push_state.specs.PushLaws.{placed-keeps, forgotten-keeps, held-forgotten}
-use Rattle.push_state.specs.Pushed.{degreeWith, forgotten, buffered, pushState, pushStore}
+use Rattle.call_seed.specs.Seed.{seeded}
+use Rattle.push_resolve.specs.Blocks.{orNow, motionThen, planeThen, emits, kept}
+use Rattle.push_start.specs.OpenedLaws.{placed-keeps, forgotten-keeps, held-forgotten}
+use Rattle.push_start.specs.Opened.{forgotten}
+use Rattle.push_state.specs.Pushed.{degreeWith, buffered, pushState, pushStore}
 use Rattle.demand_calls.specs.Laws.{no-elements, cond-both}
 use Rattle.demand_state.specs.Accepted.{Pushed, few-axes, held-spline}
 use Rattle.demand_state.specs.Lengths.{emptied, worded, laid, worded-length, placed-length, forgotten-length, pushState-length}

@@ -13,7 +13,7 @@ use Rattle.motion.specs.Motion.{isBasis}
 use Rattle.row_cells.specs.Row.{motionOf, hasPoint, outRow}
 use Rattle.row_cells.specs.RowLaws.{out-point}
 use Rattle.row_check.specs.CheckLaws.{check-shape, shape-present}
-use Rattle.push_check.specs.Blocks.{orNow}
+use Rattle.push_resolve.specs.Blocks.{orNow}
 use Rattle.demand_calls.specs.Every.{Every, nil, more}
 use Rattle.demand_calls.specs.Runs.{Event, block, closed}
 use Rattle.demand_state.specs.Accepted.{Fine}

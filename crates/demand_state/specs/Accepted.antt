@@ -17,8 +17,9 @@ use Rattle.floats.specs.Truth.{by-bit, cond-t, cond-f, and-right}
 use Rattle.saved_state.specs.State.{axisCount, motionNow, pointOk, pointWord, position, curveStart, heldOk, stateOk, savedCheck, held, heldRowOk}
 use Rattle.saved_state.specs.StateLaws.{good, good-few, axes-few, point-small}
 use Rattle.saved_state.specs.Checked.{saved-ok, saved-rows, saved-store}
-use Rattle.push_check.specs.Blocks.{kept, motionThen, isFull, pushCheck}
-use Rattle.push_check.specs.BlockLaws.{full-room}
+use Rattle.push_resolve.specs.Blocks.{kept, motionThen}
+use Rattle.push_check.specs.Refusal.{isFull, pushCheck}
+use Rattle.push_check.specs.DueLaws.{full-room}
 
 -- ---- a state that is not refused
 pub state-words : (st : List ℕ) → stateOk st ≡ true → length st ≡ stateWords

@@ -14,13 +14,14 @@ use Rattle.floats.specs.Truth.{by-bit, cond-t, cond-f, and-i, all-ext}
 use Rattle.layout.specs.Layout.{wTolerance, wAxisCount, rowWords, wAxes, wMotion, wPlane, wKnown, wStart, wDegree, wHeld, stateWords, mostDegree, axisCodes}
 use Rattle.layout.specs.Layout.{listCodes}
 use Rattle.row_cells.specs.Codes.{planeXY, planeYZ}
-use Rattle.row_check.specs.Check.{within, rowCheck}
+use Rattle.row_numbers.specs.RowNumbers.{within}
+use Rattle.row_check.specs.Check.{rowCheck}
 use Rattle.row_cells.specs.Row.{motionOf}
 use Rattle.saved_state.specs.State.{tolOk, codesOk, axesOk, axisCount, motionNow, held, geometric, heldRow, heldRowOk, storeOk, savedCheck, placed}
 use Rattle.saved_state.specs.StateLaws.{Good, good-ok, geometric-small}
-use Rattle.push_state.specs.PushLaws.{placed-keeps}
+use Rattle.push_start.specs.OpenedLaws.{placed-keeps}
 use Rattle.call_start.specs.Start.{fresh, freshWord}
-use Rattle.call_start.specs.Seed.{seeded}
+use Rattle.call_seed.specs.Seed.{seeded}
 use Rattle.demand_state.specs.Accepted.{Saved, saved}
 use Rattle.demand_state.specs.Fresh.{few-codes, fresh-at, fresh-list}
 use Rattle.demand_state.specs.Keeps.{no-point, none-held, seeded-ok}

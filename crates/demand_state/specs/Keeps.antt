@@ -19,7 +19,8 @@ use Rattle.layout.specs.Layout.{cSD, listCodes}
 use Rattle.motion.specs.Motion.{isSpline, lastMotion}
 use Rattle.row_cells.specs.Codes.{planeXY, planeYZ, planeOk}
 use Rattle.row_cells.specs.Bits.{has, withBit}
-use Rattle.row_check.specs.Check.{within, rowCheck}
+use Rattle.row_numbers.specs.RowNumbers.{within}
+use Rattle.row_check.specs.Check.{rowCheck}
 use Rattle.row_cells.specs.Row.{number, motionOf, planeOf, presentOf, outRow}
 use Rattle.row_check.specs.CheckLaws.{check-motion, check-plane, check-shape, check-within, out-check}
 use Rattle.row_cells.specs.RowLaws.{out-motion, length-out}
@@ -28,13 +29,16 @@ use Rattle.row_cells.specs.Masks.{has-none, with-other, with-lt}
 use Rattle.saved_state.specs.State.{plainDegree, axisCount, motionNow, planeNow, degree, held, geometric, tolOk, codesOk, axesOk, pointAtOk, pointOk, heldOk}
 use Rattle.saved_state.specs.State.{stateOk, storeOk, heldRowOk, savedCheck, pointWord, position, placed}
 use Rattle.saved_state.specs.StateLaws.{Good, good, good-ok, good-few, axes-few, point-small, geometric-small}
-use Rattle.call_start.specs.Seed.{seeded}
-use Rattle.push_check.specs.Blocks.{orNow, motionThen, planeThen, emits, kept, isFull, news}
-use Rattle.push_state.specs.Pushed.{forgotten, opened, degreeWith, buffered, pushState, pushStore, trackTo}
-use Rattle.push_state.specs.PushLaws.{SameAxes, same-trans, same-set, same-placed, same-to, same-forgotten, same-opened, same-codes, same-geometric}
-use Rattle.push_state.specs.PushLaws.{placed-keeps, forgotten-keeps, held-forgotten, in-spliced, past-spliced, startWords}
-use Rattle.push_state.specs.PushLaws.{length-startWords, noWords, none-at}
-use Rattle.push_check.specs.BlockLaws.{full-room}
+use Rattle.call_seed.specs.Seed.{seeded}
+use Rattle.push_resolve.specs.Blocks.{orNow, motionThen, planeThen, emits, kept, news}
+use Rattle.push_check.specs.Refusal.{isFull}
+use Rattle.push_start.specs.Opened.{forgotten, opened}
+use Rattle.push_state.specs.Pushed.{degreeWith, buffered, pushState, pushStore, trackTo}
+use Rattle.push_start.specs.OpenedLaws.{SameAxes, same-trans, same-set, same-placed, same-forgotten, same-opened, same-codes, same-geometric}
+use Rattle.push_state.specs.PushLaws.{same-to}
+use Rattle.push_start.specs.OpenedLaws.{placed-keeps, forgotten-keeps, held-forgotten, in-spliced, past-spliced, startWords}
+use Rattle.push_start.specs.OpenedLaws.{length-startWords, noWords, none-at}
+use Rattle.push_check.specs.DueLaws.{full-room}
 use Rattle.saved_state.specs.Checked.{saved-ok, saved-rows}
 use Rattle.demand_state.specs.Lengths.{emptied, laid, pushState-steps, told, worded}
 use Rattle.demand_state.specs.StateWords.{buffered-held, buffered-low, opened-degree, opened-in, opened-low, placed-mask, placed-value, push-else}

@@ -17,8 +17,9 @@ use Rattle.row_cells.specs.Row.{motionOf, presentOf, number, outRow}
 use Rattle.row_cells.specs.RowLaws.{length-out}
 use Rattle.floats.specs.Truth.{by-bit}
 use Rattle.saved_state.specs.State.{plainDegree, held, degree, position, geometric, placed}
-use Rattle.push_check.specs.Blocks.{emits, kept, motionThen, planeThen, news}
-use Rattle.push_state.specs.Pushed.{forgotten, opened, degreeWith, buffered, trackTo, pushState, pushStore}
+use Rattle.push_resolve.specs.Blocks.{emits, kept, motionThen, planeThen, news}
+use Rattle.push_start.specs.Opened.{forgotten, opened}
+use Rattle.push_state.specs.Pushed.{degreeWith, buffered, trackTo, pushState, pushStore}
 use Rattle.demand_calls.specs.Laws.{cond-both}
 use Rattle.demand_state.specs.Accepted.{Pushed}
 

@@ -5,9 +5,10 @@ use mathlib.Core.List.{List}
 use native.Mathlib.Omega.{arith}
 use lib.Dec.{eqb}
 use Rattle.floats.specs.Lists.{all}
-use Rattle.row_check.specs.Check.{shapeOk, numbersOk, turnOk, rowCheck}
+use Rattle.row_numbers.specs.RowNumbers.{numbersOk, turnOk}
+use Rattle.row_check.specs.Check.{shapeOk, rowCheck}
 use Rattle.saved_state.specs.State.{stateOk, storeOk, held, heldRowOk, savedCheck}
-use Rattle.push_check.specs.Blocks.{isFull, pushCheck}
+use Rattle.push_check.specs.Refusal.{isFull, pushCheck}
 use Rattle.demand_calls.specs.Laws.{cond-both}
 
 pub record Refusal (n : ℕ) : Type 0 where

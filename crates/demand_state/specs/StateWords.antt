@@ -21,9 +21,10 @@ use Rattle.row_cells.specs.Row.{presentOf, motionOf, number}
 use Rattle.floats.specs.Truth.{by-bit, cond-t, cond-f}
 use Rattle.row_cells.specs.Masks.{with-same, with-other}
 use Rattle.saved_state.specs.State.{plainDegree, axisCount, geometric, motionNow, planeNow, held, degree, pointWord, position, curveStart, placed}
-use Rattle.push_check.specs.Blocks.{emits, motionThen, planeThen, news}
-use Rattle.push_state.specs.PushLaws.{same-geometric, placed-keeps, forgotten-keeps, below-spliced, in-spliced, startWords, length-startWords}
-use Rattle.push_state.specs.Pushed.{opened, degreeWith, buffered, trackTo, pushState}
+use Rattle.push_resolve.specs.Blocks.{emits, motionThen, planeThen, news}
+use Rattle.push_start.specs.OpenedLaws.{same-geometric, placed-keeps, forgotten-keeps, below-spliced, in-spliced, startWords, length-startWords}
+use Rattle.push_start.specs.Opened.{opened}
+use Rattle.push_state.specs.Pushed.{degreeWith, buffered, trackTo, pushState}
 use Rattle.demand_calls.specs.Laws.{cond-both}
 use Rattle.demand_state.specs.Lengths.{emptied, worded, laid, told, emptied-length, worded-length, told-length, pushState-steps, track-length}
 use Rattle.demand_state.specs.Lengths.{opened-length}

@@ -9,13 +9,13 @@ use borrow.Author.Tests.{eq-eqb, ne-eqb, le-leb, lt-leb}
 use Rattle.floats.specs.Truth.{by-bit, cond-t, cond-f}
 use Rattle.floats.specs.Lists.{flatten, spliced}
 use Rattle.layout.specs.Layout.{lastCode}
-use Rattle.row_check.specs.Check.{within}
+use Rattle.row_numbers.specs.RowNumbers.{within}
 use Rattle.saved_state.specs.State.{stateOk, held, savedCheck}
-use Rattle.call_reply.specs.Replies.{plain, After, tooFew}
-use Rattle.call_start.specs.Seed.{seeded, seedSpec}
-use Rattle.push_check.specs.Blocks.{pushCheck}
+use Rattle.call_reply.specs.Replies.{plain, After, tooFew, untouched}
+use Rattle.call_seed.specs.Seed.{seeded, seedSpec}
+use Rattle.push_check.specs.Refusal.{pushCheck}
 use Rattle.call_push.specs.Push.{pushRows, pushDone, pushSpec}
-use Rattle.call_close.specs.Close.{untouched, closeRows, closeState, closeSpec}
+use Rattle.call_close.specs.Close.{closeRows, closeState, closeSpec}
 use Rattle.demand_calls.specs.Judged.{Judged, accepted, counted, needs}
 use Rattle.demand_calls.specs.Places.{places}
 use Rattle.demand_state.specs.Refusals.{saved-number, push-number}

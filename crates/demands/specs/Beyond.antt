@@ -12,8 +12,8 @@ use Rattle.floats.specs.Splice.{spliced-none}
 use Rattle.floats.specs.Truth.{by-bit, cond-t}
 use Rattle.saved_state.specs.State.{stateOk, held, savedCheck}
 use Rattle.call_reply.specs.Replies.{After}
-use Rattle.push_state.specs.PushLaws.{held-forgotten}
-use Rattle.push_check.specs.Blocks.{pushCheck}
+use Rattle.push_start.specs.OpenedLaws.{held-forgotten}
+use Rattle.push_check.specs.Refusal.{pushCheck}
 use Rattle.call_push.specs.Push.{pushRows, pushDone, pushSpec}
 use Rattle.call_close.specs.Close.{closeRows, closeState, closeSpec}
 use Rattle.demand_calls.specs.Places.{places, Filled}

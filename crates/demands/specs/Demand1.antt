@@ -11,14 +11,15 @@ use Rattle.call_reply.specs.declared.Reply.{Reply}
 use Rattle.floats.specs.Lists.{member}
 use Rattle.floats.specs.Fill.{length-upto}
 use Rattle.layout.specs.Layout.{stateWords, lastCode}
-use Rattle.row_check.specs.Check.{within}
+use Rattle.row_numbers.specs.RowNumbers.{within}
 use Rattle.saved_state.specs.State.{stateOk, tolOk, codesOk, geometric, held, savedCheck}
-use Rattle.call_reply.specs.Replies.{plain, AfterState, tooFew}
+use Rattle.call_reply.specs.Replies.{plain, AfterState, tooFew, untouched}
 use Rattle.call_start.specs.Start.{freshWord, fresh, startSpec}
-use Rattle.call_start.specs.Seed.{seeded, seedSpec}
-use Rattle.push_check.specs.Blocks.{pushCheck}
+use Rattle.call_seed.specs.Seed.{seeded, seedSpec}
+use Rattle.push_check.specs.Refusal.{pushCheck}
 use Rattle.call_push.specs.Push.{pushRows, pushDone, pushSpec}
-use Rattle.call_close.specs.Close.{untouched, fits, closeRows, closeState, closeSpec}
+use Rattle.spline_write.specs.Room.{fits}
+use Rattle.call_close.specs.Close.{closeRows, closeState, closeSpec}
 use Rattle.demand_calls.specs.Laws.{cond-both}
 use Rattle.demand_calls.specs.PlaceLaws.{spliced-rows}
 use Rattle.demand_calls.specs.Safe.{Turned, Safe, SafeState}

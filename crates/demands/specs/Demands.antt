@@ -5,7 +5,7 @@ use mathlib.Core.List.{List, [], _++_}
 use Rattle.row_cells.specs.Codes.{geometricOf}
 use Rattle.call_reply.specs.Replies.{After}
 use Rattle.call_start.specs.Start.{startSpec}
-use Rattle.call_start.specs.Seed.{seedSpec}
+use Rattle.call_seed.specs.Seed.{seedSpec}
 use Rattle.call_push.specs.Push.{pushSpec}
 use Rattle.call_close.specs.Close.{closeSpec}
 use Rattle.demand_calls.specs.Runs.{blocksOf, Call, pushing, seeding, closing, wrote, run, Traceless}

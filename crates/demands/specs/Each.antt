@@ -15,7 +15,7 @@ use Rattle.layout.specs.Layout.{axisCodes, mostHeld}
 use Rattle.motion.specs.Motion.{isSpline}
 use Rattle.row_cells.specs.Bits.{has}
 use Rattle.row_cells.specs.Row.{cell, presentOf, outRow}
-use Rattle.row_check.specs.Check.{within}
+use Rattle.row_numbers.specs.RowNumbers.{within}
 use Rattle.floats.specs.Truth.{by-bit, and-left, cond-t, cond-f}
 use Rattle.row_check.specs.CheckLaws.{check-shape, out-check, check-cell-within}
 use Rattle.spline_emission.specs.Emission.{Spline, splineGroups, heldGroup, runsOf}

@@ -13,17 +13,17 @@ use Rattle.motion.specs.declared.Kind.{Kind}
 use Rattle.motion.specs.declared.Kind.the-variants.{Same, Linear, Clockwise, Counter, Akima, Basis, Cubic, Other, Refused}
 use Rattle.row_cells.specs.Row.{outRow, hasPoint}
 use Rattle.row_cells.specs.RowLaws.{length-out}
-use Rattle.row_put.specs.MadeLaws.{length-made}
+use Rattle.row_made.specs.MadeLaws.{length-made}
 use Rattle.demand_calls.specs.Every.{Every, nil, more}
 use Rattle.demand_calls.specs.Laws.{cond-both, every-append, every-upto, every-flatten}
 use Rattle.demand_calls.specs.PlaceLaws.{Long}
-use Rattle.row_put.specs.Made.{madeRow}
+use Rattle.row_made.specs.Made.{madeRow}
 use Rattle.arc_rows.specs.Arc.{Answer, silent, passed, arcAnswer, fromStart, fromCentre, arcRows, arcRow, Centre, centred, warned, Ends, Arc}
 use Rattle.spline_emission.specs.Emission.{Spline, splineGroups, heldGroup, pointGroup}
 use Rattle.saved_state.specs.State.{held}
 use Rattle.push_rows.specs.Answer.{answerAs, ownAnswer}
-use Rattle.push_check.specs.Blocks.{emits}
-use Rattle.call_close.specs.Held.{emission}
+use Rattle.push_resolve.specs.Blocks.{emits}
+use Rattle.spline_put.specs.Held.{emission}
 use Rattle.call_push.specs.Push.{pushRows}
 use Rattle.call_close.specs.Close.{closeRows}
 

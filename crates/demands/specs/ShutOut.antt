@@ -13,6 +13,7 @@ use Rattle.motion.specs.Motion as Motion
 use Rattle.row_cells.specs.Codes as Codes
 use Rattle.row_cells.specs.Row as Row
 use Rattle.row_cells.specs.Bits as Bits
+use Rattle.row_numbers.specs.RowNumbers as RowNumbers
 use Rattle.row_check.specs.Check as Check
 use Rattle.arc_rows.specs.Arc.{passed}
 use Rattle.saved_state.specs.State as State
@@ -20,7 +21,8 @@ use Rattle.call_start.specs.Start as Start
 use Rattle.call_reply.specs.Replies.{After}
 use Rattle.call_start.specs.Start.{fresh}
 use Rattle.call_push.specs.Push as Push
-use Rattle.push_check.specs.Blocks as Blocks
+use Rattle.push_resolve.specs.Blocks as Blocks
+use Rattle.push_check.specs.Refusal as Refusal
 use Rattle.push_state.specs.Pushed as Pushed
 use Rattle.push_rows.specs.Answer as Own
 use Rattle.call_push.specs.Push.{pushRows, pushSpec}
@@ -52,11 +54,11 @@ pushedNext = pushSpec (pushedLine 1 .state) (pushedLine 1 .store) room (line 2)
 computed : (pushedLine 1 .reply .code ∷ []) ∷ pushedLine 1 .rows ∷ pushedLine 2 .rows ∷ pushedNext .rows ∷ (pushedLine 2 .reply .code ∷ []) ∷ []
     ≡ (0 ∷ []) ∷ line 1 ∷ line 2 ∷ line 2 ∷ (0 ∷ []) ∷ []
 unfolding fresh Start.freshWord Lists.upto Lists.keep Lists.member Lists.flatten Lists.spliced Motion.kindOf Motion.isSpline Motion.isOther Motion.isBasis
-    Motion.isCubic Codes.planeOk Codes.geometricOf Bits.has Lists.all Row.cell Row.maskOf Row.rowOf Row.outRow Check.shapeOk Check.within Check.cellOk
-    Check.numbersOk Check.above1000 Check.turnOk Check.rowCheck passed State.geometric State.pointWord State.tolOk State.codeOk State.codesOk State.axesOk
-    State.pointAtOk State.pointOk State.heldOk State.stateOk State.storeOk State.heldRows State.heldRowOk State.savedCheck Bits.withBit State.placed
-    Blocks.orNow Blocks.emits Blocks.kept Own.answerAs Own.ownAnswer Blocks.news Pushed.trackTo Pushed.pushState Pushed.pushStore Push.pushRows
-    Blocks.isFull Blocks.pushCheck Push.pushDone Push.pushSpec
+    Motion.isCubic Codes.planeOk Codes.geometricOf Bits.has Lists.all Row.cell Row.maskOf Row.rowOf Row.outRow Check.shapeOk RowNumbers.within RowNumbers.cellOk
+    RowNumbers.numbersOk RowNumbers.above1000 RowNumbers.turnOk Check.rowCheck passed State.geometric State.pointWord State.tolOk State.codeOk State.codesOk
+    State.axesOk State.pointAtOk State.pointOk State.heldOk State.stateOk State.storeOk State.heldRows State.heldRowOk State.savedCheck Bits.withBit
+    State.placed Blocks.orNow Blocks.emits Blocks.kept Own.answerAs Own.ownAnswer Blocks.news Pushed.trackTo Pushed.pushState Pushed.pushStore Push.pushRows
+    Refusal.isFull Refusal.pushCheck Push.pushDone Push.pushSpec
 computed = refl
 
 -- the first word of answer i

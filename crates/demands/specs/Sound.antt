@@ -10,7 +10,7 @@ use borrow.Author.Tests.{eqb-true}
 use Rattle.layout.specs.Layout.{mostHeld}
 use Rattle.motion.specs.Motion.{isSpline}
 use Rattle.row_cells.specs.Row.{motionOf}
-use Rattle.row_check.specs.Check.{within}
+use Rattle.row_numbers.specs.RowNumbers.{within}
 use Rattle.floats.specs.Truth.{by-bit, cond-t}
 use Rattle.demand_calls.specs.Every.{Every, nil, more}
 use Rattle.demand_calls.specs.Runs.{Event, seed, block, closed, Call, taken, run}

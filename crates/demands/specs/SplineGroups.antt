@@ -21,14 +21,14 @@ use Rattle.floats.specs.FloatLaws.{one, one-is, tidy, fits-unique}
 use Rattle.layout.specs.Layout.{axisCodes, mostHeld}
 use Rattle.motion.specs.Motion.{gOne, isCubic}
 use Rattle.row_cells.specs.Row.{cell, hasPoint, markOf, outRow}
-use Rattle.row_put.specs.Made.{madeRow}
-use Rattle.row_check.specs.Check.{within}
+use Rattle.row_made.specs.Made.{madeRow}
+use Rattle.row_numbers.specs.RowNumbers.{within}
 use Rattle.floats.specs.Truth.{by-bit, and-left, and-right, cond-t, cond-f}
+use Rattle.floats.specs.Joins.{keep-append, keep-here}
 use Rattle.curve_metric.specs.Metric.{pointOf}
 use Rattle.curve_metric.specs.Ends.{EndsWith, ends-last}
 use Rattle.fit_knots.specs.Fit.{fitRuns}
 use Rattle.bspline_tables.specs.Basis.{basisRuns, basisOf, spansOf, evalBasis}
-use Rattle.bspline_tables.specs.Joins.{keep-append, keep-here}
 use Rattle.bspline_tables.specs.BasisLaws.{runs-length}
 use Rattle.bspline_tables.specs.LastRun.{last-run}
 use Rattle.bspline_tables.specs.EndPoint.{end-point}

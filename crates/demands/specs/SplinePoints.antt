@@ -17,7 +17,7 @@ use Rattle.floats.specs.FloatLaws.{modest}
 use Rattle.layout.specs.Layout.{axisCodes, cells, cPW}
 use Rattle.row_cells.specs.Bits.{has}
 use Rattle.row_cells.specs.Row.{cell, number, presentOf}
-use Rattle.row_check.specs.Check.{within}
+use Rattle.row_numbers.specs.RowNumbers.{within}
 use Rattle.floats.specs.Truth.{by-bit, and-right, or-f, cond-t, cond-f}
 use Rattle.row_cells.specs.Masks.{member-append, member-keep}
 use Rattle.row_check.specs.CheckLaws.{check-cell-within}

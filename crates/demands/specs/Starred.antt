@@ -13,7 +13,8 @@ use Rattle.motion.specs.Motion as Motion
 use Rattle.row_cells.specs.Codes as Codes
 use Rattle.row_cells.specs.Row as Row
 use Rattle.row_cells.specs.Bits as Bits
-use Rattle.row_put.specs.Made as Made
+use Rattle.row_made.specs.Made as Made
+use Rattle.row_numbers.specs.RowNumbers as RowNumbers
 use Rattle.row_check.specs.Check as Check
 use Rattle.arc_rows.specs.Arc as Arc
 use Rattle.curve_metric.specs.Metric as Metric
@@ -23,10 +24,12 @@ use Rattle.curve_runs.specs.Runs as Runs
 use Rattle.spline_emission.specs.Emission as Emission
 use Rattle.saved_state.specs.State as State
 use Rattle.call_start.specs.Start as Start
-use Rattle.call_close.specs.Held as Held
+use Rattle.spline_put.specs.Held as Held
 use Rattle.call_reply.specs.Replies as Replies
 use Rattle.call_push.specs.Push as Push
-use Rattle.push_check.specs.Blocks as Blocks
+use Rattle.push_resolve.specs.Blocks as Blocks
+use Rattle.push_check.specs.Refusal as Refusal
+use Rattle.push_start.specs.Opened as Opened
 use Rattle.push_state.specs.Pushed as Pushed
 use Rattle.push_rows.specs.Answer as Own
 use Rattle.call_close.specs.Close as Close
@@ -77,8 +80,8 @@ unfolding Lists.upto Lists.keep Lists.member Lists.anyOf Lists.flatten Lists.row
     Whole.ceilCount Whole.halfUpCount Whole.truncCount Trig.sinSteps Trig.cosSteps Trig.atanFrom Trig.atanRight Trig.atanLeft Trig.atanUp Trig.atan2Steps
     Trig.acosSteps Motion.kindOf Motion.isSpline Motion.isOther Motion.isBasis Motion.isCubic Codes.planeU Codes.planeV Codes.planeOk Codes.geometricOf
     Bits.has Lists.all Row.cell Row.number Row.shown Row.axesOf Row.maskOf Row.rowOf Row.outRow Row.hasPoint Made.rides Made.withRiders Made.madeRow
-    Check.shapeOk Check.within Check.cellOk Check.numbersOk Check.above1000 Check.turnOk Check.rowCheck Arc.passed Arc.silent Arc.sideOf Arc.crCentre
-    Arc.centreOf
+    Check.shapeOk RowNumbers.within RowNumbers.cellOk RowNumbers.numbersOk RowNumbers.above1000 RowNumbers.turnOk Check.rowCheck Arc.passed Arc.silent
+    Arc.sideOf Arc.crCentre Arc.centreOf
     Arc.radius Arc.wideCentre Arc.agree Arc.sweepLeft Arc.sweepOf Arc.turned Arc.arcOf Arc.stepOf Arc.wantedOf Arc.countOf Arc.ramp Arc.lastCell
     Arc.midCell Arc.arcRow Arc.heldAxes Arc.arcRows Arc.fromCentre Arc.fromStart Arc.arcAnswer Metric.dotTo Metric.lenTo Metric.along Metric.distTo
     Metric.deviationOf Metric.chordTo Metric.chords Walk.near Walk.flat Walk.samples Basis.degreeOf Basis.knots Basis.share Basis.raisedAt Basis.levels
@@ -88,8 +91,8 @@ unfolding Lists.upto Lists.keep Lists.member Lists.anyOf Lists.flatten Lists.row
     Emission.pointGroup Emission.heldGroup Emission.splineGroups State.geometric State.pointWord State.tolOk State.codeOk State.codesOk State.axesOk
     State.pointAtOk State.pointOk State.heldOk State.stateOk State.storeOk State.heldRows State.heldRowOk State.savedCheck Bits.withBit State.placed
     Start.freshWord Start.fresh Start.startSpec Held.heldSpline Blocks.orNow Blocks.emits Blocks.kept Held.emission Own.answerAs Own.ownAnswer Blocks.news
-    Pushed.trackTo Pushed.forgotten Pushed.opened Pushed.degreeWith Pushed.buffered Pushed.pushState Pushed.pushStore Push.pushRows Blocks.isFull
-    Blocks.pushCheck Close.untouched Replies.tooFew Push.pushDone Push.pushSpec Close.closeRows Close.closeState Close.closeSpec Demands.answer
+    Pushed.trackTo Opened.forgotten Opened.opened Pushed.degreeWith Pushed.buffered Pushed.pushState Pushed.pushStore Push.pushRows Refusal.isFull
+    Refusal.pushCheck Replies.untouched Replies.tooFew Push.pushDone Push.pushSpec Close.closeRows Close.closeState Close.closeSpec Demands.answer
     Calls.wrote Ieee.add Ieee.sub Ieee.mul Ieee.div Ieee.rem Ieee.neg Ieee.lt Ieee.le Ieee.eq Ieee.ofBits Ieee.toBits Ieee.ofInt lastOf
 asked t cs = lastOf (Start.startSpec (replicate stateWords 7) t xyz .state) (replicate (4 * rowWords) 0) cs
 

@@ -5,7 +5,7 @@ use mathlib.Core.Bool.{true}
 use mathlib.Core.List.{List}
 use lib.ListN.{length}
 use borrow.Author.Tests.{eqb-true}
-use Rattle.row_check.specs.Check.{within}
+use Rattle.row_numbers.specs.RowNumbers.{within}
 use Rattle.floats.specs.Truth.{by-bit}
 use Rattle.saved_state.specs.State.{tolOk, codesOk, stateOk, savedCheck}
 use Rattle.demand_calls.specs.Places.{places}
@@ -18,8 +18,8 @@ use Rattle.demands.specs.Demands.{answer}
 use Rattle.demands.specs.NoTrace.{refused-leaves}
 use Rattle.call_reply.specs.Replies.{After, AfterState, plain}
 use Rattle.call_start.specs.Start.{fresh}
-use Rattle.call_start.specs.Seed.{seeded, seedSpec}
-use Rattle.push_check.specs.Blocks.{pushCheck}
+use Rattle.call_seed.specs.Seed.{seeded, seedSpec}
+use Rattle.push_check.specs.Refusal.{pushCheck}
 use Rattle.call_push.specs.Push.{pushRows, pushDone}
 use Rattle.call_close.specs.Close.{closeRows, closeSpec}
 use Rattle.demand_calls.specs.RunLaws.{run-keeps}

@@ -3,26 +3,15 @@
 use csv_ending::Ending;
 use csv_io::ERR_ROOM;
 use csv_io::OUT_ROOM;
-use csv_io::report;
-use csv_io::tell;
+use csv_run::INPUT;
+use csv_run::ROWS;
+use csv_run::STORE;
 use csv_run::whole_run;
-use csv_turn::INPUT;
-use csv_turn::ROWS;
-use csv_turn::STORE;
+use csv_start::start;
+use csv_status::report;
+use csv_status::tell;
 use layout::STATE_WORDS;
-ghost use mathlib.Core.Path.{_≡_};
-ghost use Rattle.call_start.specs.Start.{startSpec};
-ghost use Rattle.csv_step.specs.Csv.{tolerance, axes};
 ghost use Rattle.csv_run.specs.Run.{Ran};
-
-// 0.1
-const TOLERANCE: u64 = 0x3fb9_9999_9999_999a;
-
-fn start(state: &mut [u64; STATE_WORDS])
-    ensures { λ r. ⌜ now (state .exit) ≡ startSpec (now (state .entry)) tolerance axes .state ⌝ }
-{
-    call_start::start::start(state, TOLERANCE, &[0, 1, 2]);
-}
 
 // What failed, if anything did, and the status: of a run that was made, with its last bytes in the two buffers.
 fn told(end: Ending, out: &[u8; OUT_ROOM], err: &[u8; ERR_ROOM])

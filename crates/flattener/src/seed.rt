@@ -1,7 +1,7 @@
 // Seeding a position.
 use call_reply::Reply;
-use call_start::seed::seed;
-ghost use Rattle.call_start.specs.Seed.{seedSpec};
+use call_seed::seed;
+ghost use Rattle.call_seed.specs.Seed.{seedSpec};
 ghost use Rattle.call_reply.specs.Replies.{StateIs};
 
 // Makes the number whose bits are `value` the position of an axis.

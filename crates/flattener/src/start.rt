@@ -1,6 +1,6 @@
 // Starting.
 use call_reply::Reply;
-use call_start::start::start;
+use call_start::start;
 ghost use Rattle.call_start.specs.Start.{startSpec};
 ghost use Rattle.call_reply.specs.Replies.{StateIs};
 

@@ -5,3 +5,5 @@ pub mod Splice
 pub mod FloatLaws
 pub mod Dyadic
 pub mod Truth
+pub mod Joins
+pub mod Parts

@@ -13,12 +13,13 @@ use Rattle.row_cells.specs.Bits.{maskSum, withBit}
 use Rattle.row_cells.specs.Row.{motionOf}
 use Rattle.floats.specs.Truth.{by-bit}
 use Rattle.saved_state.specs.State.{held, geometricMask}
-use Rattle.push_check.specs.declared.Resolved.{Resolved}
-use Rattle.push_check.specs.Resolved.{resolved}
-use Rattle.push_state.specs.Pushed.{forgotten, buffered, trackTo, pushState}
-use Rattle.push_check.specs.Asks.{Block}
-use Rattle.push_state.specs.PushLaws.{block-same, SameAxes, same-geometric, same-refl, same-trans, same-set, same-cond, same-forgotten}
-use Rattle.push_state.specs.PushLaws.{same-buffered, held-forgotten}
+use Rattle.push_resolve.specs.declared.Resolved.{Resolved}
+use Rattle.push_resolve.specs.Resolved.{resolved}
+use Rattle.push_start.specs.Opened.{forgotten}
+use Rattle.push_state.specs.Pushed.{buffered, trackTo, pushState}
+use Rattle.push_resolve.specs.Asks.{Block}
+use Rattle.push_start.specs.OpenedLaws.{SameAxes, same-geometric, same-refl, same-trans, same-set, same-cond, same-forgotten, held-forgotten}
+use Rattle.push_state.specs.PushLaws.{block-same, same-buffered}
 
 pub record Step1 (st r s1 : List ℕ) (b : Resolved) : Type 0 where
   pub block : Block st r

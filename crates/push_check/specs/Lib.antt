@@ -1,4 +1,3 @@
-pub mod Blocks
-pub mod Asks
-pub mod BlockLaws
-pub mod Resolved
+pub mod Refusal
+pub mod Due
+pub mod DueLaws

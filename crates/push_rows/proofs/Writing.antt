@@ -14,7 +14,7 @@ use Rattle.arc_sample.specs.Rowing.{flatten-one}
 use mathlib.Core.Option.{Option}
 use Rattle.arc_rows.specs.declared.Plan.{Plan}
 use Rattle.saved_state.specs.State.{position, geometricMask}
-use Rattle.push_check.specs.Blocks.{planeThen}
+use Rattle.push_resolve.specs.Blocks.{planeThen}
 use Rattle.push_rows.specs.Own.{OwnPlanned, ownRows}
 use Rattle.push_rows.specs.OwnLaws.{own-write, own-rows, own-no-rows}
 

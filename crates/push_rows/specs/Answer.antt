@@ -8,7 +8,7 @@ use Rattle.motion.specs.Motion.{kindOf}
 use Rattle.motion.specs.declared.Kind.{Kind}
 use Rattle.motion.specs.declared.Kind.the-variants.{Same, Linear, Clockwise, Counter, Akima, Basis, Cubic, Other, Refused}
 use Rattle.saved_state.specs.State.{tolerance, geometric, position}
-use Rattle.push_check.specs.Blocks.{motionThen, planeThen}
+use Rattle.push_resolve.specs.Blocks.{motionThen, planeThen}
 use Rattle.arc_rows.specs.Arc.{Answer, passed, arcAnswer}
 
 -- 3.6, 3.9, 3.10: unchanged, an arc, or no row yet

@@ -13,7 +13,7 @@ use Rattle.motion.specs.Motion.{gOne}
 use Rattle.row_cells.specs.Codes.{planeU, planeV}
 use Rattle.row_cells.specs.Bits.{has}
 use Rattle.row_cells.specs.Row.{presentOf, hasPoint}
-use Rattle.row_put.specs.MadeLaws.{made-same}
+use Rattle.row_made.specs.MadeLaws.{made-same}
 use Rattle.floats.specs.Truth.{by-bit, or-t, or-f}
 use Rattle.arc_rows.specs.Arc.{Answer, silent, Ends, Arc, Centre, centred, warned, lastCell, midCell, arcRow, heldAxes, arcRows, wantedOf, countOf, fromCentre}
 use Rattle.arc_rows.specs.Arc.{fromStart, arcAnswer}

@@ -14,7 +14,7 @@ use Rattle.row_cells.specs.Codes.{planeU, planeV}
 use Rattle.floats.specs.Truth.{by-bit}
 use Rattle.arc_rows.specs.Arc.{Ends, Centre, centred, warned, passed, silent, arcRows, countOf, fromCentre, fromStart, arcAnswer}
 use Rattle.saved_state.specs.State.{tolerance, geometric, position}
-use Rattle.push_check.specs.Blocks.{motionThen, planeThen}
+use Rattle.push_resolve.specs.Blocks.{motionThen, planeThen}
 use Rattle.push_rows.specs.Answer.{answerAs, ownAnswer}
 
 -- 4.18: an arc has at most 100,000 rows

@@ -12,12 +12,12 @@ use Rattle.arc_rows.specs.declared.Way.the-variants.{Pass}
 use Rattle.arc_rows.specs.declared.Plan.{Plan}
 use Rattle.arc_rows.specs.Plan.{planRows, Planned}
 use Rattle.saved_state.specs.State.{geometric, tolerance, position, geometricMask}
-use Rattle.push_check.specs.Blocks.{planeThen}
+use Rattle.push_resolve.specs.Blocks.{planeThen}
 use Rattle.push_rows.specs.Answer.{ownAnswer}
-use Rattle.push_check.specs.Asks.{Block}
-use Rattle.push_check.specs.BlockLaws.{block}
-use Rattle.push_check.specs.declared.Resolved.{Resolved}
-use Rattle.push_check.specs.Resolved.{resolved}
+use Rattle.push_resolve.specs.Asks.{Block}
+use Rattle.push_resolve.specs.BlockLaws.{block}
+use Rattle.push_resolve.specs.declared.Resolved.{Resolved}
+use Rattle.push_resolve.specs.Resolved.{resolved}
 
 -- ---- a block's own plan
 pub record Ready (st r : List ℕ) (b : Resolved) : Type 0 where

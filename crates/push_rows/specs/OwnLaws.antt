@@ -25,11 +25,11 @@ use Rattle.arc_rows.specs.Plan.{passPlan, planRows, wayRows, Planned, WriteOf}
 use Rattle.saved_state.specs.State.{geometric, tolerance, stateOk, pointWord, position, geometricMask}
 use Rattle.saved_state.specs.StateLaws.{good, point-small}
 use Rattle.saved_state.specs.Axes.{geometric-mask-small, mask-members}
-use Rattle.push_check.specs.Blocks.{motionThen, planeThen}
+use Rattle.push_resolve.specs.Blocks.{motionThen, planeThen}
 use Rattle.push_rows.specs.Answer.{answerAs, ownAnswer}
-use Rattle.push_check.specs.BlockLaws.{block}
-use Rattle.push_check.specs.declared.Resolved.{Resolved}
-use Rattle.push_check.specs.Resolved.{resolved}
+use Rattle.push_resolve.specs.BlockLaws.{block}
+use Rattle.push_resolve.specs.declared.Resolved.{Resolved}
+use Rattle.push_resolve.specs.Resolved.{resolved}
 use Rattle.push_rows.specs.ArcSame.{arc-same}
 use Rattle.push_rows.specs.Own.{Ready, nonePlan, ownRows, OwnPlanned, TurnPlanned}
 

@@ -8,7 +8,7 @@ use layout::AXIS_CODES;
 use layout::W_KNOWN;
 use layout::W_TOLERANCE;
 use motion::Kind;
-use push_check::Resolved;
+use push_resolve::Resolved;
 use row_put::put_row;
 ghost use mathlib.Core.Path.{_≡_};
 ghost use Prim.Native.Nat.{_+_, _<_};

@@ -1,32 +1,25 @@
--- DEFINITIONS. What a block leaves in the state and the store: rules 3.8, 3.10 to 3.13, 3.16. Assumes nothing.
+-- DEFINITIONS. What a block leaves in the state and the store: rules 3.8, 3.10, 3.12, 3.13, 3.16. Assumes nothing.
 use Prim.Native.Nat.{ℕ, zero, suc, _+_, _*_, min, max}
 use mathlib.Core.Bool.{_&&_, cond}
-use mathlib.Core.List.{List, _∷_}
-use mathlib.Core.Option.{Option, none, some, Option·getD}
+use mathlib.Core.List.{List}
+use mathlib.Core.Option.{Option, none, some}
 use lib.ListN.{getD, set}
 use lib.Dec.{eqb}
 use lib.Ieee.{Float}
-use Rattle.floats.specs.Lists.{upto, member, spliced}
+use Rattle.floats.specs.Lists.{member, spliced}
 use Rattle.whole.specs.Whole.{truncCount}
-use Rattle.layout.specs.Layout.{axisCodes, cSD, rCells, rowWords, wMotion, wPlane, wKnown, wWarned, wStart, wDegree, wHeld, mostDegree}
+use Rattle.layout.specs.Layout.{axisCodes, cSD, rCells, rowWords, wMotion, wPlane, wWarned, wDegree, wHeld, mostDegree}
 use Rattle.motion.specs.Motion.{isSpline}
 use Rattle.row_cells.specs.Bits.{has, withBit}
 use Rattle.row_cells.specs.Row.{number, motionOf, presentOf, outRow}
-use Rattle.saved_state.specs.State.{plainDegree, degree, held, geometric, position, placed}
-use Rattle.push_check.specs.Blocks.{motionThen, planeThen, emits, kept, news}
+use Rattle.saved_state.specs.State.{degree, held, geometric, placed}
+use Rattle.push_resolve.specs.Blocks.{motionThen, planeThen, emits, kept, news}
+use Rattle.push_start.specs.Opened.{forgotten, opened}
 
 -- ---- the state afterwards. 3.13: positions take the geometric cells present
 unfoldable pub trackTo : ℕ → List ℕ → List ℕ → List ℕ
 trackTo zero st r = st
 trackTo (suc k) st r = let s = trackTo k st r in cond (has (presentOf r) k && member k (geometric st)) (placed s k (getD r (rCells + k) 0)) s
-
--- 3.16: nothing is held, and the curve start is forgotten
-unfoldable pub forgotten : List ℕ → List ℕ
-forgotten st = set (spliced st wStart (upto (λ (k : ℕ). 0) (axisCodes + 1))) wHeld 0
-
--- 3.11: the positions become the curve start, the degree 3
-unfoldable pub opened : List ℕ → List ℕ
-opened st = set (spliced st wStart (getD st wKnown 0 ∷ upto (λ (k : ℕ). Option·getD (position st k) 0) axisCodes)) wDegree plainDegree
 
 -- 3.12: the degree that SD sets
 unfoldable pub degreeWith : ℕ → Option Float → ℕ

@@ -8,7 +8,7 @@ use Rattle.floats.specs.Lists.{spliced}
 use Rattle.layout.specs.Layout.{rowWords, mostHeld}
 use Rattle.motion.specs.Motion.{splineKind}
 use Rattle.row_cells.specs.Row.{outRow}
-use Rattle.push_check.specs.declared.Resolved.{Resolved}
+use Rattle.push_resolve.specs.declared.Resolved.{Resolved}
 
 -- a block that is buffered has room behind those that stay held
 pub record Stores (b : Resolved) (store r : List ℕ) : Type 0 where

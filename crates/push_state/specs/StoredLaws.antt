@@ -4,11 +4,11 @@ use mathlib.Core.Path.{_≡_, ap}
 use mathlib.Core.Bool.{false}
 use mathlib.Core.List.{List}
 use Rattle.motion.specs.Motion.{isSpline}
-use Rattle.push_check.specs.declared.Resolved.{Resolved}
-use Rattle.push_check.specs.Blocks.{isFull}
-use Rattle.push_check.specs.Asks.{Block}
-use Rattle.push_check.specs.BlockLaws.{full-room}
-use Rattle.push_check.specs.Resolved.{resolved}
+use Rattle.push_resolve.specs.declared.Resolved.{Resolved}
+use Rattle.push_check.specs.Refusal.{isFull}
+use Rattle.push_resolve.specs.Asks.{Block}
+use Rattle.push_check.specs.DueLaws.{full-room}
+use Rattle.push_resolve.specs.Resolved.{resolved}
 use Rattle.push_state.specs.Pushed.{pushStore}
 use Rattle.push_state.specs.Stored.{Stores, storeWith}
 

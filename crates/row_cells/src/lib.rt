@@ -1,8 +1,6 @@
 // The bits of masks, and the plane words. The definitions of a row as words are in specs/.
 ghost use mathlib.Core.Path.{_≡_};
-ghost use mathlib.Core.Bool.{cond};
-ghost use Prim.Native.Nat.{_+_, _<_, _^_};
-ghost use Rattle.layout.specs.Layout.{cells};
+ghost use Prim.Native.Nat.{_<_};
 ghost use Rattle.row_cells.specs.Bits.{has, withBit, lowest, others};
 
 // The plane words: X and Y, Z and X, Y and Z.
@@ -25,17 +23,6 @@ pub fn set_bit(p: u64, k: u64) -> u64
     ensures { λ r. ⌜ r ≡ withBit p k ⌝ }
 {
     p | (1 << k)
-}
-
-// The mask m of cells below k, with cell k.
-pub fn mask_with(m: u64, k: usize, present: bool) -> u64
-    requires { ⌜ (m < 2 ^ k) × (k < cells) ⌝ }
-    ensures { λ r. ⌜ r ≡ m + cond present (2 ^ k) 0 ⌝ }
-{
-    if present {
-        return set_bit(m, k as u64);
-    }
-    m
 }
 
 // The lowest bit that p has, 64 where it has none.

@@ -1,25 +1,14 @@
 -- DEFINITIONS. What an incoming row is refused for: refusals 4, 3 and 5. Assumes nothing.
-use Prim.Native.Nat.{ℕ, _%_}
-use mathlib.Core.Bool.{Bool, _&&_, _||_, not, cond}
+use Prim.Native.Nat.{ℕ}
+use mathlib.Core.Bool.{Bool, _&&_, cond}
 use mathlib.Core.List.{List}
 use lib.ListN.{length}
 use lib.Dec.{leb, ltb, eqb}
-use Rattle.floats.specs.Lists.{all}
-use Rattle.layout.specs.Layout.{cells, rowWords, cTURN, cellMasks, lineNumbers}
+use Rattle.layout.specs.Layout.{rowWords, cellMasks, lineNumbers}
 use Rattle.motion.specs.Motion.{lastMotion}
 use Rattle.row_cells.specs.Codes.{planeOk}
-use Rattle.row_cells.specs.Bits.{has}
-use Rattle.row_cells.specs.Row.{lineOf, motionOf, planeOf, markOf, presentOf, rawWord}
-
--- numbers by their bits: those from here on are negative; a thousand million; a thousand
-abbrev pub signBit : ℕ
-signBit = 0x8000000000000000
-
-abbrev pub mostNumber : ℕ
-mostNumber = 0x41CDCD6500000000
-
-abbrev pub mostTurns : ℕ
-mostTurns = 0x408F400000000000
+use Rattle.row_cells.specs.Row.{lineOf, motionOf, planeOf, markOf, presentOf}
+use Rattle.row_numbers.specs.RowNumbers.{numbersOk, turnOk}
 
 -- 4: a row of another length, a field wider than it may be, no motion or plane word, a mark, a presence bit past the cells
 abbrev pub fieldsOk : List ℕ → Bool
@@ -27,23 +16,6 @@ fieldsOk r = planeOk (planeOf r) && (eqb (markOf r) 0 && ltb (presentOf r) cellM
 
 unfoldable pub shapeOk : List ℕ → Bool
 shapeOk r = eqb (length r) rowWords && (ltb (lineOf r) lineNumbers && (leb (motionOf r) lastMotion && fieldsOk r))
-
--- 3: a number that is there, or a seed, is not finite or farther from zero than the largest
-unfoldable pub within : ℕ → Bool
-within x = leb (x % signBit) mostNumber
-
-unfoldable pub cellOk : List ℕ → ℕ → Bool
-cellOk r k = not (has (presentOf r) k) || within (rawWord r k)
-
-unfoldable pub numbersOk : List ℕ → Bool
-numbersOk r = all cells (cellOk r)
-
--- 5: a TURN above a thousand
-unfoldable pub above1000 : ℕ → Bool
-above1000 x = ltb x signBit && ltb mostTurns x
-
-unfoldable pub turnOk : List ℕ → Bool
-turnOk r = not (has (presentOf r) cTURN) || not (above1000 (rawWord r cTURN))
 
 -- 0, or the first refusal, in the order 4, 3, 5
 unfoldable pub rowCheck : List ℕ → ℕ

@@ -15,7 +15,8 @@ use Rattle.row_cells.specs.Bits.{has}
 use Rattle.row_cells.specs.Codes.{planeOk}
 use Rattle.row_cells.specs.Row.{cell, lineOf, motionOf, planeOf, markOf, presentOf, rawWord, outRow}
 use Rattle.row_cells.specs.RowLaws.{length-out, out-cell, out-present, out-line, out-motion, out-plane, out-mark}
-use Rattle.row_check.specs.Check.{shapeOk, fieldsOk, within, cellOk, numbersOk, above1000, turnOk, rowCheck}
+use Rattle.row_numbers.specs.RowNumbers.{within, cellOk, numbersOk, above1000, turnOk}
+use Rattle.row_check.specs.Check.{shapeOk, fieldsOk, rowCheck}
 
 pub shape-length : (r : List ℕ) → shapeOk r ≡ true → length r ≡ rowWords
 unfolding shapeOk

@@ -1,59 +1,8 @@
--- CONTRACTS. What writing a row asks of its slices, and the words that it writes. Assumes nothing.
-use Prim.Native.Nat.{ℕ, _+_, _%_, _<_, _≤_}
-use mathlib.Core.Path.{_≡_}
-use mathlib.Core.Bool.{true, cond}
+-- CONTRACTS. The words before the cells of a row that goes out unchanged. Assumes nothing.
+use Prim.Native.Nat.{ℕ, _%_}
 use mathlib.Core.List.{List, [], _∷_}
-use lib.ListN.{length}
-use Rattle.floats.specs.Lists.{upto, spliced}
-use Rattle.layout.specs.Layout.{axisCodes, axisMasks, cells, cellMasks, rowWords}
-use Rattle.row_cells.specs.Bits.{has, maskSum}
-use Rattle.row_cells.specs.Row.{lineOf, motionOf, planeOf, carryOf, presentOf, shown, axesOf}
-use Rattle.row_put.specs.declared.Head.{Head}
-use Rattle.row_put.specs.declared.Made.{Made}
-use Rattle.row_put.specs.Made.{madeRow, madeHas, madeWord, overWord}
+use Rattle.layout.specs.Layout.{cellMasks}
+use Rattle.row_cells.specs.Row.{lineOf, motionOf, planeOf, carryOf, presentOf}
 
--- a block's row, the masks of the geometric axes and of the point, the point's words
-pub record MadeOf (row : List ℕ) (made : Made) (words : List ℕ) : Type 0 where
-  pub long : length row ≡ rowWords
-  pub axes : made .axes < axisMasks
-  pub point : made .mask < axisMasks
-  pub wide : axisCodes ≤ length words
-
--- room for the cells, and a word for each of the mask
-pub record Lays (rows : List ℕ) (at mask : ℕ) (words : List ℕ) : Type 0 where
-  pub room : at + cells ≤ length rows
-  pub small : mask < cellMasks
-  pub there : (k : ℕ) → has mask k ≡ true → k < length words
-
--- the words of the mask lie over what the cells were
-pub record Laid (rows : List ℕ) (at mask : ℕ) (words now : List ℕ) : Type 0 where
-  pub same : length now ≡ length rows
-  pub is : (l : List ℕ) (f : ℕ → ℕ) → at + cells ≤ length l → rows ≡ spliced l at (upto f cells)
-      → now ≡ spliced l at (upto (overWord mask words f) cells)
-
-abbrev pub headWords : Head → List ℕ
-headWords h = h .line ∷ h .motion ∷ h .plane ∷ h .mark ∷ h .carry ∷ h .present ∷ []
-
--- the words before the cells of the row that goes out unchanged
 abbrev pub outHead : List ℕ → List ℕ
 outHead r = lineOf r ∷ motionOf r ∷ planeOf r ∷ 0 ∷ carryOf r ∷ presentOf r % cellMasks ∷ []
-
--- the row that is made of a block's row and a point's words: before its cells, its cells, and whole
-abbrev pub madeHead : List ℕ → Made → List ℕ
-madeHead r m =
-    lineOf r
-    ∷ cond (m .first) (m .motion) 0
-    ∷ cond (m .first) (planeOf r) 0
-    ∷ cond (m .marked) 1 0
-    ∷ cond (m .first) (carryOf r) 0
-    ∷ maskSum (madeHas (axesOf (m .axes)) r (m .first) (m .mask)) cells
-    ∷ []
-
-abbrev pub firstCells : List ℕ → Made → List ℕ → List ℕ
-firstCells r m ws = upto (madeWord (axesOf (m .axes)) r true (shown (m .mask) ws)) cells
-
-abbrev pub madeCells : List ℕ → Made → List ℕ → List ℕ
-madeCells r m ws = upto (madeWord (axesOf (m .axes)) r (m .first) (shown (m .mask) ws)) cells
-
-abbrev pub madeBy : List ℕ → Made → List ℕ → List ℕ
-madeBy r m ws = madeRow (axesOf (m .axes)) r (m .first) (m .motion) (m .marked) (shown (m .mask) ws)

@@ -1,3 +1,1 @@
-pub mod Made
 pub mod Asks
-pub mod MadeLaws

@@ -1,92 +1,22 @@
-// Rows that go out: a row unchanged, and a row that is made for a block's group.
+// A row that goes out unchanged.
 use layout::CELL_MASKS;
-use layout::CELLS;
-use layout::LIST_MASKS;
 use layout::R_CARRY;
 use layout::R_CELLS;
 use layout::R_LINE;
-use layout::R_MARK;
 use layout::R_MOTION;
 use layout::R_PLANE;
 use layout::R_PRESENT;
-use row_cells::lowest_bit;
-use row_cells::other_bits;
+use row_lay::Head;
+use row_lay::put_cells;
+use row_lay::put_head;
 ghost use mathlib.Core.Path.{_≡_};
-ghost use mathlib.Core.Bool.{cond};
-ghost use Prim.Native.Nat.{_+_, _<_, _≤_};
-ghost use lib.Bits.{bitAnd};
+ghost use Prim.Native.Nat.{_+_, _≤_};
 ghost use lib.ListN.{length};
-ghost use Rattle.floats.specs.Lists.{upto, spliced};
-ghost use Rattle.layout.specs.Layout.{axisMasks, cells, rCells, rowWords};
-ghost use Rattle.row_cells.specs.Bits.{maskSum};
-ghost use Rattle.row_cells.specs.Row.{presentOf, axesOf, outRow};
-ghost use Rattle.row_put.specs.Made.{madeHas, riders, overWord, zeros};
-ghost use Rattle.row_put.specs.Asks.{Lays, Laid, MadeOf, headWords, outHead, madeHead, firstCells, madeCells, madeBy};
-
-// The words of a row before its cells.
-struct Head {
-    line: u64,
-    motion: u64,
-    plane: u64,
-    mark: u64,
-    carry: u64,
-    present: u64,
-}
-
-// What a row is made of beside a block's row and the point's words: the masks of the geometric axes and of the point,
-// whether it is the group's first, which has the motion, and whether it is marked.
-pub struct Made {
-    pub axes: u64,
-    pub mask: u64,
-    pub first: bool,
-    pub motion: u64,
-    pub marked: bool,
-}
-
-fn put_head(rows: &mut [u64], at: usize, head: Head)
-    requires { ⌜ at + rCells ≤ length (now rows) ⌝ }
-    ensures { λ _. ⌜ now (rows .exit) ≡ spliced (now (rows .entry)) at (headWords head) ⌝ }
-{
-    rows[at + R_LINE] = head.line;
-    rows[at + R_MOTION] = head.motion;
-    rows[at + R_PLANE] = head.plane;
-    rows[at + R_MARK] = head.mark;
-    rows[at + R_CARRY] = head.carry;
-    rows[at + R_PRESENT] = head.present;
-}
-
-fn clear_cells(rows: &mut [u64], at: usize)
-    requires { ⌜ at + cells ≤ length (now rows) ⌝ }
-    ensures { λ _. ⌜ now (rows .exit) ≡ spliced (now (rows .entry)) at (upto zeros cells) ⌝ }
-{
-    let mut k: usize = 0;
-    while k < CELLS {
-        rows[at + k] = 0;
-        k += 1;
-    }
-}
-
-// Lays over the cells from word `at` on the words that a mask has. No other word is read.
-fn lay_cells(rows: &mut [u64], at: usize, mask: u64, words: &[u64])
-    requires { ⌜ Lays (now rows) at mask (now words) ⌝ }
-    ensures { λ _. ⌜ Laid (now (rows .entry)) at mask (now (words .entry)) (now (rows .exit)) ⌝ }
-{
-    let mut rest = mask;
-    while rest != 0 {
-        let k = lowest_bit(rest);
-        rows[at + k] = words[k];
-        rest = other_bits(rest);
-    }
-}
-
-// The cells of a mask, the others zero.
-fn put_cells(rows: &mut [u64], at: usize, mask: u64, words: &[u64])
-    requires { ⌜ Lays (now rows) at mask (now words) ⌝ }
-    ensures { λ _. ⌜ now (rows .exit) ≡ spliced (now (rows .entry)) at (upto (overWord mask (now (words .entry)) zeros) cells) ⌝ }
-{
-    clear_cells(rows, at);
-    lay_cells(rows, at, mask, words);
-}
+ghost use Rattle.floats.specs.Lists.{spliced};
+ghost use Rattle.layout.specs.Layout.{rowWords};
+ghost use Rattle.row_cells.specs.Row.{outRow};
+ghost use Rattle.row_lay.specs.Asks.{headWords};
+ghost use Rattle.row_put.specs.Asks.{outHead};
 
 fn out_head(row: &[u64]) -> Head
     requires { ⌜ length (now row) ≡ rowWords ⌝ }
@@ -119,75 +49,4 @@ pub fn put_row(rows: &mut [u64], at: usize, row: &[u64])
         row[R_PRESENT] % CELL_MASKS,
         &row[R_CELLS..],
     );
-}
-
-// The codes that ride on the first row of a group, as the block has them: not its geometric axes, of the mask gs.
-fn ridden(row: &[u64], gs: u64) -> u64
-    requires { ⌜ (length (now row) ≡ rowWords) × (gs < axisMasks) ⌝ }
-    ensures { λ r. ⌜ r ≡ bitAnd (presentOf (now (row .entry))) (riders gs) ⌝ }
-{
-    row[R_PRESENT] & (LIST_MASKS - 1 - gs)
-}
-
-// The presence mask of a made row: what rides on the first, and the point's own axes.
-fn made_mask(row: &[u64], gs: u64, first: bool, mask: u64) -> u64
-    requires { ⌜ (length (now row) ≡ rowWords) × ((gs < axisMasks) × (mask < axisMasks)) ⌝ }
-    ensures { λ r. ⌜ r ≡ maskSum (madeHas (axesOf gs) (now (row .entry)) first mask) cells ⌝ }
-{
-    if first {
-        return ridden(row, gs) | (mask & gs);
-    }
-    mask
-}
-
-// The cells of the first row of a group: what rides, and the point's own axes over it.
-fn put_first_cells(rows: &mut [u64], at: usize, row: &[u64], made: Made, words: &[u64])
-    requires { ⌜ MadeOf (now row) made (now words) × (at + cells ≤ length (now rows)) ⌝ }
-    ensures { λ _. ⌜ now (rows .exit) ≡ spliced (now (rows .entry)) at (firstCells (now (row .entry)) made (now (words .entry))) ⌝ }
-{
-    put_cells(rows, at, ridden(row, made.axes), &row[R_CELLS..]);
-    lay_cells(rows, at, made.mask & made.axes, words);
-}
-
-fn put_made_cells(rows: &mut [u64], at: usize, row: &[u64], made: Made, words: &[u64])
-    requires { ⌜ MadeOf (now row) made (now words) × (at + cells ≤ length (now rows)) ⌝ }
-    ensures { λ _. ⌜ now (rows .exit) ≡ spliced (now (rows .entry)) at (madeCells (now (row .entry)) made (now (words .entry))) ⌝ }
-{
-    if made.first {
-        put_first_cells(rows, at, row, made, words);
-    } else {
-        put_cells(rows, at, made.mask, words);
-    }
-}
-
-fn if_first(first: bool, x: u64) -> u64
-    ensures { λ r. ⌜ r ≡ cond first x 0 ⌝ }
-{
-    if first { x } else { 0 }
-}
-
-fn made_head(row: &[u64], made: Made) -> Head
-    requires { ⌜ (length (now row) ≡ rowWords) × ((made .axes < axisMasks) × (made .mask < axisMasks)) ⌝ }
-    ensures { λ r. ⌜ headWords r ≡ madeHead (now (row .entry)) made ⌝ }
-{
-    let present = made_mask(row, made.axes, made.first, made.mask);
-    let line = row[R_LINE];
-    Head {
-        line: line,
-        motion: if_first(made.first, made.motion),
-        plane: if_first(made.first, row[R_PLANE]),
-        mark: if_first(made.marked, 1),
-        carry: if_first(made.first, row[R_CARRY]),
-        present: present,
-    }
-}
-
-// Writes, from word `at` on, a row of the group of `row`: its geometric cells are the words of the mask, and the first
-// row has the motion and what rides along.
-pub fn put_made(rows: &mut [u64], at: usize, row: &[u64], made: Made, words: &[u64])
-    requires { ⌜ MadeOf (now row) made (now words) × (at + rowWords ≤ length (now rows)) ⌝ }
-    ensures { λ _. ⌜ now (rows .exit) ≡ spliced (now (rows .entry)) at (madeBy (now (row .entry)) made (now (words .entry))) ⌝ }
-{
-    put_head(rows, at, made_head(row, made));
-    put_made_cells(rows, at + R_CELLS, row, made, words);
 }

@@ -1,21 +1,20 @@
--- LAWS. Masks of codes: those seen in a list so far, and the axes of a list. Assumes nothing.
+-- LAWS. The codes seen in a list so far, as a mask. Assumes nothing.
 use Prim.Native.Nat.{ℕ, _+_, _<_, _≤_}
 use mathlib.Core.Path.{_≡_, refl, sym, _∙_, ap}
-use mathlib.Core.Bool.{Bool, true, false, _&&_, _||_, not, cond, or-false, or-true, and-false, and-true}
+use mathlib.Core.Bool.{Bool, true, false, _&&_, not, and-false, and-true}
 use mathlib.Core.List.{List}
 use native.Mathlib.Omega.{arith}
 use native.Mathlib.Numerals.{add-one}
-use lib.ListN.{length, getD, take, drop}
-use lib.Dec.{leb, ltb, eqb}
-use borrow.Author.Tests.{eqb-true, eqb-false, ne-eqb, ltb-true, ltb-false, lt-ltb, leb-true}
+use lib.ListN.{getD, take, drop}
+use lib.Dec.{leb, eqb}
+use borrow.Author.Tests.{eqb-true, eqb-false, lt-ltb, leb-true}
 use Rattle.floats.specs.Lists.{member, all}
-use Rattle.layout.specs.Layout.{axisCodes, axisMasks, lastCode, listCodes, listMasks, wAxes}
+use Rattle.layout.specs.Layout.{axisCodes, lastCode, listCodes, listMasks, wAxes}
 use Rattle.row_cells.specs.Bits.{has, maskSum, withBit}
 use Rattle.floats.specs.Truth.{by-bit, and-t, and-left}
-use Rattle.row_cells.specs.Masks.{mask-same, mask-of, has-none, with-same, with-other, with-lt}
+use Rattle.row_cells.specs.Masks.{mask-same, has-none, with-same, with-other, with-lt}
 use Rattle.saved_state.specs.State.{axisCount, codeOk, geometricMask}
 use Rattle.saved_state.specs.StateLaws.{member-geometric}
-use Rattle.saved_state.specs.Walk.{from-here, member-end}
 
 -- ---- the codes of a list's first i
 abbrev unlike : List ℕ → ℕ → ℕ → Bool
@@ -53,39 +52,6 @@ module _ (axes : List ℕ) (i seen : ℕ) (s : Seen axes i seen) where
 
 pub new-small : (seen code : ℕ) (b : Bool) → b ≡ (leb code lastCode && not (has seen code)) → b ≡ true → code ≤ lastCode
 new-small seen code b e t = leb-true code lastCode (and-left (leb code lastCode) (not (has seen code)) (sym e ∙ t))
-
--- ---- the axes of a list, from its front on
-pub record Marking (codes : List ℕ) (i m : ℕ) : Type 0 where
-  pub small : m < axisMasks
-  pub marks : (k : ℕ) → k < axisCodes → (has m k || member k (drop i codes)) ≡ member k codes
-
-pub marking-none : (codes : List ℕ) → Marking codes 0 0
-marking-none codes = record { small = omega arith; marks = λ k l. rw (has-none k) }
-
-module _ (codes : List ℕ) (i m : ℕ) (s : Marking codes i m) where
-  pub marking-more : {next : ℕ} → next ≡ cond (ltb (getD codes i 0) axisCodes) (withBit m (getD codes i 0)) m → i < length codes → Marking codes (i + 1) next
-  marking-more f h = rw f (by-bit (ltb (getD codes i 0) axisCodes)
-      (λ b. rw b (record {
-        small = with-lt m (getD codes i 0) axisCodes (s .small) (ltb-true (getD codes i 0) axisCodes b);
-        marks = λ k l. by-bit (eqb (getD codes i 0) k)
-            (λ t. let e : getD codes i 0 ≡ k = eqb-true _ _ t in
-            rw (ap (λ (j : ℕ). has (withBit m (getD codes i 0)) j) (sym e) ∙ with-same m (getD codes i 0))
-            (sym (or-true (has m k)) ∙ ap (λ (b : Bool). has m k || (b || member k (drop (i + 1) codes))) (sym t) ∙ before k l))
-            (λ t. rw (with-other m (getD codes i 0) k (λ e. eqb-false _ _ t (sym e)))
-            (ap (λ (b : Bool). has m k || (b || member k (drop (i + 1) codes))) (sym t) ∙ before k l));
-      }))
-      (λ b. rw b (record {
-        small = s .small;
-        marks = λ k l. let d : (getD codes i 0 ≡ k → ⊥) = λ e. omega (arith, ltb-false (getD codes i 0) axisCodes b) in
-            ap (λ (b : Bool). has m k || (b || member k (drop (i + 1) codes))) (sym (ne-eqb (getD codes i 0) k d)) ∙ before k l;
-      })))
-    where
-      before : (k : ℕ) → k < axisCodes → (has m k || (eqb (getD codes i 0) k || member k (drop (i + 1) codes))) ≡ member k codes
-      before k l = ap (λ (b : Bool). has m k || b) (sym (from-here k codes i h)) ∙ s .marks k l
-
-  pub marked : length codes ≤ i → m ≡ maskSum (λ (k : ℕ). member k codes) axisCodes
-  marked h = mask-of m axisCodes (λ (k : ℕ). member k codes) (s .small) (λ k l.
-      sym (or-false (has m k)) ∙ ap (λ (b : Bool). has m k || b) (sym (member-end k codes i h)) ∙ s .marks k l)
 
 pub mask-of-codes : (st codes : List ℕ) → codes ≡ take (axisCount st) (drop wAxes st) → maskSum (λ (k : ℕ). member k codes) axisCodes ≡ geometricMask st
 mask-of-codes st codes e = mask-same _ _ axisCodes (λ k l. rw e (sym (member-geometric st k ∙ and-t _ (lt-ltb k axisCodes l))))

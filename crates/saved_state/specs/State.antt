@@ -13,7 +13,8 @@ use Rattle.layout.specs.Layout.{wMotion, wPlane, wKnown, wStart, wDegree, wHeld
 use Rattle.motion.specs.Motion.{isSpline, lastMotion}
 use Rattle.row_cells.specs.Codes.{planeXY, planeYZ, geometricOf}
 use Rattle.row_cells.specs.Bits.{has, withBit, maskSum}
-use Rattle.row_check.specs.Check.{within, rowCheck}
+use Rattle.row_numbers.specs.RowNumbers.{within}
+use Rattle.row_check.specs.Check.{rowCheck}
 use Rattle.row_cells.specs.Row.{motionOf}
 
 abbrev pub axisCount : List ℕ → ℕ

@@ -8,13 +8,13 @@ use layout::W_KNOWN;
 use row_cells::has_bit;
 use row_cells::set_bit;
 ghost use mathlib.Core.Path.{_≡_};
-ghost use mathlib.Core.Bool.{_&&_, not, cond};
-ghost use Prim.Native.Nat.{ℕ, _<_};
+ghost use mathlib.Core.Bool.{_&&_, not};
+ghost use Prim.Native.Nat.{_<_};
 ghost use lib.ListN.{length};
-ghost use lib.Dec.{leb, ltb};
+ghost use lib.Dec.{leb};
 ghost use Rattle.floats.specs.Lists.{member};
 ghost use Rattle.layout.specs.Layout.{axisCodes, lastCode, stateWords};
-ghost use Rattle.row_cells.specs.Bits.{has, maskSum, withBit};
+ghost use Rattle.row_cells.specs.Bits.{has};
 ghost use Rattle.saved_state.specs.State.{tolOk, codesOk, axesOk, geometric, geometricMask, placed};
 ghost use Rattle.saved_state.specs.Asks.{Listed};
 
@@ -71,35 +71,13 @@ pub fn axes_ok(state: &[u64]) -> bool
     codes_ok(&state[W_AXES..e])
 }
 
-// The mask m, with a code that is an axis.
-fn with_axis(m: u64, code: u64) -> u64
-    ensures { λ r. ⌜ r ≡ cond (ltb code axisCodes) (withBit m code) m ⌝ }
-{
-    if code >= AXIS_CODES as u64 {
-        return m;
-    }
-    set_bit(m, code)
-}
-
-fn axes_mask(codes: &[u64]) -> u64
-    ensures { λ r. ⌜ r ≡ maskSum (λ (k : ℕ). member k (now (codes .entry))) axisCodes ⌝ }
-{
-    let mut m: u64 = 0;
-    let mut i: usize = 0;
-    while i < codes.len() {
-        m = with_axis(m, codes[i]);
-        i += 1;
-    }
-    m
-}
-
 // The mask of the geometric axes.
 pub fn geometric_mask(state: &[u64]) -> u64
     requires { ⌜ Listed (now state) ⌝ }
     ensures { λ r. ⌜ r ≡ geometricMask (now (state .entry)) ⌝ }
 {
     let e = W_AXES + state[W_AXIS_COUNT] as usize;
-    axes_mask(&state[W_AXES..e])
+    row_axes::axes_mask(&state[W_AXES..e])
 }
 
 // Whether axis k is a geometric one.

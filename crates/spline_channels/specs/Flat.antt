@@ -30,11 +30,6 @@ module _ {A : Type 0} where
   unfolding flatten
   flatten-cons x xs = refl
 
-  pub flatten-append : (xs ys : List (List A)) → flatten (xs ++ ys) ≡ flatten xs ++ flatten ys
-  unfolding flatten
-  flatten-append [] ys = refl
-  flatten-append (x ∷ xs) ys = ap (λ (l : List A). x ++ l) (flatten-append xs ys) ∙ sym (append-assoc x (flatten xs) (flatten ys))
-
   pub length-flatten : (n : ℕ) (xs : List (List A)) → Sized n xs → length (flatten xs) ≡ length xs * n
   unfolding Sized flatten
   length-flatten n [] s = sym (zero-mul n)

@@ -10,20 +10,12 @@ use lib.Dec.{eqb, ltb}
 use lib.ListN.{length, getD, take, drop, length-append, take-append-drop, drop-of-length-le}
 use lib.Seq.{take-suc, drop-cons}
 use Rattle.floats.specs.Fill.{length-upto}
+use Rattle.floats.specs.Joins.{keep-append}
 use Rattle.floats.specs.Lists.{upto, keep, member, anyOf}
 use Rattle.floats.specs.Truth.{by-bit}
 use Rattle.spline_channels.specs.Channels.{placeOf}
 
-cons-case : {A : Type 0} (b : Bool) (x : A) (r a c : List A) → r ≡ a ++ c → cond b (x ∷ r) r ≡ cond b (x ∷ a) a ++ c
-cons-case true x r a c e = ap (λ (l : List _). x ∷ l) e
-cons-case false x r a c e = e
-
 module _ {A : Type 0} (p : A → Bool) where
-  pub keep-append : (xs ys : List A) → keep p (xs ++ ys) ≡ keep p xs ++ keep p ys
-  unfolding keep
-  keep-append [] ys = refl
-  keep-append (x ∷ xs) ys = cons-case (p x) x (keep p (xs ++ ys)) (keep p xs) (keep p ys) (keep-append xs ys)
-
   pub keep-yes : (x : A) → p x ≡ true → keep p (x ∷ []) ≡ x ∷ []
   unfolding keep
   keep-yes x e = rw e
@@ -42,7 +34,7 @@ module _ {A : Type 0} (p : A → Bool) where
       most false r h = omega arith
 
   pub keep-next : (xs : List A) (i : ℕ) (d : A) → i < length xs → keep p (take (i + 1) xs) ≡ keep p (take i xs) ++ keep p (getD xs i d ∷ [])
-  keep-next xs i d h = rw add-one (ap (keep p) (take-suc xs i d h) ∙ keep-append (take i xs) (getD xs i d ∷ []))
+  keep-next xs i d h = rw add-one (ap (keep p) (take-suc xs i d h) ∙ keep-append p (take i xs) (getD xs i d ∷ []))
 
   pub keep-room : (xs : List A) (i : ℕ) (d : A) → i < length xs → length (keep p (take i xs)) + length (keep p (getD xs i d ∷ [])) ≤ length (keep p xs)
   keep-room xs i d h =
@@ -51,7 +43,7 @@ module _ {A : Type 0} (p : A → Bool) where
       let e : length (keep p a) ≡ length (keep p (take i xs)) + length (keep p (getD xs i d ∷ [])) =
       ap length (keep-next xs i d h) ∙ length-append (keep p (take i xs)) (keep p (getD xs i d ∷ [])) in
       let f : length (keep p a) + length (keep p b) ≡ length (keep p xs) =
-      sym (length-append (keep p a) (keep p b)) ∙ ap length (sym (keep-append a b) ∙ ap (keep p) (take-append-drop (i + 1) xs)) in
+      sym (length-append (keep p a) (keep p b)) ∙ ap length (sym (keep-append p a b) ∙ ap (keep p) (take-append-drop (i + 1) xs)) in
       omega arith
 
   any-here : (xs : List A) (i : ℕ) (d : A) → i < length xs → anyOf p (drop i xs) ≡ (p (getD xs i d) || anyOf p (drop (i + 1) xs))

@@ -14,7 +14,8 @@ use borrow.Author.Tests.{ltb-false}
 use Rattle.floats.specs.Numbers.{at, _⊖_, 1e-12}
 use Rattle.floats.specs.Lists.{upto, keep, flatten}
 use Rattle.floats.specs.Fill.{length-upto, at-upto, lt-or-le}
-use Rattle.spline_channels.specs.Flat.{Sized, sized-append, flatten-append}
+use Rattle.floats.specs.Joins.{flatten-append}
+use Rattle.spline_channels.specs.Flat.{Sized, sized-append}
 use Rattle.spline_channels.specs.Keeps.{keep-most}
 use Rattle.curve_metric.specs.Metric.{pointOf, chords}
 use Rattle.curve_metric.specs.Walk.{Sample, depth, middle, samples, flat}

@@ -1,10 +1,13 @@
 // The emission of a held spline: its rows, counted and written.
+pub mod memory;
+pub mod sizes;
+
 use fit_slopes::sizes::SMALL_POINTS;
+use memory::emit_large;
+use memory::emit_middle;
+use memory::emit_small;
+use sizes::MIDDLE_POINTS;
 use spline_curve::Job;
-use spline_memory::emit_large;
-use spline_memory::emit_middle;
-use spline_memory::emit_small;
-use spline_memory::sizes::MIDDLE_POINTS;
 ghost use Prim.Native.Nat.{_≤_, _<_};
 ghost use Rattle.spline_write.specs.Emits.{mostOwn, Emitted};
 ghost use Rattle.spline_curve.specs.Asks.{Holds};

@@ -11,7 +11,7 @@ use Rattle.floats.specs.Lists.{upto, keep, member}
 use Rattle.motion.specs.Motion as motions
 use Rattle.motion.specs.Motion.{gOne}
 use Rattle.row_cells.specs.Row.{cell, hasPoint, outRow}
-use Rattle.row_put.specs.Made.{madeRow}
+use Rattle.row_made.specs.Made.{madeRow}
 use Rattle.spline_channels.specs.Channels.{Spline, channels, placeOf}
 
 abbrev pub isBspline : Spline → Bool

@@ -10,9 +10,10 @@ use native.Mathlib.Omega.{arith}
 use lib.ListN.{length, getD, length-append}
 use borrow.Author.Tests.{eq-eqb, ne-eqb}
 use Rattle.floats.specs.Lists.{upto, keep}
+use Rattle.floats.specs.Joins.{keep-append}
 use Rattle.layout.specs.Layout.{mostHeld}
 use Rattle.row_cells.specs.Row.{hasPoint}
-use Rattle.spline_channels.specs.Keeps.{keep-append, keep-upto-most, keep-yes, keep-no}
+use Rattle.spline_channels.specs.Keeps.{keep-upto-most, keep-yes, keep-no}
 use Rattle.spline_places.specs.declared.place.Place.{Place}
 use Rattle.spline_places.specs.Sizes.{sizeOf, samplesOf, moved, unmoved, placeTo}
 use Rattle.spline_places.specs.Places.{mostRun, mostRows, Few, Behind}

@@ -1,14 +1,11 @@
-// What every row of an emission needs to know: the masks of the geometric axes and of the channels, and a channel's place in a sample.
+// What every row of an emission needs to know, and a channel's place in a sample.
 use layout::AXIS_CODES;
-use row_cells::mask_with;
-use spline_channels::is_listed;
 use spline_channels::place_of;
 ghost use mathlib.Core.Path.{_≡_};
 ghost use Prim.Native.Nat.{ℕ, _≤_};
 ghost use lib.ListN.{length};
-ghost use Rattle.floats.specs.Lists.{member, filled};
+ghost use Rattle.floats.specs.Lists.{filled};
 ghost use Rattle.layout.specs.Layout.{axisCodes};
-ghost use Rattle.row_cells.specs.Bits.{maskSum};
 ghost use Rattle.spline_channels.specs.Channels.{placeOf};
 
 pub struct Frame {
@@ -20,19 +17,6 @@ pub struct Frame {
     // whether the curve is a B-spline, and its blocks with a point
     pub basis: bool,
     pub points: usize,
-}
-
-// The mask of the axes in a list of codes.
-pub fn mask_of(codes: &[u64]) -> u64
-    ensures { λ r. ⌜ r ≡ maskSum (λ (k : ℕ). member k (now (codes .entry))) axisCodes ⌝ }
-{
-    let mut m: u64 = 0;
-    let mut k: usize = 0;
-    while k < AXIS_CODES {
-        m = mask_with(m, k, is_listed(codes, k as u64));
-        k += 1;
-    }
-    m
 }
 
 // Writes the place of each axis among the channels.

@@ -16,18 +16,20 @@ use Rattle.layout.specs.Layout.{axisMasks}
 use Rattle.floats.specs.Numbers.{bits, at}
 use Rattle.floats.specs.Lists.{upto, keep, member, flatten}
 use Rattle.floats.specs.Fill.{length-upto, at-upto, upto-below}
+use Rattle.floats.specs.Joins.{flatten-append}
 use Rattle.row_cells.specs.Bits.{has}
 use Rattle.row_cells.specs.Row.{axesOf, hasPoint, outRow}
-use Rattle.row_put.specs.MadeLaws.{made-same}
+use Rattle.row_made.specs.MadeLaws.{made-same}
 use Rattle.row_cells.specs.Masks.{member-small}
-use Rattle.spline_channels.specs.Flat.{Sized, flatten-append}
+use Rattle.spline_channels.specs.Flat.{Sized}
 use Rattle.spline_channels.specs.Channels.{Spline, channels, placeOf}
 use Rattle.spline_places.specs.declared.frame.Frame.{Frame}
 use Rattle.spline_places.specs.declared.place.Place.{Place}
 use Rattle.spline_places.specs.Groups.{isBspline, sampleCell, ownCell, isMarked, pointGroup, heldGroup}
 use Rattle.spline_places.specs.Sizes.{sizeOf, moved, placeTo, samplesOf}
 use Rattle.spline_places.specs.SizeLaws.{place-next, place-points, moved-rows}
-use Rattle.spline_sample.specs.Raw.{rawCell, rawOwn, rawMark, rawMotion, rawRow, bareRow}
+use Rattle.spline_marks.specs.Marks.{rawMark, rawMotion}
+use Rattle.spline_sample.specs.Raw.{rawCell, rawOwn, rawRow, bareRow}
 use Rattle.spline_rows.specs.RawBlocks.{rawGroup, rawBlock, rawHeld}
 use Rattle.spline_curve.specs.Widths.{getD-map, sized-at}
 

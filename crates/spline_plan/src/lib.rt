@@ -11,7 +11,13 @@ use spline_curve::prepare_curve;
 use spline_places::place::Place;
 use spline_places::place::total;
 ghost use mathlib.Core.Path.{_≡_};
-ghost use Rattle.spline_curve.specs.Asks.{Holds};
+ghost use mathlib.Core.List.{[]};
+ghost use Prim.Native.Nat.{ℕ, _*_, _-_, _≤_};
+ghost use lib.ListN.{length, getD};
+ghost use Rattle.floats.specs.Lists.{filled};
+ghost use Rattle.layout.specs.Layout.{axisCodes};
+ghost use Rattle.curve_runs.specs.Runs.{drawnRuns};
+ghost use Rattle.spline_curve.specs.Asks.{Holds, Curved, Drawn, Recalled};
 ghost use Rattle.spline_plan.specs.Plans.{Rooms, Planned};
 
 // What is known of an emission before its first row is written: the curve, what its tables hold, and all rows.
@@ -23,6 +29,30 @@ pub struct Emission {
     pub place: Place,
     pub chans: [u64; AXIS_CODES],
     pub ms: [usize; AXIS_CODES],
+}
+
+// Fills the tables of a curve, and counts its samples with them.
+fn tabulate(
+    d: Drawing,
+    ms: &[usize],
+    pts: &[f64],
+    ws: &[f64],
+    ks: &mut [f64],
+    cs: &mut [f64],
+    counts: &mut [usize],
+    lefts: &mut [u8],
+) -> Form
+    requires { ⌜ Curved d (now ms) (now pts) (now ws) ⌝ }
+    requires { ⌜ (2 * d .n ≤ length (now ks)) × (2 * axisCodes * d .n ≤ length (now cs)) ⌝ }
+    requires { ⌜ d .n - 1 ≤ length (now counts) ⌝ }
+    ensures { λ r. ⌜ Drawn d r (now (ms .entry)) (now (pts .entry)) (now (ws .entry)) (now (ks .exit)) (now (cs .exit)) ⌝ }
+    ensures { λ _. ⌜ now (counts .exit)
+        ≡ filled (λ (i : ℕ). length (getD (drawnRuns d (now (ms .entry)) (now (pts .entry)) (now (ws .entry))) i [])) (d .n - 1) (now (counts .entry)) ⌝ }
+    ensures { λ r. ⌜ Recalled d r (now (ms .entry)) (now (pts .entry)) (now (ks .exit)) (now (cs .exit)) (now (lefts .exit)) ⌝ }
+{
+    let form = prepare_curve(d, ms, pts, ws, ks, cs);
+    count_curve(d, form, ms, pts, ws, ks, cs, counts, lefts);
+    form
 }
 
 // Gathers the held blocks, prepares their curve and counts: the samples of each point block go to `counts`.
@@ -48,8 +78,7 @@ pub fn plan_emission(
     let curve = gather_curve(job, axes, words, store, &mut chans, &mut ms, pts, ws);
     let m = curve.metric;
     let drawing = drawing_of(job, curve);
-    let form = prepare_curve(drawing, &ms[..m], pts, ws, ks, cs);
-    count_curve(drawing, form, &ms[..m], pts, ws, ks, cs, counts, lefts);
+    let form = tabulate(drawing, &ms[..m], pts, ws, ks, cs, counts, lefts);
     let place = total(axes, store, job.held, counts);
     Emission {
         job: job,

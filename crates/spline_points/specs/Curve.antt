@@ -13,6 +13,7 @@ use lib.Ieee.{Float, nan, lt}
 use Rattle.floats.specs.Numbers.{num, f0, f1, 1e-4, at}
 use Rattle.floats.specs.Lists.{upto, keep, flatten, opt}
 use Rattle.floats.specs.Fill.{length-upto}
+use Rattle.floats.specs.Joins.{flatten-append}
 use Rattle.layout.specs.Layout.{axisCodes, rCells, cPW}
 use Rattle.row_cells.specs.Codes.{geometricOf}
 use Rattle.row_cells.specs.Bits.{has}
@@ -23,7 +24,7 @@ use Rattle.spline_channels.specs.Gathers.{Appended}
 use Rattle.spline_points.specs.Gathers.{pointBefore, pointIn, pointsIn, NextPut, PointPut, WeightPut, PointsPut, WeightsPut, PointsAre}
 use Rattle.spline_channels.specs.Append.{appended-none, appended-one, appended-then, appended-before, appended-to, appended-upto, appended-as}
 use Rattle.spline_channels.specs.Keeps.{keep-yes, keep-no, keep-upto, keep-upto-most}
-use Rattle.spline_channels.specs.Flat.{Sized, flatten-append, flat-rows, map-next, sized-cons, flatten-cons}
+use Rattle.spline_channels.specs.Flat.{Sized, flat-rows, map-next, sized-cons, flatten-cons}
 
 -- ---- the first value, searched from the last row to the first
 unfoldable pub firstOr : ℕ → Float → List (List ℕ) → Float

@@ -9,12 +9,13 @@ use Rattle.floats.specs.Lists.{upto, flatten}
 use Rattle.floats.specs.Fill.{length-upto}
 use Rattle.layout.specs.Layout.{rowWords}
 use Rattle.row_cells.specs.Row.{axesOf, outRow}
-use Rattle.row_put.specs.MadeLaws.{length-made}
+use Rattle.row_made.specs.MadeLaws.{length-made}
 use Rattle.row_cells.specs.RowLaws.{length-out}
 use Rattle.spline_channels.specs.Flat.{Sized, sized-append, length-flatten}
 use Rattle.spline_places.specs.declared.frame.Frame.{Frame}
 use Rattle.spline_places.specs.Sizes.{sizeOf, samplesOf}
-use Rattle.spline_sample.specs.Raw.{rawCell, rawOwn, rawMark, rawMotion, rawRow, bareRow}
+use Rattle.spline_marks.specs.Marks.{rawMark, rawMotion}
+use Rattle.spline_sample.specs.Raw.{rawCell, rawOwn, rawRow, bareRow}
 use Rattle.spline_rows.specs.RawBlocks.{rawGroup, rawBlock}
 
 pub raw-length : (o : Frame) (places : List ℕ) (j c : ℕ) (row : List ℕ) (raw : ℕ → List ℕ) (t : ℕ) → length (rawRow o places j c row raw t) ≡ rowWords

@@ -14,13 +14,14 @@ use Rattle.floats.specs.Fill.{at-filled}
 use Rattle.layout.specs.Layout.{axisCodes, axisMasks, rowWords, rCells}
 use Rattle.row_cells.specs.Bits.{has}
 use Rattle.row_cells.specs.Row.{presentOf, cell, shown, axesOf}
-use Rattle.row_put.specs.Made.{madeRow}
-use Rattle.row_put.specs.MadeLaws.{made-same}
+use Rattle.row_made.specs.Made.{madeRow}
+use Rattle.row_made.specs.MadeLaws.{made-same}
 use Rattle.row_cells.specs.Masks.{has-none}
 use Rattle.row_cells.specs.BitOps.{has-and}
 use Rattle.spline_places.specs.declared.frame.Frame.{Frame}
 use Rattle.spline_places.specs.declared.place.Place.{Place}
-use Rattle.spline_sample.specs.Raw.{rawCell, rawOwn, rawWord, rawMark, rawMotion, rawAt, samplesAt, rawRow, bareRow}
+use Rattle.spline_marks.specs.Marks.{rawMark, rawMotion}
+use Rattle.spline_sample.specs.Raw.{rawCell, rawOwn, rawWord, rawAt, samplesAt, rawRow, bareRow}
 use Rattle.spline_sample.specs.Puts.{Sound, OwnMask, Written, RowPut, BarePut}
 use Rattle.spline_sample.specs.SampleLaws.{bit-below}
 

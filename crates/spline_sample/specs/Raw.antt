@@ -1,16 +1,16 @@
 -- DEFINITIONS. A row of a held block, of a sample whose words stand among others, as the code writes it. Assumes nothing.
 use Prim.Native.Nat.{ℕ, _+_, _*_}
-use mathlib.Core.Bool.{Bool, true, false, cond, not, _&&_, _||_}
+use mathlib.Core.Bool.{true, false, cond, not, _&&_}
 use mathlib.Core.List.{List}
 use mathlib.Core.Option.{Option, none, some}
 use lib.Dec.{eqb}
 use lib.ListN.{getD, take, drop}
-use Rattle.motion.specs.Motion.{gOne}
 use Rattle.row_cells.specs.Bits.{has}
 use Rattle.row_cells.specs.Row.{cell, axesOf}
-use Rattle.row_put.specs.Made.{madeRow}
+use Rattle.row_made.specs.Made.{madeRow}
 use Rattle.spline_places.specs.declared.frame.Frame.{Frame}
 use Rattle.spline_places.specs.declared.place.Place.{Place}
+use Rattle.spline_marks.specs.Marks.{rawMark, rawMotion}
 
 -- cell k of a sample with the words ws
 unfoldable pub rawCell : ℕ → List ℕ → List ℕ → ℕ → Option ℕ
@@ -18,12 +18,6 @@ rawCell mask places ws k = cond (has mask k) (some (getD ws (getD places k 0) 0)
 
 unfoldable pub rawOwn : Frame → List ℕ → ℕ → Option ℕ
 rawOwn o r k = cond (has (o .axes) k && not (o .basis)) (cell r k) none
-
-unfoldable pub rawMark : Frame → ℕ → ℕ → ℕ → Bool
-rawMark o j c t = not (eqb (t + 1) c) || (o .basis && not (eqb (j + 1) (o .points)))
-
-unfoldable pub rawMotion : ℕ → ℕ
-rawMotion j = cond (eqb j 0) gOne 0
 
 -- the words of sample q, and of the samples of the block at p
 unfoldable pub rawAt : ℕ → List ℕ → ℕ → List ℕ

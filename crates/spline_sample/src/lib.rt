@@ -3,18 +3,19 @@ use layout::AXIS_CODES;
 use layout::R_CELLS;
 use layout::R_PRESENT;
 use layout::ROW_WORDS;
-use motion::G1;
 use row_cells::has_bit;
-use row_put::Made;
-use row_put::put_made;
+use row_made::Made;
+use row_made::put_made;
+use spline_marks::is_marked;
+use spline_marks::motion_of;
 use spline_places::frame::Frame;
 use spline_places::place::Place;
 ghost use mathlib.Core.Path.{_≡_};
 ghost use Prim.Native.Nat.{_+_, _*_, _≤_, _<_};
 ghost use lib.ListN.{length, replicate};
 ghost use Rattle.floats.specs.Lists.{filled};
-ghost use Rattle.layout.specs.Layout.{axisCodes, axisMasks, rowWords, mostHeld};
-ghost use Rattle.spline_sample.specs.Raw.{rawWord, rawMark, rawMotion};
+ghost use Rattle.layout.specs.Layout.{axisCodes, axisMasks, rowWords};
+ghost use Rattle.spline_sample.specs.Raw.{rawWord};
 ghost use Rattle.spline_sample.specs.Puts.{Sample, Puts, OwnMask, RowPut, BarePut};
 
 // The word of axis k in the sample that begins at word `from`, zero where k is no channel.
@@ -40,27 +41,6 @@ fn sample_words(rows: &[u64], from: usize, mask: u64, places: &[usize]) -> [u64;
         k += 1;
     }
     words
-}
-
-// The first row's motion: G1 on the first point block, none on later ones.
-fn motion_of(j: usize) -> u64
-    ensures { λ r. ⌜ r ≡ rawMotion j ⌝ }
-{
-    if j == 0 { G1 } else { 0 }
-}
-
-// Whether row t of c of point block j is a generated one.
-fn is_marked(o: Frame, j: usize, c: usize, t: usize) -> bool
-    requires { ⌜ (t < c) × (j < mostHeld) ⌝ }
-    ensures { λ r. ⌜ r ≡ rawMark o j c t ⌝ }
-{
-    if t + 1 != c {
-        return true;
-    }
-    if !o.basis {
-        return false;
-    }
-    j + 1 != o.points
 }
 
 // Writes row t of the block at `place`, of its sample t.

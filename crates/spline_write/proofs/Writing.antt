@@ -11,6 +11,7 @@ use lib.Ieee.{Float}
 use borrow.Author.Tests.{le-leb, lt-leb}
 use Rattle.floats.specs.Numbers.{bits}
 use Rattle.floats.specs.Lists.{upto, member, flatten, spliced}
+use Rattle.floats.specs.Joins.{flatten-append}
 use Rattle.layout.specs.Layout.{rowWords, axisCodes}
 use Rattle.motion.specs.Motion.{basisKind}
 use Rattle.motion.specs.Motion as Motion
@@ -21,7 +22,7 @@ use Rattle.curve_walk.specs.Walks.{encode}
 use Rattle.curve_runs.specs.declared.Drawing.{Drawing}
 use Rattle.curve_runs.specs.Runs.{drawnRuns}
 use Rattle.spline_channels.specs.Channels.{Spline, channels, blockAt}
-use Rattle.spline_channels.specs.Flat.{Sized, flat-row, flatten-append, length-flatten}
+use Rattle.spline_channels.specs.Flat.{Sized, flat-row, length-flatten}
 use Rattle.spline_places.specs.declared.frame.Frame.{Frame}
 use Rattle.spline_places.specs.declared.place.Place.{Place}
 use Rattle.spline_places.specs.Sizes.{placeTo}

@@ -2,9 +2,9 @@
 use layout::AXIS_CODES;
 use layout::ROW_WORDS;
 use motion::is_basis;
+use row_axes::axes_mask;
 use spline_curve::write_curve;
 use spline_places::frame::Frame;
-use spline_places::frame::mask_of;
 use spline_places::frame::places_of;
 use spline_places::place::Place;
 use spline_plan::Emission;
@@ -51,8 +51,8 @@ fn spread_curve(
     let mut places = [0usize; AXIS_CODES];
     places_of(chans, &mut places);
     let frame = Frame {
-        axes: mask_of(axes),
-        mask: mask_of(chans),
+        axes: axes_mask(axes),
+        mask: axes_mask(chans),
         ch: chans.len(),
         basis,
         points,

@@ -1,6 +1,6 @@
 -- LAWS. The first line of an input and the others, an input that comes in pieces, the search for an LF. Assumes nothing.
 use Prim.Native.Nat.{ℕ, suc, _+_, _-_, _≤_, _<_, zero-le}
-use mathlib.Core.Path.{_≡_, refl, sym, ap, _∙_}
+use mathlib.Core.Path.{_≡_, refl, sym, ap, _∙_, subst}
 use mathlib.Core.Bool.{Bool, true, false, cond}
 use mathlib.Core.List.{List, [], _∷_, _++_, append-nil, append-assoc}
 use native.Mathlib.Omega.{arith}
@@ -9,6 +9,7 @@ use lib.ListN.{length, take, drop, getD, set, length-drop}
 use lib.Seq.{drop-cons, length-take-le, paste, paste-suc, take-paste, length-paste, getD-append-add, getD-drop}
 use borrow.Author.Tests.{eq-eqb, ne-eqb}
 use Rattle.text_lines.specs.Cut.{lf, cut, linesFrom, restFrom, between}
+use Rattle.text_lines.specs.Turns.{near, Free, Seeking}
 
 -- ---- an input in pieces: the lines of the one, and then those of the other behind what was left
 pub lines-pieces : (a b part : List ℕ) → linesFrom part (a ++ b) ≡ linesFrom part a ++ linesFrom (restFrom part a) b
@@ -119,6 +120,28 @@ find-on l i e h k z = ap cut (between-cons l i e h k) ∙ ap (λ (b : Bool). con
 
 pub find-end : (l : List ℕ) (e : ℕ) → cut (between l e e) ≡ 1
 find-end l e = let n : e - e ≡ 0 = omega arith in ap (λ (m : ℕ). cut (take m (drop e l))) n ∙ cut-end
+
+-- ---- the search, many bytes further
+pub free-none : (b : List ℕ) (at : ℕ) → Free b at 0
+free-none b at =
+    let z : at + 0 ≡ at = omega arith in
+    record { on = λ (e : ℕ) _ _. let same : cut (between b (at + 0) e) ≡ cut (between b at e) = ap (λ (j : ℕ). cut (between b j e)) z in omega (arith, same) }
+
+pub free-more : {b : List ℕ} {at k : ℕ} → Free b at k → (getD b (at + k) 0 ≡ lf → ⊥) → Free b at (k + 1)
+free-more {b} {at} {k} f n =
+    record {
+      on = λ (e : ℕ) (h : at + (k + 1) ≤ e) (l : e ≤ length b).
+          let place : at + k + 1 ≡ at + (k + 1) = omega arith in
+          let same : cut (between b (at + k + 1) e) ≡ cut (between b (at + (k + 1)) e) = ap (λ (j : ℕ). cut (between b j e)) place in
+          omega (arith, f .on e (omega arith) l, find-on b (at + k) e (omega arith) l n, same);
+    }
+
+pub free-all : {b : List ℕ} {at k : ℕ} → Free b at k → k ≡ near → Free b at near
+free-all {b} {at} f e = subst (λ (j : ℕ). Free b at j) e f
+
+pub seek-far : {b : List ℕ} {at end i : ℕ} → Seeking b at end i → end ≤ length b → near ≤ end - i → Free b i near → Seeking b at end (i + near)
+seek-far {b} {at} {end} {i} s l h f =
+    record { ahead = omega (arith, s .ahead); within = omega (arith, s .within); left = omega (arith, s .left, f .on end (omega (arith, s .within)) l) }
 
 -- ---- moving to the front, byte after byte
 front-step : (d : List ℕ) (at i : ℕ) → at + i < length d

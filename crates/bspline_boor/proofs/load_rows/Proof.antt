@@ -4,12 +4,13 @@ use Prim.Native.Nat.{_≤_, _-_, _+_, _*_}
 use native.Mathlib.Omega.{arith}
 use native.Mathlib.Nat.{zero-mul}
 use lib.ListN.{length}
-use Rattle.bspline_tables.specs.RowLaws.{within, next-row}
+use Rattle.bspline_tables.specs.RowLaws.{within}
 use Rattle.bspline_boor.specs.Climb.{Loaded}
 use Rattle.bspline_boor.proofs.Climbing.{loaded-none, loaded-more, loaded-end}
 use borrow.Author.Needs.{needs}
 use Rattle.bspline_boor.proofs.load_rows.Statement.{statement}
 use Rattle.bspline_boor.proofs.load_rows.Tie as tie
+use Rattle.floats.specs.Parts.{next-row}
 
 abbrev Inv-loop : tie.InvT-loop
 Inv-loop cw n k p ch wide d₀ rows i₀ h₀ d i h = ((h ≤ p + 1) × ((i ≡ h * wide) × (length d ≡ length d₀))) × Loaded cw d n k ch wide h

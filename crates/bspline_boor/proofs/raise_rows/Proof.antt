@@ -4,12 +4,13 @@ use Prim.Native.Nat.{_≤_, _-_, _+_, _*_}
 use native.Mathlib.Omega.{arith}
 use native.Mathlib.Nat.{zero-mul}
 use Rattle.bspline_tables.specs.Basis.{share}
-use Rattle.bspline_tables.specs.RowLaws.{within, next-row}
+use Rattle.bspline_tables.specs.RowLaws.{within}
 use Rattle.bspline_boor.specs.Climb.{Level}
 use Rattle.bspline_boor.proofs.Climbing.{level-none, level-more, level-end}
 use borrow.Author.Needs.{needs}
 use Rattle.bspline_boor.proofs.raise_rows.Statement.{statement}
 use Rattle.bspline_boor.proofs.raise_rows.Tie as tie
+use Rattle.floats.specs.Parts.{next-row}
 
 abbrev Inv-loop : tie.InvT-loop
 Inv-loop ks u p k r m wide d₀ i₀ h₀ d i h = ((h ≤ m) × (i ≡ h * wide)) × Level d₀ d wide h (λ j. share ks u p k r (p - j))

@@ -6,13 +6,13 @@ use lib.ListN.{length}
 use borrow.Author.Tests.{eq-eqb, ne-eqb, not-true, not-false, leb-true, leb-false}
 use Rattle.floats.specs.Truth.{cond-t, cond-f}
 use Rattle.layout.specs.Layout.{rowWords}
-use Rattle.call_reply.specs.Replies.{plain, tooFew, doneReply}
+use Rattle.call_reply.specs.Replies.{plain, tooFew, doneReply, untouched}
 use Rattle.call_reply.specs.ReplyLaws.{answers}
 use Rattle.saved_state.specs.StateLaws.{good}
-use Rattle.call_close.specs.Close.{untouched, closeState}
+use Rattle.call_close.specs.Close.{closeState}
 use Rattle.saved_state.specs.Checked.{saved-ok}
 use Rattle.call_close.proofs.Calls.{close-turned-is, close-none-is, close-few-is, close-done-is, no-rows}
-use Rattle.call_close.specs.EmittedLaws.{room-left, room-short, put-refused, put-written}
+use Rattle.spline_put.specs.EmittedLaws.{room-left, room-short, put-refused, put-written}
 use borrow.Author.Needs.{needs}
 use Rattle.call_close.proofs.close.Statement.{statement}
 use Rattle.call_close.proofs.close.Tie as tie

@@ -4,7 +4,7 @@ use mathlib.Core.Bool.{cond}
 use Prim.Native.Nat.{ℕ, _+_}
 use native.Mathlib.Omega.{arith}
 use Rattle.call_reply.specs.Replies.{doneReply}
-use Rattle.push_check.specs.declared.Resolved.{Resolved}
+use Rattle.push_resolve.specs.declared.Resolved.{Resolved}
 use Rattle.push_state.specs.StoredLaws.{stores, store-is}
 use Rattle.call_push.specs.Settle.{settled}
 use borrow.Author.Needs.{needs}

@@ -1,22 +1,19 @@
 -- `csv_line::code_at` meets its contract. Assumes nothing.
-use Prim.Native.Nat.{_-_}
 use native.Mathlib.Omega.{arith}
-use Rattle.csv_line.proofs.Columns.{code-low, code-mid, code-last}
+use Rattle.csv_line.specs.CodeLaws.{code-below}
+use Rattle.csv_line.proofs.Columns.{code-shifted}
 use borrow.Author.Needs.{needs}
 use Rattle.csv_line.proofs.code_at.Statement.{statement}
 use Rattle.csv_line.proofs.code_at.Tie as tie
 
+mul-d : tie.Need-mul-d
+mul-d c = search needs
+
+shr-result : tie.Need-shr-result
+shr-result c = search needs
+
 returns : tie.Need-returns
-returns c = (code-low _ (c .if1 .taken), omega arith)
-
-add-result : tie.Need-add-result
-add-result c = search needs
-
-returns-2 : tie.Need-returns-2
-returns-2 c = (code-mid _ (omega arith) (c .if2 .taken), omega arith)
-
-returns-3 : tie.Need-returns-3
-returns-3 c = (code-last _ (omega arith) (c .before .before .pre), omega arith)
+returns c = let e = code-shifted (c .args .i) (c .pre) in (e, omega (arith, e, code-below (c .args .i) (c .pre)))
 
 pub code-at-spec : {M : Type 1} → statement M
-code-at-spec = tie.close (tie.spec returns add-result returns-2 returns-3)
+code-at-spec = tie.close (tie.spec mul-d shr-result returns)

@@ -1,6 +1,6 @@
 -- `csv_run::all_turns` meets its contract. Assumes nothing.
 use native.Mathlib.Omega.{arith}
-use Rattle.csv_step.specs.Steps.{slices}
+use Rattle.csv_run.specs.Steps.{slices}
 use Rattle.csv_run.specs.RunLaws.{Stands, first-stands, stands-on}
 use borrow.Author.Needs.{needs}
 use Rattle.csv_run.proofs.all_turns.Statement.{statement}

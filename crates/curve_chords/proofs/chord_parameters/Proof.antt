@@ -6,8 +6,9 @@ use lib.ListN.{length, length-set}
 use Rattle.floats.specs.Lists.{rowsOf}
 use Rattle.curve_metric.specs.Metric.{chordTo}
 use Rattle.floats.specs.Fill.{Filling, filling-first, filling-more, filled-end, two-rows}
+use Rattle.floats.specs.Parts.{next-row}
 use native.Mathlib.Nat.{zero-mul}
-use Rattle.curve_chords.proofs.Chords.{parts-fit, next-row, chord-more}
+use Rattle.curve_chords.proofs.Chords.{parts-fit, chord-more}
 use Rattle.curve_chords.proofs.chord_parameters.Statement.{statement}
 use Rattle.curve_chords.proofs.chord_parameters.Tie as tie
 

@@ -13,7 +13,7 @@ use borrow.Fn.PlainCycle.{Measures, is, falls, and}
 use Rattle.curve_count.proofs.count_walk.Reads as count-walk
 use Rattle.curve_count.proofs.count_walk.Kinds as count-walk-kinds
 use Rattle.curve_count.proofs.+count_walk.Lts-count_walk as count-walk-lts
-use Rattle.curve_tally.proofs.count_sample.Reads as count-sample-reads
+use Rattle.curve_owner.proofs.count_sample.Reads as count-sample-reads
 use Rattle.curve_flat.proofs.is_flat.Reads as is-flat-reads
 use Rattle.curve_flat.proofs.point_at.Reads as point-at-reads
 use Rattle.curve_count.proofs.+count_walk.{statement}

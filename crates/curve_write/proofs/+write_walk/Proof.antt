@@ -14,9 +14,9 @@ use Rattle.curve_write.proofs.write_walk.Reads as write-walk
 use Rattle.curve_write.proofs.write_walk.Kinds as write-walk-kinds
 use Rattle.curve_write.proofs.+write_walk.Lts-write_walk as write-walk-lts
 use Rattle.curve_write.proofs.is_flat_from.Reads as is-flat-from-reads
-use Rattle.curve_tally.proofs.is_remembered.Reads as is-remembered-reads
+use Rattle.curve_put.proofs.is_remembered.Reads as is-remembered-reads
 use Rattle.curve_flat.proofs.point_at.Reads as point-at-reads
-use Rattle.curve_tally.proofs.put_sample.Reads as put-sample-reads
+use Rattle.curve_put.proofs.put_sample.Reads as put-sample-reads
 use Rattle.curve_write.proofs.+write_walk.{statement}
 use Rattle.curve_write.proofs.+write_walk.Tie.{close}
 

@@ -1,7 +1,7 @@
 -- `fit_point::channel_at` meets its contract. Assumes nothing.
 use native.Mathlib.Omega.{arith}
 use Rattle.fit_knots.specs.MemoryLaws.{cell-fits}
-use Rattle.fit_point.proofs.Pieces.{channel-in, channel-out}
+use Rattle.fit_point.proofs.Blends.{channel-in, channel-out}
 use borrow.Author.Needs.{needs}
 use Rattle.fit_point.proofs.channel_at.Statement.{statement}
 use Rattle.fit_point.proofs.channel_at.Tie as tie

@@ -1,5 +1,5 @@
 -- `fit_point::eval_fit` meets its contract. Assumes nothing.
-use Rattle.fit_point.proofs.Pieces.{fit-is}
+use Rattle.fit_point.proofs.Blends.{fit-is}
 use borrow.Author.Needs.{needs}
 use Rattle.fit_point.proofs.eval_fit.Statement.{statement}
 use Rattle.fit_point.proofs.eval_fit.Tie as tie

@@ -1,6 +1,6 @@
 -- `flatcsv::main` meets its contract. Assumes nothing.
 use mathlib.Core.Path.{refl}
-use Rattle.csv_step.specs.Csv.{begun}
+use Rattle.csv_spec.specs.Csv.{begun}
 use borrow.Author.Needs.{needs}
 use Rattle.flatcsv.proofs.main.Statement.{statement}
 use Rattle.flatcsv.proofs.main.Tie as tie

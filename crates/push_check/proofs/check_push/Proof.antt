@@ -1,6 +1,7 @@
 -- `push_check::check_push` meets its contract. Assumes nothing.
 use mathlib.Core.Path.{sym, _∙_}
-use Rattle.push_check.specs.BlockLaws.{block, due-saved, due-row, due-full, due-block}
+use Rattle.push_resolve.specs.BlockLaws.{block}
+use Rattle.push_check.specs.DueLaws.{due-saved, due-row, due-full, due-block}
 use Rattle.saved_state.specs.Checked.{saved-ok}
 use borrow.Author.Needs.{needs}
 use Rattle.push_check.proofs.check_push.Statement.{statement}

@@ -1,7 +1,7 @@
 -- `push_state::buffer` meets its contract. Assumes nothing.
 use native.Mathlib.Omega.{arith}
 use lib.ListN.{length-set}
-use Rattle.push_state.proofs.Opening.{buffer-done}
+use Rattle.push_state.proofs.Degree.{buffer-done}
 use borrow.Author.Needs.{needs}
 use Rattle.push_state.proofs.buffer.Statement.{statement}
 use Rattle.push_state.proofs.buffer.Tie as tie

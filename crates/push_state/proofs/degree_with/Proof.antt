@@ -1,6 +1,6 @@
 -- `push_state::degree_with` meets its contract. Assumes nothing.
 use mathlib.Core.Path.{sym, _∙_}
-use Rattle.push_state.proofs.Opening.{degree-there, degree-absent}
+use Rattle.push_state.proofs.Degree.{degree-there, degree-absent}
 use borrow.Author.Needs.{needs}
 use Rattle.push_state.proofs.degree_with.Statement.{statement}
 use Rattle.push_state.proofs.degree_with.Tie as tie

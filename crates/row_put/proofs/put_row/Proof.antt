@@ -3,7 +3,8 @@ use native.Mathlib.Omega.{arith}
 use native.Mathlib.Nat.{mod-lt}
 use lib.Pow.{pow-pos}
 use Rattle.layout.specs.Layout.{cells}
-use Rattle.row_put.proofs.Put.{row-lays, out-written}
+use Rattle.row_lay.specs.LayLaws.{row-lays}
+use Rattle.row_put.proofs.Put.{out-written}
 use borrow.Author.Needs.{needs}
 use Rattle.row_put.proofs.put_row.Statement.{statement}
 use Rattle.row_put.proofs.put_row.Tie as tie

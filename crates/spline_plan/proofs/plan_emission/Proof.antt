@@ -29,14 +29,14 @@ array-share-prefix-ms c =
     let at-gather-curve = c .before .before .before .before .before .before .before in
     omega (arith, (at-gather-curve .gather-curve .ensures) .places, (at-gather-curve .gather-curve .kept .1 .1 .1 .1 .1 .0))
 
-slice-aggregate-prepare-curve : tie.Need-slice-aggregate-prepare-curve
-slice-aggregate-prepare-curve c =
+slice-aggregate-tabulate : tie.Need-slice-aggregate-tabulate
+slice-aggregate-tabulate c =
     let at-gather-curve = c .before .before .before .before .before .before .before .before in
     sym (length-take-le _ _ ((at-gather-curve .gather-curve .ensures) .places))
 
-prepare-curve-requires : tie.Need-prepare-curve-requires
-prepare-curve-requires c κs =
-    let at-drawing-of = c .before .before .before .before .before in
+tabulate-requires : tie.Need-tabulate-requires
+tabulate-requires c κs =
+    let at-drawing-of = c .before .before .before .before .before .before .before in
     let at-gather-curve = at-drawing-of .before .before .before .before .before .before .before in
     let start = at-gather-curve .before .before .before .before .before .before .before .before .before .before .before .before .before .before in
     let pre = (start .pre) in
@@ -47,36 +47,12 @@ prepare-curve-requires c κs =
     let a = (start .args) in
     let asked = curved-kept _ _ _ _ (a .job) _ _ _ _ _ _ (at-drawing-of .drawing-of .ensures) gathered (a .pts .now) (a .ws .now) in
     let curved = asked (pre .0 .many) (made .0) (room .points) (made .1 .0) (room .weights) in
-    (curved, (omega (arith, few, pre .1 .knots), omega (arith, few, pre .1 .controls)))
-
-array-share-prefix-ms-2 : tie.Need-array-share-prefix-ms-2
-array-share-prefix-ms-2 c =
-    let back0 = c .before .before .before .before .before .before .before .before .before .before .before .before .before .before in
-    let at-gather-curve = back0 .before .before .before in
-    omega (arith, (at-gather-curve .gather-curve .ensures) .places, (at-gather-curve .gather-curve .kept .1 .1 .1 .1 .1 .0))
-
-slice-aggregate-count-curve : tie.Need-slice-aggregate-count-curve
-slice-aggregate-count-curve c =
-    let back0 = c .before .before .before .before .before .before .before .before .before .before .before .before .before .before in
-    let at-gather-curve = back0 .before .before .before .before in
-    sym (length-take-le _ _ ((at-gather-curve .gather-curve .ensures) .places))
-
-count-curve-requires : tie.Need-count-curve-requires
-count-curve-requires c κs =
-    let at-prepare-curve = c .before .before .before .before .before .before .before .before .before .before .before in
-    let at-drawing-of = at-prepare-curve .before .before .before .before .before .before in
-    let at-gather-curve = at-drawing-of .before .before .before .before .before .before .before in
-    let start = at-gather-curve .before .before .before .before .before .before .before .before .before .before .before .before .before .before in
-    let pre = (start .pre) in
-    let gathered = (at-gather-curve .gather-curve .ensures) in
-    let few = draws-few _ _ _ _ (start .args .job) _ _ _ _ _ _ (at-drawing-of .drawing-of .ensures) gathered in
-    ((at-prepare-curve .prepare-curve .ensures), omega (arith, few, pre .1 .blocks))
+    (curved, ((omega (arith, few, room .knots), omega (arith, few, room .controls)), omega (arith, few, room .blocks)))
 
 total-requires : tie.Need-total-requires
 total-requires c κs =
-    let at-count-curve = c .before .before .before .before .before in
-    let back1 = at-count-curve .before .before .before .before .before .before .before .before .before .before .before .before .before .before in
-    let at-drawing-of = back1 .before .before .before .before in
+    let at-tabulate = c .before .before .before .before .before .before .before .before .before in
+    let at-drawing-of = at-tabulate .before .before .before .before .before .before .before .before in
     let at-gather-curve = at-drawing-of .before .before .before .before .before .before .before in
     let start = at-gather-curve .before .before .before .before .before .before .before .before .before .before .before .before .before .before in
     let pre = (start .pre) in
@@ -86,23 +62,15 @@ total-requires c κs =
     let a = (start .args) in
     let asked = curved-kept _ _ _ _ (a .job) _ _ _ _ _ _ (at-drawing-of .drawing-of .ensures) gathered (a .pts .now) (a .ws .now) in
     let curved = asked (pre .0 .many) (made .0) (room .points) (made .1 .0) (room .weights) in
-    let count = (at-count-curve .count-curve) in
-    let few = few-runs _ _ _ _ _ _ (curved .few) (pre .1 .few) (count .ensures .0) in
-    ((pre .0 .lent, (pre .0 .many, omega (arith, pre .1 .blocks, count .kept .1 .1 .1 .1 .1 .1 .1 .0))), few)
+    let tabulate = (at-tabulate .tabulate) in
+    let few = few-runs _ _ _ _ _ _ (curved .few) (room .few) (tabulate .ensures .1 .0) in
+    ((pre .0 .lent, (pre .0 .many, omega (arith, room .blocks, tabulate .kept .1 .1 .1 .1 .1 .1 .0))), few)
 
 same-length : tie.Need-same-length
-same-length c =
-    let back0 = c .before .before .before .before .before .before .before .before .before .before .before .before .before .before in
-    let back1 = back0 .before .before .before .before .before .before .before .before .before .before .before .before .before .before in
-    let at-gather-curve = back1 .before .before .before in
-    omega (arith, (at-gather-curve .gather-curve .kept .1 .1 .1 .1 .1 .1 .0))
+same-length c = search needs
 
 same-length-2 : tie.Need-same-length-2
-same-length-2 c =
-    let back0 = c .before .before .before .before .before .before .before .before .before .before .before .before .before .before in
-    let back1 = back0 .before .before .before .before .before .before .before .before .before .before .before .before .before .before in
-    let at-gather-curve = back1 .before .before .before in
-    omega (arith, (at-gather-curve .gather-curve .kept .1 .1 .1 .1 .1 .1 .1 .0))
+same-length-2 c = search needs
 
 same-length-3 : tie.Need-same-length-3
 same-length-3 c = search needs
@@ -118,9 +86,8 @@ same-length-6 c = search needs
 
 returns : tie.Need-returns
 returns c =
-    let at-count-curve = c .before .before .before .before .before .before in
-    let at-prepare-curve = at-count-curve .before .before .before .before .before .before .before .before .before .before .before .before in
-    let at-drawing-of = at-prepare-curve .before .before .before .before .before .before in
+    let at-tabulate = c .before .before .before .before .before .before .before .before .before .before in
+    let at-drawing-of = at-tabulate .before .before .before .before .before .before .before .before in
     let at-gather-curve = at-drawing-of .before .before .before .before .before .before .before in
     let start = at-gather-curve .before .before .before .before .before .before .before .before .before .before .before .before .before .before in
     let pre = (start .pre) in
@@ -131,12 +98,12 @@ returns c =
     let asked = curved-kept _ _ _ _ (a .job) _ _ _ _ _ _ (at-drawing-of .drawing-of .ensures) gathered (a .pts .now) (a .ws .now) in
     let curved = asked (pre .0 .many) (made .0) (room .points) (made .1 .0) (room .weights) in
     let kept = (at-gather-curve .gather-curve .kept .1 .1 .1 .1) in
-    let count = (at-count-curve .count-curve) in
-    let few = few-runs _ _ _ _ _ _ (curved .few) (pre .1 .few) (count .ensures .0) in (
+    let tabulate = (at-tabulate .tabulate) in
+    let few = few-runs _ _ _ _ _ _ (curved .few) (room .few) (tabulate .ensures .1 .0) in (
       refl,
       planned-of (a .job) _ _ _ (pre .0) _ _ _ _ _ gathered _ _ _ _ _ _ _ _ (at-drawing-of .drawing-of .ensures) (kept .0, kept .1 .0)
-          (at-prepare-curve .prepare-curve .ensures) (count .ensures .1)
-          (omega (arith, pre .1 .blocks, count .kept .1 .1 .1 .1 .1 .1 .1 .0)) few (count .ensures .0) (c .total .ensures),
+          (tabulate .ensures .0) (tabulate .ensures .1 .1)
+          (omega (arith, room .blocks, tabulate .kept .1 .1 .1 .1 .1 .1 .0)) few (tabulate .ensures .1 .0) (c .total .ensures),
     )
 
 pub plan-emission-spec : {M : Type 1} → statement M
@@ -148,11 +115,8 @@ plan-emission-spec =
     gather-curve-requires
     drawing-of-requires
     array-share-prefix-ms
-    slice-aggregate-prepare-curve
-    prepare-curve-requires
-    array-share-prefix-ms-2
-    slice-aggregate-count-curve
-    count-curve-requires
+    slice-aggregate-tabulate
+    tabulate-requires
     total-requires
     same-length
     same-length-2

@@ -16,7 +16,8 @@ use Rattle.curve_walk.specs.Remembering.{stored-as, stored-length}
 use Rattle.curve_spans.specs.Stretches.{spanSamples}
 use Rattle.curve_spans.specs.Lefts.{spanLefts}
 use Rattle.curve_walk.specs.Lefts.{joined}
-use Rattle.curve_spans.proofs.Spanning.{zero-time, first-point, whole-in, stretch-of, span-lefts, span-few, count-none, count-more, count-room}
+use Rattle.bspline_tables.specs.Spans.{whole-in}
+use Rattle.curve_spans.proofs.Spanning.{zero-time, first-point, stretch-of, span-lefts, span-few, count-none, count-more, count-room}
 use Rattle.curve_walk.specs.Joining.{stored-start, stored-more, cursor-part}
 use Rattle.curve_spans.proofs.count.count_spline.Statement.{statement}
 use Rattle.curve_spans.proofs.count.count_spline.Tie as tie

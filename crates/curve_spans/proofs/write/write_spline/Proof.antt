@@ -16,7 +16,8 @@ use Rattle.curve_walk.specs.Remembering.{recalls-as}
 use Rattle.curve_spans.specs.Stretches.{spanSamples}
 use Rattle.curve_spans.specs.Lefts.{spanLefts}
 use Rattle.curve_walk.specs.Lefts.{joined}
-use Rattle.curve_spans.proofs.Spanning.{zero-time, first-point, whole-in, stretch-of, span-lefts, span-few}
+use Rattle.bspline_tables.specs.Spans.{whole-in}
+use Rattle.curve_spans.proofs.Spanning.{zero-time, first-point, stretch-of, span-lefts, span-few}
 use Rattle.curve_spans.proofs.Spanning.{room-more, write-none, write-room, write-more}
 use Rattle.curve_walk.specs.Joining.{passed-none, passed-more, recalls-part, cursor-part}
 use Rattle.curve_spans.proofs.write.write_spline.Statement.{statement}

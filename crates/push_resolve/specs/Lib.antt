@@ -1,0 +1,4 @@
+pub mod Blocks
+pub mod Asks
+pub mod Resolved
+pub mod BlockLaws

@@ -1,0 +1,3 @@
+pub mod Over
+pub mod Asks
+pub mod LayLaws

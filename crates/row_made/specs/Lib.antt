@@ -1,0 +1,3 @@
+pub mod Made
+pub mod Asks
+pub mod MadeLaws

@@ -1,0 +1,2 @@
+pub mod RowNumbers
+pub mod MaskCheck
