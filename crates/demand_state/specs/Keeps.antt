@@ -11,7 +11,7 @@ use lib.Dec.{leb, ltb, eqb}
 use borrow.Author.Tests.{eqb-true, lt-ltb, le-leb, eq-eqb, eqb-false}
 use Rattle.floats.specs.Lists.{member, spliced, all}
 use Rattle.floats.specs.Fill.{length-upto, at-upto}
-use Rattle.floats.specs.Splice.{length-spliced}
+use Rattle.floats.specs.Splice.{length-spliced, in-spliced, past-spliced}
 use Rattle.whole.specs.Whole.{truncCount}
 use Rattle.layout.specs.Layout.{wTolerance, wAxisCount, axisCodes, rowWords, rCells, wMotion, wPlane, wKnown, wWarned, wStart, wDegree, wHeld, stateWords}
 use Rattle.layout.specs.Layout.{mostHeld, mostDegree}
@@ -36,7 +36,7 @@ use Rattle.push_start.specs.Opened.{forgotten, opened}
 use Rattle.push_state.specs.Pushed.{degreeWith, buffered, pushState, pushStore, trackTo}
 use Rattle.push_start.specs.OpenedLaws.{SameAxes, same-trans, same-set, same-placed, same-forgotten, same-opened, same-codes, same-geometric}
 use Rattle.push_state.specs.PushLaws.{same-to}
-use Rattle.push_start.specs.OpenedLaws.{placed-keeps, forgotten-keeps, held-forgotten, in-spliced, past-spliced, startWords}
+use Rattle.push_start.specs.OpenedLaws.{placed-keeps, forgotten-keeps, held-forgotten, startWords}
 use Rattle.push_start.specs.OpenedLaws.{length-startWords, noWords, none-at}
 use Rattle.push_check.specs.DueLaws.{full-room}
 use Rattle.saved_state.specs.Checked.{saved-ok, saved-rows}

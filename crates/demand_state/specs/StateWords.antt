@@ -13,7 +13,7 @@ use lib.Dec.{eqb}
 use borrow.Author.Tests.{eq-eqb, ne-eqb}
 use Rattle.floats.specs.Lists.{member, spliced}
 use Rattle.floats.specs.Fill.{at-upto}
-use Rattle.floats.specs.Splice.{length-spliced}
+use Rattle.floats.specs.Splice.{length-spliced, below-spliced, in-spliced}
 use Rattle.layout.specs.Layout.{axisCodes, cSD, rCells, wMotion, wPlane, wKnown, wWarned, wStart, wDegree, wHeld, stateWords, listCodes}
 use Rattle.motion.specs.Motion.{isSpline}
 use Rattle.row_cells.specs.Bits.{has, withBit}
@@ -22,7 +22,7 @@ use Rattle.floats.specs.Truth.{by-bit, cond-t, cond-f}
 use Rattle.row_cells.specs.Masks.{with-same, with-other}
 use Rattle.saved_state.specs.State.{plainDegree, axisCount, geometric, motionNow, planeNow, held, degree, pointWord, position, curveStart, placed}
 use Rattle.push_resolve.specs.Blocks.{emits, motionThen, planeThen, news}
-use Rattle.push_start.specs.OpenedLaws.{same-geometric, placed-keeps, forgotten-keeps, below-spliced, in-spliced, startWords, length-startWords}
+use Rattle.push_start.specs.OpenedLaws.{same-geometric, placed-keeps, forgotten-keeps, startWords, length-startWords}
 use Rattle.push_start.specs.Opened.{opened}
 use Rattle.push_state.specs.Pushed.{degreeWith, buffered, trackTo, pushState}
 use Rattle.demand_calls.specs.Laws.{cond-both}

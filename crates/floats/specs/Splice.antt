@@ -1,12 +1,12 @@
 -- LAWS. `spliced`: words written over a list from a place on. Assumes nothing.
 use mathlib.Core.Path.{_≡_, refl, sym, _∙_, ap}
 use mathlib.Core.List.{List, [], _∷_, _++_, append-assoc}
-use Prim.Native.Nat.{ℕ, _+_, _<_, _≤_}
+use Prim.Native.Nat.{ℕ, _+_, _-_, _<_, _≤_}
 use native.Mathlib.Numerals.{add-one}
 use native.Mathlib.Nat.{add-assoc}
 use native.Mathlib.Omega.{arith}
-use lib.ListN.{length, take, drop, set, length-append, length-drop, length-set, take-append-drop}
-use lib.Seq.{length-take-le, take-at, drop-append-add, drop-drop, set-split}
+use lib.ListN.{length, getD, take, drop, set, length-append, length-drop, length-set, take-append-drop, List·getD-append}
+use lib.Seq.{length-take-le, take-at, drop-append-add, drop-drop, set-split, getD-take, getD-drop, getD-append-add}
 use Rattle.floats.specs.Lists.{upto, spliced}
 use Rattle.floats.specs.Fill.{length-upto}
 
@@ -44,6 +44,31 @@ spliced-spliced l i xs ys h =
     ∙ ap (λ (s : List ℕ). front ++ (ys ++ s)) d
     ∙ append-assoc (take i l) xs (ys ++ drop (i + length (xs ++ ys)) l)
     ∙ ap (λ (s : List ℕ). take i l ++ s) (sym (append-assoc xs ys (drop (i + length (xs ++ ys)) l)))
+
+-- A word of a spliced list: before those written, among them, behind them.
+pub below-spliced : (l : List ℕ) (i : ℕ) (ws : List ℕ) (j : ℕ) → i ≤ length l → j < i → getD (spliced l i ws) j 0 ≡ getD l j 0
+unfolding spliced
+below-spliced l i ws j h k =
+    List·getD-append (take i l) (ws ++ drop (i + length ws) l) 0 j (rw (length-take-le i l h) k) ∙ getD-take i l j 0 k
+
+pub in-spliced : (l : List ℕ) (i : ℕ) (ws : List ℕ) (j : ℕ) → i ≤ length l → j < length ws → getD (spliced l i ws) (i + j) 0 ≡ getD ws j 0
+unfolding spliced
+in-spliced l i ws j h k =
+    ap (λ (n : ℕ). getD (take i l ++ (ws ++ drop (i + length ws) l)) (n + j) 0) (sym (length-take-le i l h))
+    ∙ getD-append-add (take i l) (ws ++ drop (i + length ws) l) j 0
+    ∙ List·getD-append ws (drop (i + length ws) l) 0 j k
+
+pub past-spliced : (l : List ℕ) (i : ℕ) (ws : List ℕ) (j : ℕ) → i ≤ length l → i + length ws ≤ j → getD (spliced l i ws) j 0 ≡ getD l j 0
+unfolding spliced
+past-spliced l i ws j h k =
+    let e : j ≡ i + (length ws + (j - (i + length ws))) = omega arith in
+    let d : i + length ws + (j - (i + length ws)) ≡ j = omega arith in
+    ap (λ (n : ℕ). getD (take i l ++ (ws ++ drop (i + length ws) l)) n 0) e
+    ∙ ap (λ (n : ℕ). getD (take i l ++ (ws ++ drop (i + length ws) l)) (n + (length ws + (j - (i + length ws)))) 0) (sym (length-take-le i l h))
+    ∙ getD-append-add (take i l) (ws ++ drop (i + length ws) l) (length ws + (j - (i + length ws))) 0
+    ∙ getD-append-add ws (drop (i + length ws) l) (j - (i + length ws)) 0
+    ∙ getD-drop (i + length ws) l (j - (i + length ws)) 0
+    ∙ ap (λ (n : ℕ). getD l n 0) d
 
 -- A loop's invariant: xs is l with f 0 .. f (k - 1) written over it from i on.
 pub record Splicing (f : ℕ → ℕ) (i k : ℕ) (l xs : List ℕ) : Type 0 where

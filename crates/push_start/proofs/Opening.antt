@@ -9,12 +9,12 @@ use lib.ListN.{length, getD, set}
 use lib.Seq.{getD-set-other}
 use Rattle.floats.specs.Lists.{upto, spliced}
 use Rattle.floats.specs.Fill.{upto-below}
-use Rattle.floats.specs.Splice.{Splicing, set-spliced, spliced-spliced}
+use Rattle.floats.specs.Splice.{Splicing, set-spliced, spliced-spliced, below-spliced}
 use Rattle.layout.specs.Layout.{axisCodes, wKnown, wStart, wDegree, stateWords}
 use Rattle.row_cells.specs.Bits.{has}
 use Rattle.saved_state.specs.State.{plainDegree, pointWord, position}
 use Rattle.push_start.specs.Opened.{opened}
-use Rattle.push_start.specs.OpenedLaws.{same-opened, below-spliced}
+use Rattle.push_start.specs.OpenedLaws.{same-opened}
 
 -- ---- opening: a position is read below the words that are written
 pub position-under : (f : ℕ → ℕ) (n : ℕ) (st st′ : List ℕ) (k : ℕ) → Splicing f (wStart + 1) n st st′ → length st ≡ stateWords → k < axisCodes

@@ -1,45 +1,20 @@
--- LAWS. What a change of the state keeps: a word of a spliced list, the axis list, the words below the curve start. Assumes nothing.
+-- LAWS. What a change of the state keeps: the axis list, the words below the curve start. Assumes nothing.
 use Prim.Native.Nat.{ℕ, _+_, _-_, _<_, _≤_}
 use mathlib.Core.Path.{_≡_, refl, sym, _∙_, ap}
 use mathlib.Core.Bool.{Bool, true, false, cond}
-use mathlib.Core.List.{List, _∷_, _++_}
+use mathlib.Core.List.{List, _∷_}
 use mathlib.Core.Option.{Option·getD}
 use native.Mathlib.Omega.{arith}
-use lib.ListN.{length, getD, set, take, drop, length-set, length-take, length-drop, List·getD-append}
-use lib.Seq.{getD-set-other, getD-set-same, getD-take, getD-drop, ext-getD, getD-append-add, length-take-le}
+use lib.ListN.{length, getD, set, take, drop, length-set, length-take, length-drop}
+use lib.Seq.{getD-set-other, getD-set-same, getD-take, getD-drop, ext-getD}
 use Rattle.floats.specs.Lists.{upto, spliced}
 use Rattle.floats.specs.Fill.{length-upto}
-use Rattle.floats.specs.Splice.{length-spliced}
+use Rattle.floats.specs.Splice.{length-spliced, below-spliced}
 use Rattle.layout.specs.Layout.{axisCodes, wAxisCount, wAxes, wMotion, wKnown, wStart, wDegree, wHeld, stateWords, listCodes}
 use Rattle.row_cells.specs.Codes.{geometricOf}
 use Rattle.row_cells.specs.Bits.{withBit}
 use Rattle.saved_state.specs.State.{plainDegree, axisCount, held, geometric, position, placed}
 use Rattle.push_start.specs.Opened.{forgotten, opened}
-
--- ---- a word of a spliced list
-pub below-spliced : (l : List ℕ) (i : ℕ) (ws : List ℕ) (j : ℕ) → i ≤ length l → j < i → getD (spliced l i ws) j 0 ≡ getD l j 0
-unfolding spliced
-below-spliced l i ws j h k =
-    List·getD-append (take i l) (ws ++ drop (i + length ws) l) 0 j (rw (length-take-le i l h) k) ∙ getD-take i l j 0 k
-
-pub in-spliced : (l : List ℕ) (i : ℕ) (ws : List ℕ) (j : ℕ) → i ≤ length l → j < length ws → getD (spliced l i ws) (i + j) 0 ≡ getD ws j 0
-unfolding spliced
-in-spliced l i ws j h k =
-    ap (λ (n : ℕ). getD (take i l ++ (ws ++ drop (i + length ws) l)) (n + j) 0) (sym (length-take-le i l h))
-    ∙ getD-append-add (take i l) (ws ++ drop (i + length ws) l) j 0
-    ∙ List·getD-append ws (drop (i + length ws) l) 0 j k
-
-pub past-spliced : (l : List ℕ) (i : ℕ) (ws : List ℕ) (j : ℕ) → i ≤ length l → i + length ws ≤ j → getD (spliced l i ws) j 0 ≡ getD l j 0
-unfolding spliced
-past-spliced l i ws j h k =
-    let e : j ≡ i + (length ws + (j - (i + length ws))) = omega arith in
-    let d : i + length ws + (j - (i + length ws)) ≡ j = omega arith in
-    ap (λ (n : ℕ). getD (take i l ++ (ws ++ drop (i + length ws) l)) n 0) e
-    ∙ ap (λ (n : ℕ). getD (take i l ++ (ws ++ drop (i + length ws) l)) (n + (length ws + (j - (i + length ws)))) 0) (sym (length-take-le i l h))
-    ∙ getD-append-add (take i l) (ws ++ drop (i + length ws) l) (length ws + (j - (i + length ws))) 0
-    ∙ getD-append-add ws (drop (i + length ws) l) (j - (i + length ws)) 0
-    ∙ getD-drop (i + length ws) l (j - (i + length ws)) 0
-    ∙ ap (λ (n : ℕ). getD l n 0) d
 
 -- ---- two states with the same axis list
 pub record SameAxes (st st′ : List ℕ) : Type 0 where

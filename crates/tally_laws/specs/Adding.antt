@@ -8,13 +8,15 @@ use lib.Dec.{eqb}
 use borrow.Author.Tests.{eq-eqb}
 use Rattle.floats.specs.Lists.{keep, member, anyOf, flatten}
 use Rattle.floats.specs.Truth.{by-bit, cond-t, cond-f, or-t, or-f}
+use Rattle.floats.specs.Joins.{keep-append}
+use Rattle.row_cells.specs.Masks.{member-append}
 use Rattle.tally_words.specs.Words.{emptyTally}
 use Rattle.tally_call.specs.declared.Call.{Call}
 use Rattle.tally.specs.declared.Rates.{Rates}
 use Rattle.tally.specs.Tally.{ratesSpec}
 use Rattle.tally_laws.specs.Jobs.{Note, JobCall, run, taken, callsOf, withJob, jobsFrom, jobsOf, told, countJobs, closedJobs, firstPassed, finalPassed}
 use Rattle.tally_laws.specs.Statements.{total, Each, nil, cons, Apart, Pairwise, none, next, AddUp, sumRates, tookOf, NightAdds}
-use Rattle.tally_laws.specs.ListLaws.{any-append, member-append, keep-append, keep-same}
+use Rattle.tally_laws.specs.ListLaws.{any-append, keep-same}
 use Rattle.tally_laws.specs.JobLaws.{calls-append, calls-none, jobs-told, jobs-append}
 use Rattle.tally_laws.specs.Counts.{rates-count}
 

@@ -12,7 +12,7 @@ use lib.Dec.{eqb, ltb}
 use borrow.Author.Tests.{ltb-true, ltb-false, eqb-true, eqb-false}
 use Rattle.floats.specs.Lists.{upto, spliced, member}
 use Rattle.floats.specs.Fill.{length-upto, at-upto, lt-or-le}
-use Rattle.floats.specs.Splice.{length-spliced}
+use Rattle.floats.specs.Splice.{length-spliced, below-spliced, in-spliced, past-spliced}
 use Rattle.floats.specs.Truth.{by-bit, cond-t, cond-f, and-left}
 use Rattle.tally_words.specs.Words.{mostJobs, wJob, jobWords, tallyWords, jobsIn, slotAt, emptyTally}
 use Rattle.tally_call.specs.declared.Call.{Call}
@@ -21,7 +21,6 @@ use Rattle.tally_laws.specs.Jobs.{Note, JobCall, answer, took, toldOf, r
 use Rattle.tally_laws.specs.ListLaws.{member-at, member-none, seek-le, seek-hit, seek-miss}
 use Rattle.tally_laws.specs.JobLaws.{calls-own, calls-other, calls-none, jobs-told, jobs-snoc, slotWord, slot-none, slot-more}
 use Rattle.tally_laws.specs.Turned.{turned-leaves, taken-room, taken-state}
-use Rattle.tally_words.specs.Spliced.{below-slice, in-slice, past-slice}
 
 abbrev jobAt : List JobCall → ℕ → ℕ
 jobAt ts i = getD (jobsOf ts) i 0
@@ -77,7 +76,7 @@ module _ (st : List ℕ) (job : ℕ) (c : Call) (long : length st ≡ tallyWords
   pub noted-own : (k : ℕ) → k < jobWords → getD (noted st job c) (slotAt i₀ + k) 0 ≡ newWord job c k (oldWord st (slotAt i₀) (isKnown st job) k)
   unfolding slotAfter s₀ f₀
   noted-own k h =
-      at-slot (slotAt i₀ + k) (omega arith) ∙ in-slice st (slotAt i₀) (upto f₀ jobWords) k (omega arith) (omega (arith, wide))
+      at-slot (slotAt i₀ + k) (omega arith) ∙ in-spliced st (slotAt i₀) (upto f₀ jobWords) k (omega arith) (omega (arith, wide))
       ∙ at-upto f₀ jobWords k 0 h
 
   pub noted-other : (i k : ℕ) → (i ≡ i₀ → ⊥) → k < jobWords → getD (noted st job c) (slotAt i + k) 0 ≡ getD st (slotAt i + k) 0
@@ -85,10 +84,10 @@ module _ (st : List ℕ) (job : ℕ) (c : Call) (long : length st ≡ tallyWords
   noted-other i k ne h =
       at-slot (slotAt i + k) (omega arith)
       ∙ ⊎-elim
-      (λ (w : i < i₀). below-slice st (slotAt i₀) (upto f₀ jobWords) (slotAt i + k) (omega arith) (omega arith))
+      (λ (w : i < i₀). below-spliced st (slotAt i₀) (upto f₀ jobWords) (slotAt i + k) (omega arith) (omega arith))
       (λ (w : i₀ ≤ i).
       let g : i₀ < i = ⊎-elim (λ (z : i₀ ≡ i). absurd (ne (sym z))) (λ z. z) (eq-or-lt-of-le {n = i₀} {m = i} w) in
-      past-slice st (slotAt i₀) (upto f₀ jobWords) (slotAt i + k) (omega arith) (omega (arith, wide)))
+      past-spliced st (slotAt i₀) (upto f₀ jobWords) (slotAt i + k) (omega arith) (omega (arith, wide)))
       (lt-or-le i i₀)
 
 -- ---- the slot of a job

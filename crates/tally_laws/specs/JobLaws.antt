@@ -1,13 +1,14 @@
 -- LAWS. What one more call does to the lists and counts over calls. Assumes nothing.
 use Prim.Native.Nat.{ℕ, _+_, _*_}
 use mathlib.Core.Path.{_≡_, refl, sym, _∙_, ap}
-use mathlib.Core.Bool.{Bool, true, false, _||_, not, cond}
+use mathlib.Core.Bool.{Bool, true, false, _||_, not, cond, or-assoc, or-false}
 use mathlib.Core.List.{List, [], _∷_, _++_, append-nil}
 use native.Mathlib.Omega.{arith}
 use lib.Dec.{eqb}
 use borrow.Author.Tests.{eq-eqb, ne-eqb}
 use Rattle.floats.specs.Lists.{member, anyOf}
 use Rattle.floats.specs.Truth.{by-bit, cond-t, cond-f}
+use Rattle.row_cells.specs.Masks.{member-append}
 use Rattle.row_cells.specs.Bits.{has}
 use Rattle.tally_words.specs.Words.{wJob, wTry, bClosed, bFirst, bFinal, bFailing, tryOk}
 use Rattle.tally_call.specs.declared.Call.{Call}
@@ -15,7 +16,7 @@ use Rattle.tally_call.specs.Calls.{figure, fails, closes, tryNumber, tryAfter}
 use Rattle.tally_slot.specs.Slots.{newWord}
 use Rattle.tally_laws.specs.Jobs.{JobCall, callsOf, sumOf, withJob, jobsFrom, jobsOf, triesFrom, openFrom}
 use Rattle.tally_laws.specs.Jobs.{triesOf, openOf, passes, anyTry, firstPasses, lastFrom, finalPasses, told}
-use Rattle.tally_laws.specs.ListLaws.{or-assoc, or-false, member-append, any-snoc}
+use Rattle.tally_laws.specs.ListLaws.{any-snoc}
 
 -- ---- the calls of a job
 pub calls-append : (j : ℕ) (ts us : List JobCall) → callsOf j (ts ++ us) ≡ callsOf j ts ++ callsOf j us

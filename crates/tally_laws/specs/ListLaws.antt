@@ -1,7 +1,7 @@
 -- LAWS. Lists, counting and seeking. Assumes nothing.
 use Prim.Native.Nat.{ℕ, zero, suc, _+_, _<_, _≤_}
 use mathlib.Core.Path.{_≡_, refl, sym, _∙_, ap, ap₂}
-use mathlib.Core.Bool.{Bool, true, false, _||_}
+use mathlib.Core.Bool.{Bool, true, false, _||_, or-assoc, or-false}
 use mathlib.Core.List.{List, [], _∷_, _++_}
 use mathlib.Core.Logic.{⊎-elim}
 use native.Mathlib.Nat.{eq-or-lt-of-le}
@@ -14,21 +14,7 @@ use Rattle.floats.specs.Truth.{by-bit, or-t, or-f}
 use Rattle.tally_words.specs.Words.{bit, countIf}
 use Rattle.tally_slot.specs.Slots.{seek}
 
--- ---- tests
-pub or-assoc : (a b c : Bool) → ((a || b) || c) ≡ (a || (b || c))
-or-assoc true b c = refl
-or-assoc false b c = refl
-
-pub or-false : (a : Bool) → (a || false) ≡ a
-or-false true = refl
-or-false false = refl
-
 -- ---- member
-pub member-append : (j : ℕ) (xs ys : List ℕ) → member j (xs ++ ys) ≡ (member j xs || member j ys)
-unfolding member
-member-append j [] ys = refl
-member-append j (x ∷ xs) ys = ap (λ (b : Bool). eqb x j || b) (member-append j xs ys) ∙ sym (or-assoc (eqb x j) (member j xs) (member j ys))
-
 pub member-at : (j : ℕ) (xs : List ℕ) (i : ℕ) → i < length xs → getD xs i 0 ≡ j → member j xs ≡ true
 unfolding member
 member-at j [] i h e = absurd (omega arith)
@@ -53,11 +39,6 @@ any-append p (x ∷ xs) ys = ap (λ (b : Bool). p x || b) (any-append p xs ys) �
 pub any-snoc : {A : Type 0} (p : A → Bool) (xs : List A) (y : A) → anyOf p (xs ++ (y ∷ [])) ≡ (anyOf p xs || p y)
 unfolding anyOf
 any-snoc p xs y = any-append p xs (y ∷ []) ∙ ap (λ (b : Bool). anyOf p xs || b) (or-false (p y))
-
-pub keep-append : (p : ℕ → Bool) (xs ys : List ℕ) → keep p (xs ++ ys) ≡ keep p xs ++ keep p ys
-unfolding keep
-keep-append p [] ys = refl
-keep-append p (x ∷ xs) ys = by-bit (p x) (λ b. rw (b, keep-append p xs ys)) (λ b. rw (b, keep-append p xs ys))
 
 pub keep-same : (p q : ℕ → Bool) (xs : List ℕ) → ((j : ℕ) → member j xs ≡ true → p j ≡ q j) → keep p xs ≡ keep q xs
 unfolding keep member

@@ -11,10 +11,9 @@ use lib.ListN.{length, getD, set}
 use borrow.Author.Tests.{le-leb, lt-leb, ne-eqb, lt-ltb, le-ltb, ltb-true, eq-eqb}
 use Rattle.floats.specs.Lists.{upto, spliced, all}
 use Rattle.floats.specs.Fill.{length-upto, lt-or-le}
-use Rattle.floats.specs.Splice.{Splicing, length-spliced}
+use Rattle.floats.specs.Splice.{Splicing, length-spliced, past-spliced}
 use Rattle.floats.specs.Truth.{and-t, and-f, all-at}
 use Rattle.tally_words.specs.Words.{mostJobs, wJob, wTry, wJobs, jobWords, figures, jobsIn, slotAt}
-use Rattle.tally_words.specs.Spliced.{past-slice}
 use Rattle.tally_call.specs.Calls.{figure}
 use Rattle.tally_call.specs.declared.Call.{Call}
 use Rattle.tally_slot.specs.Slots.{seek, isJob, slotOf, oldWord, figureFits, roomFor, newWord, slotAfter, jobsAfter, noted}
@@ -51,7 +50,7 @@ module _ {f : ℕ → ℕ} {i k : ℕ} {l xs : List ℕ} (s : Splicing f i k l x
   next-same =
       let n : length (upto f k) ≡ k = length-upto f k in
       ap (λ (z : List ℕ). getD z (i + k) 0) (s .is)
-      ∙ past-slice l i (upto f k) (i + k) (omega arith) (omega (arith, n))
+      ∙ past-spliced l i (upto f k) (i + k) (omega arith) (omega (arith, n))
 
   pub old-same : (b : Bool) → oldWord xs i b k ≡ oldWord l i b k
   unfolding oldWord

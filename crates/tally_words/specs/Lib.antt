@@ -1,4 +1,3 @@
 pub mod Words
 pub mod Counting
 pub mod WordLaws
-pub mod Spliced
