@@ -24,7 +24,7 @@ enum { GUARD = 64 };
 /* ---- Memory that is lent. */
 
 /* `words` are lent up to `length`; there are `most`, between two guards. `old` is what all of it, guards too, held before
- * a call; the row buffer has none, since between calls it rests at a pattern. */
+ * a call; of the row buffer only its rows before a note, since all else of it rests at a pattern. */
 struct memory {
     uint64_t *words, *old;
     size_t length, most;
@@ -44,12 +44,12 @@ static uint64_t resting(size_t i) {
 /* Puts the words from `from` up to `to` of a memory to rest. Its guard begins at place 0, its words at GUARD. */
 static void rest(struct memory *m, size_t from, size_t to) {
     for (size_t i = from; i < to; i++)
-        m->words[i - GUARD] = resting(i);
+        (m->words - GUARD)[i] = resting(i);
 }
 
 static bool rests(const struct memory *m, size_t from, size_t to) {
     for (size_t i = from; i < to; i++)
-        if (m->words[i - GUARD] != resting(i))
+        if ((m->words - GUARD)[i] != resting(i))
             return false;
     return true;
 }
@@ -70,13 +70,13 @@ static uint64_t *reserve(size_t words) {
 static struct memory resting_memory(size_t most, size_t length) {
     struct memory m = {NULL, NULL, length, most};
     m.words = reserve(all_words(&m)) + GUARD;
+    m.old = reserve(all_words(&m));
     rest(&m, 0, all_words(&m));
     return m;
 }
 
 static struct memory zero_memory(size_t most, size_t length) {
     struct memory m = resting_memory(most, length);
-    m.old = reserve(all_words(&m));
     memset(m.words, 0, most * sizeof *m.words);
     return m;
 }
@@ -98,6 +98,18 @@ static bool rows_kept(const struct memory *rows, size_t written, bool refused) {
     const size_t behind = GUARD + written, end = GUARD + rows->length;
     const size_t looked = refused || behind + GUARD > end ? end : behind + GUARD;
     return rests(rows, 0, GUARD) && rests(rows, behind, looked) && rests(rows, end, end + GUARD);
+}
+
+static void save_rows(struct memory *rows, size_t held) {
+    memcpy(rows->old, rows->words, held * sizeof *rows->old);
+}
+
+/* Whether a note left the row buffer alone: its first `held` words are those saved, and all others rest, of those lent and
+ * as many as a guard has before and behind them. */
+static bool rows_same(const struct memory *rows, size_t held, size_t lent) {
+    const size_t behind = held > lent ? held : lent;
+    return memcmp(rows->words, rows->old, held * sizeof *rows->old) == 0 && rests(rows, 0, GUARD) &&
+           rests(rows, GUARD + held, GUARD + behind + GUARD);
 }
 
 /* ---- Lines of output. */
@@ -284,21 +296,23 @@ static bool read_last(struct reader *r, uint64_t most, uint64_t *n) {
 /* ---- The tally. */
 
 /* Behind a told call or a start of the tally: what was said, and whether a word moved that may not. */
-static void say_told(struct session *s, uint64_t code, bool rows_rest, const char *taken) {
+static void say_told(struct session *s, uint64_t code, bool same_rows, const char *taken) {
     if (code != 0)
         say_number("untold", code);
     else if (taken != NULL)
         say_word(taken);
-    if (!rows_rest || !is_kept(&s->tally, code == 0 ? s->tally.length : 0))
+    if (!same_rows || !is_kept(&s->tally, code == 0 ? s->tally.length : 0))
         say_word("changed");
 }
 
-/* A call that was made, its rows still in the buffer. */
-static void tell_made(struct session *s, uint64_t kind, struct flat_reply made, size_t row_words) {
+/* Tells a call of a job. The first `held` words of the row buffer are not at rest, and `lent` are lent. */
+static void tell(struct session *s, uint64_t job, uint64_t kind, struct flat_reply made, size_t held, size_t lent,
+                 const char *taken) {
     save(&s->tally);
-    const struct flat_reply reply = tally_note(s->tally.words, s->tally.length, s->job, kind, made.code, made.count,
-                                               made.warning, s->rows.words, row_words);
-    say_told(s, reply.code, true, NULL);
+    save_rows(&s->rows, held);
+    const struct flat_reply reply = tally_note(s->tally.words, s->tally.length, job, kind, made.code, made.count,
+                                               made.warning, s->rows.words, lent);
+    say_told(s, reply.code, rows_same(&s->rows, held, lent), taken);
 }
 
 /* The mark of place i of the row buffer. */
@@ -329,18 +343,13 @@ static void rest_marks(struct session *s, size_t n) {
 /* note HEX KIND CODE COUNTHEX WARNING MARKS */
 static bool do_note(struct session *s, struct reader *r) {
     const uint64_t job = read_hex(r), kind = read_number(r), code = read_number(r), count = read_hex(r);
-    const uint64_t warning = read_number(r);
+    const struct flat_reply made = {code, count, read_number(r), 0, 0};
     const size_t n = read_marks(s, r);
-    if (is_read(r)) {
-        save(&s->tally);
-        const struct flat_reply reply = tally_note(s->tally.words, s->tally.length, job, kind, code, count, warning,
-                                                   s->rows.words, n * FLAT_ROW_WORDS);
-        rest_marks(s, n);
-        say_told(s, reply.code, rests(&s->rows, 0, GUARD + n * FLAT_ROW_WORDS + GUARD), "told");
-        return true;
-    }
+    const bool readable = is_read(r);
+    if (readable)
+        tell(s, job, kind, made, (n + 1) * FLAT_ROW_WORDS, n * FLAT_ROW_WORDS, "told");
     rest_marks(s, n);
-    return false;
+    return readable;
 }
 
 /* job HEX, job - */
@@ -485,7 +494,7 @@ static void say_reply(struct session *s, uint64_t kind, struct flat_reply reply,
         say_word("changed");
     say_number("done", reply.count);
     if (s->telling)
-        tell_made(s, kind, reply, row_words);
+        tell(s, s->job, kind, reply, written, row_words, NULL);
     rest(&s->rows, GUARD, GUARD + written);
 }
 
@@ -631,10 +640,13 @@ static const struct verb {
     {"figures", do_figures},
 };
 
+/* A line of MOST_LINE bytes may be cut, and is bad: a note with fewer marks would be another note. */
 static bool do_line(struct session *s, const char *text, size_t length) {
     struct reader r = {text, length, 0, true};
     if (is_at(&r, '#'))
         return true;
+    if (length == MOST_LINE)
+        return false;
     for (size_t i = 0; i < sizeof verbs / sizeof verbs[0]; i++)
         if (begins_with(&r, verbs[i].word))
             return verbs[i].does(s, &r);

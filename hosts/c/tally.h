@@ -1,6 +1,8 @@
 /* The tally's three calls: what was told of each job's calls, and how many jobs passed at first and in the end.
  * docs/RULES.md, section 9, says what is counted; docs/INTERFACE.md what the words are.
- * A tally makes no call itself: a host tells it each call that it made, in the order made, as often as it made it.
+ * A tally makes no call itself: a host tells it each call that it made, in the order made, as often as it made it, and
+ * looks at the reply: a call whose note is refused is missing from every figure and every try. All calls of a job are told
+ * to one tally: in a second one a later try of the job would count as a first.
  * No value has to be vetted before a call: a refused one changes no word. What a host owes is memory, as in flatten.h:
  * each pointer is of as many 64-bit words as the length beside it, aligned as a uint64_t is, and tally and rows do not
  * overlap. */
@@ -49,8 +51,9 @@ extern "C" {
 struct flat_reply tally_start(uint64_t *tally, size_t words);
 
 /* Tells a call of a job: its kind, what its reply said, and the rows lent to it as the call left them. Refused, in this
- * order, by 9 (the words are no tally), 4 (no call answers so, or its rows are not here), 11 (a job more than TALLY_JOBS,
- * or a figure past 64 bits). Of the rows only the marks of those written are read. */
+ * order, by 9 (the words are no tally), 4 (a kind above TALLY_CLOSE, a code above TALLY_REFUSALS, a warning above
+ * TALLY_WARNINGS, or with code 0 fewer whole rows lent than `count` or a mark above 1 among them), 11 (a job more than
+ * TALLY_JOBS, or a figure past 64 bits). Of the rows only the marks of those written are read. */
 struct flat_reply tally_note(uint64_t *tally, size_t words, uint64_t job, uint64_t kind, uint64_t code, uint64_t count,
                              uint64_t warning, const uint64_t *rows, size_t row_words);
 

@@ -1,6 +1,7 @@
 #!/usr/bin/env python3
-"""What a tally answers, by docs/RULES.md, section 9, and nothing of our code: it keeps each job's calls as a list and counts over
-it whenever it is asked. Words that were poked are what a job's figures and tries stand at before its list.
+"""What a tally answers (docs/RULES.md, section 9): it keeps each job's calls as a list and counts over it whenever it is asked.
+Words that were poked are what a job's figures and tries stand at before its list. It was written from the order for the tally, with
+hosts/c/tally.h beside it, when neither section 9 nor a crate of the tally was in its tree.
 
 model.py CALLS [ANSWERS]: the answers that hosts/c/replay.c owes to the lines of the file CALLS. What the flattener's calls among
 them answered is taken from ANSWERS: those of the same lines without the tally's.

@@ -1,17 +1,18 @@
-/* A library that is none: each call replies the variable CODE and writes one word where the variable STRAY says. By it
- * tests/replay/strays holds that hosts/c/replay.c sees such a write. */
+/* A library that is none: each call replies the variables CODE and COUNT and writes one word where the variable STRAY says.
+ * By it tests/replay/strays holds that hosts/c/replay.c sees such a write. */
 #include "tally.h"
 
 #include <stdlib.h>
 #include <string.h>
 
-static uint64_t code(void) {
-    return strtoull(getenv("CODE"), NULL, 10);
+static uint64_t number(const char *name) {
+    return strtoull(getenv(name), NULL, 10);
 }
 
 static struct flat_reply reply(void) {
     struct flat_reply r = {0, 0, 0, 0, 0};
-    r.code = code();
+    r.code = number("CODE");
+    r.count = number("COUNT");
     return r;
 }
 
@@ -35,6 +36,13 @@ static void may_write_state(const uint64_t *state, size_t words) {
 
 static void may_write_rows(const uint64_t *rows, size_t words) {
     may_write_any("before-rows", "rows", "last-of-rows", "behind-rows", rows, words);
+}
+
+/* The rows of a note have names of their own, since the call that it tells of was lent the same rows. */
+static void may_write_told(const uint64_t *rows, size_t words) {
+    may_write_any("before-told", "told", "last-of-told", "behind-told", rows, words);
+    may_write("told-mark", rows + FLAT_MARK);
+    may_write("second-told-mark", rows + FLAT_ROW_WORDS + FLAT_MARK);
 }
 
 static void may_write_tally(const uint64_t *tally, size_t words) {
@@ -81,13 +89,13 @@ struct flat_reply tally_note(uint64_t *tally, size_t words, uint64_t job, uint64
                              uint64_t warning, const uint64_t *rows, size_t row_words) {
     (void)job, (void)kind, (void)told, (void)count, (void)warning;
     may_write_tally(tally, words);
-    may_write_rows(rows, row_words);
+    may_write_told(rows, row_words);
     return reply();
 }
 
 struct tally_rates tally_rates(const uint64_t *tally, size_t words) {
     struct tally_rates r = {0, 0, 0, 0, 0};
-    r.code = code();
+    r.code = number("CODE");
     may_write_tally(tally, words);
     return r;
 }

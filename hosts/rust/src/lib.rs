@@ -55,18 +55,23 @@ impl Row {
     }
 }
 
-/// The reply number (docs/RULES.md, section 2) of a call that was refused. Nothing was changed.
+/// The reply number of a call that was refused (docs/RULES.md, section 2; a tally's 11 is in section 9). Nothing was
+/// changed.
 #[derive(Clone, Copy, Debug, PartialEq)]
 pub struct Refused(pub u64);
 
-/// What an accepted call said besides its rows.
-#[derive(Clone, Copy, Debug, PartialEq)]
-pub struct Said {
+/// What an accepted call said.
+#[derive(Clone, Copy, Debug, Default, PartialEq)]
+pub struct Said<'a> {
     pub warning: u64,
     /// The rows that an arc wanted, with warning 6.
     pub wanted: u64,
     /// Bit k: axis k held its end for want of a start.
     pub held: u64,
+    /// The rows that it needed, where it was refused by 7 at first and was made again with as many places.
+    pub needed: Option<u64>,
+    /// The rows that it wrote, and no earlier ones.
+    pub rows: &'a [Row],
 }
 
 /// A flattener with the memory that it needs: the saved state, the spline store, and row places, which grow.
@@ -92,7 +97,8 @@ impl Flattener {
         accepted(reply).map(drop)
     }
 
-    pub fn push(&mut self, row: &Row, out: &mut Vec<Row>) -> Result<Said, Refused> {
+    /// Puts the rows behind those of `out`; `Said` has them too.
+    pub fn push<'a>(&mut self, row: &Row, out: &'a mut Vec<Row>) -> Result<Said<'a>, Refused> {
         let words = row.to_words();
         self.with_room(out, |state, store, rows| unsafe {
             raw::flat_push(
@@ -108,7 +114,7 @@ impl Flattener {
         })
     }
 
-    pub fn close(&mut self, out: &mut Vec<Row>) -> Result<Said, Refused> {
+    pub fn close<'a>(&mut self, out: &'a mut Vec<Row>) -> Result<Said<'a>, Refused> {
         self.with_room(out, |state, store, rows| unsafe {
             raw::flat_close(
                 state.as_mut_ptr(),
@@ -121,27 +127,30 @@ impl Flattener {
         })
     }
 
-    /// Makes the call; where it needs more places, once more with as many as it says.
-    fn with_room(
+    /// Makes the call; where it needs more places, once more with as many as it says. 7 is looked for last, so that the
+    /// second call is accepted.
+    fn with_room<'a>(
         &mut self,
-        out: &mut Vec<Row>,
+        out: &'a mut Vec<Row>,
         call: impl Fn(&mut [u64], &mut [u64], &mut [u64]) -> raw::Reply,
-    ) -> Result<Said, Refused> {
+    ) -> Result<Said<'a>, Refused> {
         let mut reply = call(&mut self.state, &mut self.store, &mut self.rows);
-        if reply.code == TOO_FEW_PLACES {
-            self.rows.resize(reply.count as usize * ROW_WORDS, 0);
+        let needed = (reply.code == TOO_FEW_PLACES).then_some(reply.count);
+        if let Some(places) = needed {
+            self.rows.resize(places as usize * ROW_WORDS, 0);
             reply = call(&mut self.state, &mut self.store, &mut self.rows);
         }
         let said = accepted(reply)?;
         let written = self.rows.chunks_exact(ROW_WORDS).take(reply.count as usize);
+        let before = out.len();
         out.extend(written.map(Row::from_words));
-        Ok(said)
+        Ok(Said { needed, rows: &out[before..], ..said })
     }
 }
 
-fn accepted(reply: raw::Reply) -> Result<Said, Refused> {
+fn accepted(reply: raw::Reply) -> Result<Said<'static>, Refused> {
     match reply.code {
-        0 => Ok(Said { warning: reply.warning, wanted: reply.wanted, held: reply.held }),
+        0 => Ok(Said { warning: reply.warning, wanted: reply.wanted, held: reply.held, ..Said::default() }),
         code => Err(Refused(code)),
     }
 }
@@ -194,7 +203,7 @@ mod tests {
         flattener.seed(Y as u64, 0.0).unwrap();
         let mut out = Vec::new();
         let said = flattener.push(&block(1, G3, &[(X, 10.0), (Z, 5.0), (I, -10.0), (TURN, 99.0)]), &mut out).unwrap();
-        assert_eq!((said.warning, said.held), (0, 1 << Z));
+        assert_eq!((said.warning, said.held, said.needed, said.rows.len()), (0, 1 << Z, Some(2220), 2220));
         assert_eq!(out.len(), 2220);
         assert!(out[..2219].iter().all(|row| row.marked && row.line == 1));
         assert_eq!(out[2219], block(1, 0, &[(X, 10.0), (Y, 0.0), (Z, 5.0)]));

@@ -2,7 +2,7 @@
 //! rates. A tally that is started here is never refused by 9.
 
 use crate::raw::Reply;
-use crate::{Refused, Row, Said};
+use crate::{Flattener, Refused, Row, Said, TOO_FEW_PLACES};
 
 pub const JOBS: usize = 64;
 /// The largest numbers of a warning and of a refusal that are told apart.
@@ -54,20 +54,40 @@ pub enum Kind {
     Close,
 }
 
-/// What a call replied: 0 or its refusal, the rows written (with 7 the rows needed), its warning.
+/// What is told of a call: 0 or its refusal, its warning, the rows that it wrote, and the rows that it needed where it was
+/// refused by 7 before and made again.
 #[derive(Clone, Copy, Debug, Default, PartialEq)]
-pub struct Answer {
+pub struct Answer<'a> {
     pub code: u64,
-    pub count: u64,
     pub warning: u64,
+    pub needed: Option<u64>,
+    pub rows: &'a [Row],
 }
 
-impl Answer {
-    /// Of a call of `Flattener` that wrote so many rows. One that needed more places is made twice in there, and the first,
-    /// refused by 7, is not told: that fails no try, and no figure but its own lacks it.
-    pub fn of(result: &Result<Said, Refused>, rows: usize) -> Answer {
+/// What a call of `Flattener` answers where it is accepted. A start and a seed say nothing and write no row.
+pub trait Accepted<'a> {
+    fn said(&self) -> Said<'a> {
+        Said::default()
+    }
+}
+
+impl Accepted<'_> for Flattener {}
+
+impl Accepted<'_> for () {}
+
+impl<'a> Accepted<'a> for Said<'a> {
+    fn said(&self) -> Said<'a> {
+        *self
+    }
+}
+
+impl<'a> Answer<'a> {
+    pub fn of(result: &Result<impl Accepted<'a>, Refused>) -> Answer<'a> {
         match result {
-            Ok(said) => Answer { code: 0, count: rows as u64, warning: said.warning },
+            Ok(accepted) => {
+                let Said { warning, needed, rows, .. } = accepted.said();
+                Answer { code: 0, warning, needed, rows }
+            }
             Err(Refused(code)) => Answer { code: *code, ..Answer::default() },
         }
     }
@@ -107,18 +127,26 @@ impl Tally {
         Tally { words }
     }
 
-    /// Tells a call of a job; `rows` are the rows that it wrote.
-    pub fn note(&mut self, job: u64, kind: Kind, reply: Answer, rows: &[Row]) -> Result<(), Refused> {
-        let rows: Vec<u64> = rows.iter().flat_map(Row::to_words).collect();
+    /// Tells a call of a job, and before it the same call as it was refused by 7, where it was made again. What is refused
+    /// here is missing from every figure and every try; where the first of the two is, the second is not told.
+    pub fn note(&mut self, job: u64, kind: Kind, answer: Answer) -> Result<(), Refused> {
+        if let Some(needed) = answer.needed {
+            self.tell(job, kind, TOO_FEW_PLACES, needed, 0, &[])?;
+        }
+        let rows: Vec<u64> = answer.rows.iter().flat_map(Row::to_words).collect();
+        self.tell(job, kind, answer.code, answer.rows.len() as u64, answer.warning, &rows)
+    }
+
+    fn tell(&mut self, job: u64, kind: Kind, code: u64, count: u64, warning: u64, rows: &[u64]) -> Result<(), Refused> {
         let told = unsafe {
             tally_note(
                 self.words.as_mut_ptr(),
                 self.words.len(),
                 job,
                 kind as u64,
-                reply.code,
-                reply.count,
-                reply.warning,
+                code,
+                count,
+                warning,
                 rows.as_ptr(),
                 rows.len(),
             )
@@ -156,7 +184,6 @@ impl Tally {
 mod tests {
     use super::*;
     use crate::layout::{G1, G3, I, ROW_WORDS, R_MARK, TURN, X, Y};
-    use crate::Flattener;
 
     const NEVER: Figures = Figures {
         blocks: 0,
@@ -173,27 +200,40 @@ mod tests {
         marks.iter().map(|&m| Row { marked: m == 1, ..Row::default() }).collect()
     }
 
-    fn answer(code: u64, count: u64, warning: u64) -> Answer {
-        Answer { code, count, warning }
+    fn refused(code: u64) -> Answer<'static> {
+        Answer { code, ..Answer::default() }
+    }
+
+    const DONE: Answer = Answer { code: 0, warning: 0, needed: None, rows: &[] };
+    const AXES: [u64; 2] = [X as u64, Y as u64];
+
+    /// A full circle that turns so often more, behind a block to its start.
+    fn to_circle(turns: f64) -> [Row; 2] {
+        let mut to = Row { line: 1, motion: G1, ..Row::default() };
+        to.cells[X] = Some(10.0);
+        to.cells[Y] = Some(0.0);
+        let mut circle = Row { line: 2, motion: G3, ..to.clone() };
+        circle.cells[I] = Some(-10.0);
+        circle.cells[TURN] = Some(turns);
+        [to, circle]
     }
 
     #[test]
     fn the_whole_case() {
         let mut tally = Tally::start();
-        let told: [(u64, Kind, Answer, &[u64]); 10] = [
-            (1, Kind::Start, answer(0, 0, 0), &[]),
-            (1, Kind::Push, answer(0, 3, 0), &[1, 1, 0]),
-            (1, Kind::Push, answer(4, 0, 0), &[]),
-            (1, Kind::Close, answer(7, 5, 0), &[]),
-            (1, Kind::Close, answer(0, 5, 0), &[1, 1, 1, 1, 0]),
-            (1, Kind::Start, answer(0, 0, 0), &[]),
-            (1, Kind::Push, answer(0, 1, 0), &[0]),
-            (1, Kind::Close, answer(0, 0, 0), &[]),
-            (2, Kind::Push, answer(0, 1, 4), &[0]),
-            (3, Kind::Close, answer(0, 0, 0), &[]),
+        let told: [(u64, Kind, Answer, &[u64]); 9] = [
+            (1, Kind::Start, DONE, &[]),
+            (1, Kind::Push, DONE, &[1, 1, 0]),
+            (1, Kind::Push, refused(4), &[]),
+            (1, Kind::Close, Answer { needed: Some(5), ..DONE }, &[1, 1, 1, 1, 0]),
+            (1, Kind::Start, DONE, &[]),
+            (1, Kind::Push, DONE, &[0]),
+            (1, Kind::Close, DONE, &[]),
+            (2, Kind::Push, Answer { warning: 4, ..DONE }, &[0]),
+            (3, Kind::Close, DONE, &[]),
         ];
-        for (job, kind, reply, marks) in told {
-            assert_eq!(tally.note(job, kind, reply, &marked(marks)), Ok(()));
+        for (job, kind, answer, marks) in told {
+            assert_eq!(tally.note(job, kind, Answer { rows: &marked(marks), ..answer }), Ok(()));
         }
         assert_eq!(tally.rates(), Rates { first_passed: 1, final_passed: 2, closed: 2 });
         let mut first = Figures { blocks: 2, rows: 9, marked: 6, closed: true, final_passed: true, ..NEVER };
@@ -209,41 +249,69 @@ mod tests {
 
     #[test]
     fn calls_of_a_flattener_are_told_as_it_answers_them() {
-        let mut flattener = Flattener::start(0.1, &[X as u64, Y as u64]).unwrap();
+        let mut flattener = Flattener::start(0.1, &AXES).unwrap();
         let mut tally = Tally::start();
-        let mut to = Row { line: 1, motion: G1, ..Row::default() };
-        to.cells[X] = Some(10.0);
-        to.cells[Y] = Some(0.0);
-        let mut circle = Row { line: 2, motion: G3, ..to.clone() };
-        circle.cells[I] = Some(-10.0);
-        let mut wrong = circle.clone();
-        wrong.cells[TURN] = Some(1001.0);
+        let [to, circle] = to_circle(0.0);
+        let [_, wrong] = to_circle(1001.0);
+        // one list for the whole job: each row counts once
+        let mut out = Vec::new();
         for block in [&to, &circle, &wrong] {
-            let mut rows = Vec::new();
-            let result = flattener.push(block, &mut rows);
-            assert_eq!(tally.note(9, Kind::Push, Answer::of(&result, rows.len()), &rows), Ok(()));
+            let result = flattener.push(block, &mut out);
+            assert_eq!(tally.note(9, Kind::Push, Answer::of(&result)), Ok(()));
         }
-        let mut rows = Vec::new();
-        let result = flattener.close(&mut rows);
-        assert_eq!(tally.note(9, Kind::Close, Answer::of(&result, rows.len()), &rows), Ok(()));
+        let result = flattener.close(&mut out);
+        assert_eq!(tally.note(9, Kind::Close, Answer::of(&result)), Ok(()));
         let mut figures = Figures { blocks: 2, rows: 24, marked: 22, closed: true, ..NEVER };
         figures.turned[5] = 1;
         assert_eq!(tally.figures(9), figures);
+        assert_eq!((out.len(), out.iter().filter(|row| row.marked).count()), (24, 22));
         assert_eq!(tally.rates(), Rates { first_passed: 0, final_passed: 0, closed: 1 });
+    }
+
+    #[test]
+    fn a_refused_start_or_seed_fails_the_first_try() {
+        let mut tally = Tally::start();
+        let mut out = Vec::new();
+        let mut flattener = Flattener::start(0.1, &AXES).unwrap();
+        assert_eq!(tally.note(1, Kind::Start, Answer::of(&Flattener::start(0.0, &AXES))), Ok(()));
+        assert_eq!(tally.note(2, Kind::Seed, Answer::of(&flattener.seed(X as u64, f64::NAN))), Ok(()));
+        for job in [1, 2, 3] {
+            assert_eq!(tally.note(job, Kind::Start, Answer::of(&Flattener::start(0.1, &AXES))), Ok(()));
+            assert_eq!(tally.note(job, Kind::Seed, Answer::of(&flattener.seed(X as u64, 1.0))), Ok(()));
+            assert_eq!(tally.note(job, Kind::Close, Answer::of(&flattener.close(&mut out))), Ok(()));
+        }
+        assert_eq!((tally.figures(1).turned[1], tally.figures(2).turned[3]), (1, 1));
+        assert_eq!(tally.rates(), Rates { first_passed: 1, final_passed: 1, closed: 3 });
+    }
+
+    #[test]
+    fn a_call_that_needed_more_places_is_two_and_fails_nothing() {
+        let mut tally = Tally::start();
+        let mut flattener = Flattener::start(0.1, &AXES).unwrap();
+        let mut out = Vec::new();
+        for block in &to_circle(99.0) {
+            assert_eq!(tally.note(1, Kind::Push, Answer::of(&flattener.push(block, &mut out))), Ok(()));
+        }
+        assert_eq!(tally.note(1, Kind::Close, Answer::of(&flattener.close(&mut out))), Ok(()));
+        let mut figures = Figures { blocks: 2, closed: true, first_passed: true, final_passed: true, ..NEVER };
+        figures.rows = out.len() as u64;
+        figures.marked = out.len() as u64 - 2;
+        figures.turned[7] = 1;
+        assert_eq!(tally.figures(1), figures);
     }
 
     #[test]
     fn a_refusal_has_its_number_and_changes_nothing() {
         let mut tally = Tally::start();
         for job in 0..JOBS as u64 {
-            assert_eq!(tally.note(job, Kind::Close, answer(0, 0, 0), &[]), Ok(()));
+            assert_eq!(tally.note(job, Kind::Close, DONE), Ok(()));
         }
         let before = tally.words.clone();
         let more = JOBS as u64;
-        assert_eq!(tally.note(more, Kind::Close, answer(0, 0, 0), &[]), Err(Refused(11)));
-        assert_eq!(tally.note(more, Kind::Close, answer(32, 0, 0), &[]), Err(Refused(4)));
-        assert_eq!(tally.note(0, Kind::Push, answer(0, 0, 16), &[]), Err(Refused(4)));
-        assert_eq!(tally.note(0, Kind::Push, answer(0, 2, 0), &marked(&[1])), Err(Refused(4)));
+        assert_eq!(tally.note(more, Kind::Close, DONE), Err(Refused(11)));
+        assert_eq!(tally.note(more, Kind::Close, Answer { needed: Some(1), ..DONE }), Err(Refused(11)));
+        assert_eq!(tally.note(more, Kind::Close, refused(32)), Err(Refused(4)));
+        assert_eq!(tally.note(0, Kind::Push, Answer { warning: 16, ..DONE }), Err(Refused(4)));
         assert_eq!(tally.words, before);
         assert_eq!(tally.rates(), Rates { first_passed: more, final_passed: more, closed: more });
     }
