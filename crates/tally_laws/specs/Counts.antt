@@ -32,7 +32,7 @@ figure-word j k cs l h = cond-f _ _ (ne-eqb k wJob (ne-of-gt l)) ∙ cond-f _ _ 
 pub figures-count : (ns : List Note) (job k : ℕ) → 0 < k → k ≤ figures → figureIn (run emptyTally ns) job k ≡ sumOf k (callsOf job (taken emptyTally ns))
 figures-count ns job k l h = old-word (holds ns) job k (omega arith) (ne-of-gt l) ∙ figure-word job k (callsOf job (taken emptyTally ns)) l h
 
-try-word : (j : ℕ) (cs : List Call) → slotWord j cs wTry ≡ tryOf cs
+pub try-word : (j : ℕ) (cs : List Call) → slotWord j cs wTry ≡ tryOf cs
 unfolding slotWord
 try-word j cs = refl
 

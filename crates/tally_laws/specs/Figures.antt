@@ -1,4 +1,4 @@
--- LAWS. Each figure of a job by what it counts among the job's calls. Assumes nothing.
+-- LAWS. Each figure of a job by what it counts among the job's calls, and its try word by their tries. Assumes nothing.
 use Prim.Native.Nat.{ℕ, _+_, _-_, _<_, _≤_}
 use mathlib.Core.Path.{_≡_, refl, _∙_, ap}
 use mathlib.Core.Bool.{Bool, _&&_, cond}
@@ -10,12 +10,16 @@ use lib.Dec.{eqb, leb}
 use borrow.Author.Tests.{ne-eqb, le-leb, lt-leb}
 use Rattle.floats.specs.Lists.{keep}
 use Rattle.floats.specs.Truth.{by-bit, cond-t, cond-f}
-use Rattle.tally_words.specs.Words.{mostWarning, mostCode, wBlocks, wRows, wMarked, wTurned, emptyTally, bit}
+use Rattle.row_cells.specs.Bits.{has}
+use Rattle.tally_words.specs.Words.{bClosed, bFirst, bFinal, bFailing}
+use Rattle.tally_words.specs.Words.{mostWarning, mostCode, wBlocks, wRows, wMarked, wTurned, wTry, emptyTally, bit}
 use Rattle.tally_call.specs.Calls.{kPush, figure}
 use Rattle.tally_call.specs.declared.Call.{Call}
 use Rattle.tally_laws.specs.Jobs.{Note, run, taken, callsOf, sumOf}
-use Rattle.tally_laws.specs.Statements.{total, accepted, FiguresAre}
-use Rattle.tally_laws.specs.Counts.{figures-count}
+use Rattle.tally_laws.specs.Statements.{total, accepted, tryIn, FiguresAre}
+use Rattle.tally_laws.specs.JobLaws.{tryOf, try-bits}
+use Rattle.tally_laws.specs.Holds.{old-word}
+use Rattle.tally_laws.specs.Counts.{holds, figures-count, try-word}
 
 -- ---- sums of figures: of those that count, and of those that add up
 sum-keep : (k : ℕ) (p : Call → Bool) → ((c : Call) → figure c k ≡ bit (p c)) → (cs : List Call) → sumOf k cs ≡ length (keep p cs)
@@ -69,7 +73,11 @@ turn-bit n l h c =
     ∙ cond-f _ _ (lt-leb (wTurned + n) wTurned (omega arith))
     ∙ ap (λ (x : ℕ). bit (eqb (c .code) x)) e
 
--- after any notes to a fresh tally: blocks, rows, marked rows, warned calls, refused calls of a job are what they say
+-- the try word
+try-in : (ns : List Note) (job : ℕ) → tryIn (run emptyTally ns) job ≡ tryOf (callsOf job (taken emptyTally ns))
+try-in ns job = old-word (holds ns) job wTry (omega arith) (ne-of-gt (omega arith)) ∙ try-word job (callsOf job (taken emptyTally ns))
+
+-- after any notes to a fresh tally: blocks, rows, marked rows, warned calls, refused calls and the try word of a job are what they say
 pub figures-are : (ns : List Note) (job : ℕ) → FiguresAre (run emptyTally ns) job (callsOf job (taken emptyTally ns))
 figures-are ns job =
     let cs : List Call = callsOf job (taken emptyTally ns) in
@@ -79,4 +87,8 @@ figures-are ns job =
       marked = figures-count ns job wMarked (omega arith) (omega arith) ∙ sum-total wMarked _ mark-count cs;
       warned = λ w l h. figures-count ns job (wMarked + w) (omega arith) (omega arith) ∙ sum-keep (wMarked + w) _ (warn-bit w l h) cs;
       turned = λ n l h. figures-count ns job (wTurned + n) (omega arith) (omega arith) ∙ sum-keep (wTurned + n) _ (turn-bit n l h) cs;
+      closed = ap (λ (w : ℕ). has w bClosed) (try-in ns job) ∙ try-bits cs .b0;
+      first = ap (λ (w : ℕ). has w bFirst) (try-in ns job) ∙ try-bits cs .b1;
+      final = ap (λ (w : ℕ). has w bFinal) (try-in ns job) ∙ try-bits cs .b2;
+      failing = ap (λ (w : ℕ). has w bFailing) (try-in ns job) ∙ try-bits cs .b3;
     }

@@ -1,9 +1,9 @@
--- LAWS. When a note is refused by 11. Assumes nothing.
+-- LAWS. When a note is refused by 11, and when it is taken. Assumes nothing.
 use Prim.Native.Nat.{ℕ, zero, suc, _+_, _-_, _^_, _<_, _≤_}
 use mathlib.Core.Path.{_≡_, refl, sym, _∙_, ap}
 use mathlib.Core.Bool.{Bool, true, false, _&&_, false≢true, and-false}
 use mathlib.Core.List.{List, [], _∷_, _++_}
-use mathlib.Core.Logic.{_⊎_, inl, inr}
+use mathlib.Core.Logic.{_⊎_, inl, inr, ⊎-elim}
 use native.Mathlib.Nat.{ne-of-gt}
 use native.Mathlib.Omega.{arith}
 use lib.ListN.{length}
@@ -125,7 +125,7 @@ module _ (st : List ℕ) (n : Note) (ok : tallyOk st ≡ true) (w : wellTold n �
       (λ r. r)
 
 -- after any notes to a fresh tally, one that is well told is refused by 11 where its job is new and 64 have a slot, or where one of
--- its job's figures would be 2^64 or more, and nowhere else
+-- its job's figures would be 2^64 or more, and nowhere else: there it is taken
 pub eleven-when : (ns : List Note) (n : Note) → wellTold n ≡ true → ElevenWhen (run emptyTally ns) (taken emptyTally ns) n (toldOf n)
 eleven-when ns n w =
     let h : Holds (run emptyTally ns) (taken emptyTally ns) = holds ns in
@@ -133,4 +133,8 @@ eleven-when ns n w =
       only = λ e. reason h (toldOf n) (code-full _ n (good-tally h) w e);
       crowded = λ c. full-code _ n (good-tally h) w (crowded-full h (toldOf n) c);
       past = λ p. full-code _ n (good-tally h) w (past-full h (toldOf n) p);
+      taken =
+          λ c p. by-bit (roomFor (run emptyTally ns) (n .job) (toldOf n .call))
+          (λ r. done-code _ n (good-tally h) w r)
+          (λ r. absurd (⊎-elim c p (reason h (toldOf n) r)));
     }

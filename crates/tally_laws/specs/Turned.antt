@@ -3,8 +3,6 @@ use Prim.Native.Nat.{ℕ}
 use mathlib.Core.Path.{_≡_, sym, _∙_, ap}
 use mathlib.Core.Bool.{true, false, false≢true}
 use mathlib.Core.List.{List}
-use mathlib.Core.Logic.{inl, inr}
-use native.Mathlib.Omega.{arith}
 use lib.Dec.{eqb}
 use Rattle.floats.specs.Truth.{by-bit, cond-t, cond-f}
 use Rattle.call_reply.specs.Replies.{plain, AfterState}
@@ -69,7 +67,7 @@ taken-state st n h = left (way st n)
     left (full t o r e) = absurd (false≢true (sym (code-of e) ∙ h))
     left (done t o r e) = state-of e
 
--- what a note can answer, and what it leaves
+-- what a note answers, where, and what it leaves
 pub turned-tally : (st : List ℕ) (n : Note) → TurnedTally st n
 turned-tally st n = by-way (way st n)
   where
@@ -79,13 +77,13 @@ turned-tally st n = by-way (way st n)
     by-way : Way st n → TurnedTally st n
     by-way (none t e) =
         let c : answer st n .reply .code ≡ 9 = number e in
-        record { codes = inr (inr (inl c)); leaves = turned-leaves st n; eleven = λ h. absurd (omega arith); four = λ h. absurd (omega arith) }
+        record { nine = rw (c, t); four = rw (c, t); other = rw (c, t); leaves = turned-leaves st n }
     by-way (untold t o e) =
         let c : answer st n .reply .code ≡ 4 = number e in
-        record { codes = inr (inl c); leaves = turned-leaves st n; eleven = λ h. absurd (omega arith); four = λ h. t }
+        record { nine = rw (c, t); four = rw (c, t, o); other = rw (c, t, o); leaves = turned-leaves st n }
     by-way (full t o r e) =
         let c : answer st n .reply .code ≡ tallyFull = number e in
-        record { codes = inr (inr (inr c)); leaves = turned-leaves st n; eleven = λ h. (t, o); four = λ h. t }
+        record { nine = rw (c, t); four = rw (c, t, o); other = rw (c, t, o); leaves = turned-leaves st n }
     by-way (done t o r e) =
         let c : answer st n .reply .code ≡ 0 = number e in
-        record { codes = inl c; leaves = turned-leaves st n; eleven = λ h. (t, o); four = λ h. t }
+        record { nine = rw (c, t); four = rw (c, t, o); other = rw (c, t, o); leaves = turned-leaves st n }
