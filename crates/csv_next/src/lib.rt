@@ -4,6 +4,7 @@ use csv_io::emptied;
 use csv_out::Run;
 use csv_reading::Reading;
 use csv_status::GOES_ON;
+use libc::STDIN_FILENO;
 use text_lines::Found;
 use text_lines::Turn;
 use text_lines::next_turn;
@@ -36,7 +37,7 @@ pub fn next_found(s: Reading, buf: &mut [u8], out: &[u8], err: &[u8]) -> Next
             over: room.over,
         };
     }
-    let turn = next_turn(buf, s.at, s.end);
+    let turn = next_turn(STDIN_FILENO, buf, s.at, s.end);
     Next {
         turn,
         run,

@@ -1,4 +1,5 @@
 // One turn of the reading loop of `replay`: what the line asks for that it found.
+use libc::STDIN_FILENO;
 use replay_ask::Ask;
 use replay_ask::read_ask;
 use replay_memory::MOST_LENGTH;
@@ -93,7 +94,7 @@ fn turn(w: Window, buf: &mut [u8], words: &mut [u64; MOST_LENGTH]) -> Window
     requires { ⌜ (w .at ≤ w .end) × (w .end ≤ length (now buf)) ⌝ }
     ensures { λ r. ⌜ (r .at ≤ r .end) × (r .end ≤ length (now (buf .exit))) ⌝ }
 {
-    let t = next_turn(buf, w.at, w.end);
+    let t = next_turn(STDIN_FILENO, buf, w.at, w.end);
     asked(t, w.lines, w.turns, buf, words)
 }
 

@@ -1,5 +1,4 @@
-// Lines of standard input, in a buffer of a fixed size: each turn of a program's reading loop is `next_turn`.
-use libc::STDIN_FILENO;
+// Lines of an open file, in a buffer of a fixed size: each turn of a program's reading loop is `next_turn`.
 ghost use Prim.Native.Nat.{_+_, _-_, _<_, _≤_};
 ghost use lib.ListN.{length};
 ghost use mathlib.Core.Path.{_≡_};
@@ -86,12 +85,12 @@ struct Came {
 }
 
 // Reads into buf behind its first n bytes, and answers how many it has then.
-fn read_more(buf: &mut [u8], n: usize) -> Came
+fn read_more(file: i32, buf: &mut [u8], n: usize) -> Came
     requires { ⌜ n ≤ length (now buf) ⌝ }
     ensures { λ r. ⌜ More (now (buf .entry)) n (now (buf .exit)) r ⌝ }
 {
     let part = &mut buf[n..];
-    let got = libc::read(STDIN_FILENO, part);
+    let got = libc::read(file, part);
     Came {
         n: n + io::count(got, part),
         ok: got >= 0,
@@ -128,7 +127,7 @@ fn at_front(end: usize, found: Found) -> Turn
 }
 
 // No line stands whole: the unread bytes go to the front, and more are read behind them.
-fn read_on(buf: &mut [u8], at: usize, end: usize) -> Turn
+fn read_on(file: i32, buf: &mut [u8], at: usize, end: usize) -> Turn
     requires { ⌜ (at ≤ end) × (end ≤ length (now buf)) ⌝ }
     requires { ⌜ end < at + cut (between (now buf) at end) ⌝ }
     ensures { λ r. ⌜ Turned (now (buf .entry)) at end (now (buf .exit)) r ⌝ }
@@ -137,7 +136,7 @@ fn read_on(buf: &mut [u8], at: usize, end: usize) -> Turn
     if n == buf.len() {
         return at_front(n, Found::Full);
     }
-    let came = read_more(buf, n);
+    let came = read_more(file, buf, n);
     if came.n > n {
         return at_front(came.n, Found::More);
     }
@@ -148,7 +147,7 @@ fn read_on(buf: &mut [u8], at: usize, end: usize) -> Turn
 }
 
 // One turn of the reading loop: a line that stands whole in the buffer, or a reading.
-pub fn next_turn(buf: &mut [u8], at: usize, end: usize) -> Turn
+pub fn next_turn(file: i32, buf: &mut [u8], at: usize, end: usize) -> Turn
     requires { ⌜ (at ≤ end) × (end ≤ length (now buf)) ⌝ }
     ensures { λ r. ⌜ Turned (now (buf .entry)) at end (now (buf .exit)) r ⌝ }
 {
@@ -161,5 +160,5 @@ pub fn next_turn(buf: &mut [u8], at: usize, end: usize) -> Turn
             found: Found::Line,
         };
     }
-    read_on(buf, at, end)
+    read_on(file, buf, at, end)
 }

@@ -22,8 +22,8 @@ read-requires c κs = search needs
 count-requires : tie.Need-count-requires
 count-requires c κs = search needs
 
-add-t12 : tie.Need-add-t12
-add-t12 c = search needs
+add-t13 : tie.Need-add-t13
+add-t13 c = search needs
 
 same-length : tie.Need-same-length
 same-length c = search needs
@@ -45,6 +45,6 @@ read-more-spec =
     part-part-end
     read-requires
     count-requires
-    add-t12
+    add-t13
     same-length
     returns)
