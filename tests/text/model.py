@@ -11,7 +11,6 @@ import os
 import struct
 import subprocess
 import sys
-from fractions import Fraction
 
 HEADER = b"line_no,gg01_motion,gg06_plane_select,X,Y,Z,I,J,K,CR,TURN,PW,SD,F"
 HEADER_OUT = HEADER + b",flattened"
@@ -46,7 +45,9 @@ def number_in(text):
 
 
 def number_out(x):
-    n = round(abs(Fraction(x)) * 10 ** 6)       # a tie goes to the even one
+    whole, parts = abs(x).as_integer_ratio()
+    n, rest = divmod(whole * 10 ** 6, parts)
+    n += 2 * rest > parts or 2 * rest == parts and n % 2       # a tie goes to the even one
     if n >= 10 ** 15:
         raise Bad
     sign = b"-" if x < 0 and n else b""
@@ -75,10 +76,10 @@ def bits(x):
     return struct.pack(">d", x).hex()
 
 
-def call_of(row):
+def call_of(row, carry=0):
     line, motion, plane, cells = row
     presence = sum(1 << code for code in cells)
-    return " ".join([f"push {line} {motion} {plane} 0 {presence:x}"] + [bits(cells[c]) for c in sorted(cells)])
+    return " ".join([f"push {line} {motion} {plane} {carry:x} {presence:x}"] + [bits(cells[c]) for c in sorted(cells)])
 
 
 def answered(text):
@@ -244,6 +245,7 @@ def main():
     sys.stderr.buffer.write(err)
 
 
-if len(sys.argv) < 2:
-    sys.exit(__doc__)
-main()
+if __name__ == "__main__":
+    if len(sys.argv) < 2:
+        sys.exit(__doc__)
+    main()

@@ -1,9 +1,8 @@
-// The centre of an arc, by offsets or CR, or the warning where there is none.
-use floats::TINY;
+// The centre of an arc by offsets, and the radii: warned where one is too small.
 ghost use mathlib.Core.Path.{_≡_};
-ghost use Rattle.arc_centre.specs.Centre.{sideOf, crCentre, centreOf, wideCentre, radius};
+ghost use Rattle.arc_centre.specs.Centre.{sideOf, wideCentre, radius};
 ghost use Rattle.arc_centre.specs.Centre as Spec;
-ghost use Rattle.arc_centre.specs.Types.{centreIs, numberIs, endsIs};
+ghost use Rattle.arc_centre.specs.Types.{centreIs, endsIs};
 
 // Below it a radius is too small, and start and end agree.
 pub const SMALL: f64 = 1e-9;
@@ -32,7 +31,7 @@ pub enum Centre {
 }
 
 // 1 for a centre left of the chord from start to end, -1 for one right of it.
-fn side(cw: bool, cr: f64) -> f64
+pub fn side(cw: bool, cr: f64) -> f64
     ensures { λ r. ⌜ r ≡ sideOf cw cr ⌝ }
 {
     if cr < 0.0 {
@@ -49,7 +48,7 @@ pub fn radius(u: f64, v: f64, cu: f64, cv: f64) -> f64
 }
 
 // The centre, where neither radius is too small.
-fn wide(e: Ends, cu: f64, cv: f64) -> Centre
+pub fn wide(e: Ends, cu: f64, cv: f64) -> Centre
     ensures { λ r. ⌜ centreIs r ≡ wideCentre (endsIs e) (Spec.centred cu cv) ⌝ }
 {
     if radius(e.su, e.sv, cu, cv) < SMALL {
@@ -59,47 +58,4 @@ fn wide(e: Ends, cu: f64, cv: f64) -> Centre
         return Centre::Small;
     }
     Centre::At(cu, cv)
-}
-
-// The centre by CR.
-fn by_radius(cw: bool, e: Ends, cr: f64) -> Centre
-    ensures { λ r. ⌜ centreIs r ≡ wideCentre (endsIs e) (crCentre cw (endsIs e) cr) ⌝ }
-{
-    let du = e.eu - e.su;
-    let dv = e.ev - e.sv;
-    let chord = root::root(du * du + dv * dv);
-    if chord < TINY {
-        return Centre::Coincident;
-    }
-    let r = floats::abs(cr);
-    let half = chord / 2.0;
-    if r < half - SMALL {
-        return Centre::Short;
-    }
-    let h = root::root(floats::larger(r * r - half * half, 0.0));
-    let far = side(cw, cr) * h;
-    wide(
-        e,
-        (e.su + e.eu) / 2.0 + far * (-dv / chord),
-        (e.sv + e.ev) / 2.0 + far * (du / chord),
-    )
-}
-
-// The centre by the offsets i and j, else by CR.
-pub fn find_centre(cw: bool, e: Ends, i: Cell, j: Cell, cr: Cell) -> Centre
-    ensures { λ r. ⌜ centreIs r ≡ wideCentre (endsIs e) (centreOf cw (endsIs e) (numberIs i) (numberIs j) (numberIs cr)) ⌝ }
-{
-    match i {
-        Cell::Number(x) => match j {
-            Cell::Number(y) => wide(e, e.su + x, e.sv + y),
-            Cell::Absent => wide(e, e.su + x, e.sv + 0.0),
-        },
-        Cell::Absent => match j {
-            Cell::Number(y) => wide(e, e.su + 0.0, e.sv + y),
-            Cell::Absent => match cr {
-                Cell::Number(r) => by_radius(cw, e, r),
-                Cell::Absent => Centre::Missing,
-            },
-        },
-    }
 }

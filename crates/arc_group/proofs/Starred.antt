@@ -16,9 +16,9 @@ use Rattle.row_cells.specs.Codes.{planeXY, planeU, planeV}
 use Rattle.row_cells.specs.Bits.{has}
 use Rattle.row_cells.specs.Row.{cell, number, shown, maskOf, rowOf, outRow, hasPoint}
 use Rattle.row_made.specs.Made.{rides, withRiders, madeRow}
-use Rattle.arc_rows.specs.Arc.{Answer, passed, silent, sideOf, crCentre, centreOf, radius, wideCentre, agree, sweepLeft, sweepOf}
-use Rattle.arc_rows.specs.Arc.{turned, arcOf, stepOf, wantedOf, countOf, ramp, lastCell, midCell, arcRow, heldAxes, arcRows}
-use Rattle.arc_rows.specs.Arc.{fromCentre, fromStart, arcAnswer}
+use Rattle.arc_answer.specs.Arc.{Answer, passed, silent, sideOf, crCentre, centreOf, radius, wideCentre, agree, sweepLeft, sweepOf}
+use Rattle.arc_answer.specs.Arc.{turned, arcOf, stepOf, wantedOf, countOf, ramp, lastCell, midCell, arcRow, heldAxes, arcRows}
+use Rattle.arc_answer.specs.Arc.{fromCentre, fromStart, arcAnswer}
 
 -- 10 as a word; a block of G3 with X 10, Y 0 and one cell more; the positions of X and Y
 abbrev pub ten : ℕ

@@ -28,9 +28,9 @@ pub fn plan_arc(
     if !row_cells::has_bit(known, v as u64) {
         return arc_rows::passing(1);
     }
-    let e = arc_block::ends(row, at, u, v);
+    let e = arc_ends::ends(row, at, u, v);
     let f = arc_sample::Setting { gs, plane, known };
-    arc_rows::from_centre(row, f, cw, tol, e, arc_block::seek_centre(row, cw, e, u, v))
+    arc_rows::from_centre(row, f, cw, tol, e, arc_ends::seek_centre(row, cw, e, u, v))
 }
 
 // Writes the rows of a planned block from word `from` on.

@@ -43,7 +43,7 @@ pub fn put_mid_row(
         motion: G1,
         marked: true,
     };
-    row_made::put_made(rows, place, row, made, &words);
+    row_make::put_made(rows, place, row, made, &words);
 }
 
 pub fn put_last_row(
@@ -59,7 +59,7 @@ pub fn put_last_row(
     ensures { λ _. ⌜ now (rows .exit) ≡ spliced (now (rows .entry)) place (last d (now (row .entry)) (endsIs e) first) ⌝ }
 {
     let mut words = [0u64; layout::AXIS_CODES];
-    arc_words::put_last(&mut words, row, e, d.u, d.v);
+    arc_last::put_last(&mut words, row, e, d.u, d.v);
     let made = row_made::Made {
         axes: d.gs,
         mask: d.mask,
@@ -67,5 +67,5 @@ pub fn put_last_row(
         motion: G1,
         marked: false,
     };
-    row_made::put_made(rows, place, row, made, &words);
+    row_make::put_made(rows, place, row, made, &words);
 }

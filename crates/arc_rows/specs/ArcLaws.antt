@@ -14,8 +14,8 @@ use Rattle.row_cells.specs.Codes.{planeU, planeV}
 use Rattle.row_cells.specs.Row.{motionOf, planeOf, markOf, carryOf, rowOf}
 use Rattle.row_made.specs.Made.{madeRow}
 use Rattle.floats.specs.Truth.{by-bit}
-use Rattle.arc_rows.specs.Arc.{mostArcRows, Answer, passed, silent, Ends, Arc, Centre, centred, warned, wantedOf, countOf}
-use Rattle.arc_rows.specs.Arc.{arcRow, arcRows, fromCentre, fromStart, arcAnswer}
+use Rattle.arc_answer.specs.Arc.{mostArcRows, Answer, passed, silent, Ends, Arc, Centre, centred, warned, wantedOf, countOf}
+use Rattle.arc_answer.specs.Arc.{arcRow, arcRows, fromCentre, fromStart, arcAnswer}
 
 -- ---- the answer is the block passed on, or the rows of an arc
 module _ (tol : Float) (gs : List ℕ) (plane : ℕ) (cw : Bool) (pos : ℕ → Option ℕ) (r : List ℕ) (P : Answer → Type 0)

@@ -1,4 +1,3 @@
-pub mod Arc
 pub mod Plan
 pub mod ArcLaws
 pub mod PlanLaws

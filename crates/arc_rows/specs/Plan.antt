@@ -18,7 +18,7 @@ use Rattle.arc_sample.specs.declared.Setting.{Setting}
 use Rattle.arc_rows.specs.declared.Way.{Way}
 use Rattle.arc_rows.specs.declared.Way.the-variants.{Pass, Along}
 use Rattle.arc_rows.specs.declared.Plan.{Plan}
-use Rattle.arc_rows.specs.Arc.{mostArcRows, Answer, Ends, Arc, Centre, wantedOf, countOf, arcRow, fromCentre, arcAnswer}
+use Rattle.arc_answer.specs.Arc.{mostArcRows, Answer, Ends, Arc, Centre, wantedOf, countOf, arcRow, fromCentre, arcAnswer}
 
 -- ---- what the code asks
 pub record BlockOf (r : List ℕ) (gs : ℕ) (at : List ℕ) : Type 0 where

@@ -21,8 +21,8 @@ use Rattle.arc_numbers.specs.declared.Arc as ArcOf
 use Rattle.arc_rows.specs.declared.Plan.{Plan}
 use Rattle.arc_block.specs.Block.{silentAt, holds, endsAt, centreAt}
 use Rattle.arc_rows.specs.Plan.{passPlan, alongPlan, wayRows, Planned}
-use Rattle.arc_rows.specs.Arc.{Answer, passed, silent, Ends, Arc, Centre, centred, warned, wantedOf, countOf, arcOf, arcRow, arcRows}
-use Rattle.arc_rows.specs.Arc.{heldAxes, fromCentre, fromStart, arcAnswer}
+use Rattle.arc_answer.specs.Arc.{Answer, passed, silent, Ends, Arc, Centre, centred, warned, wantedOf, countOf, arcOf, arcRow, arcRows}
+use Rattle.arc_answer.specs.Arc.{heldAxes, fromCentre, fromStart, arcAnswer}
 
 and-assoc : (a b c : Bool) → (a && (b && c)) ≡ ((a && b) && c)
 and-assoc true b c = refl

@@ -71,7 +71,7 @@ pub fn from_centre(
 {
     match centre {
         arc_centre::Centre::At(cu, cv) => {
-            let turn = arc_block::cell_number(row, layout::C_TURN);
+            let turn = arc_ends::cell_number(row, layout::C_TURN);
             let c = arc_numbers::arc_of(tol, cw, e, cu, cv, turn);
             let u = arc_words::plane_u(f.plane);
             let v = arc_words::plane_v(f.plane);

@@ -7,7 +7,7 @@ use Rattle.floats.specs.Lists.{upto, flatten}
 use Rattle.layout.specs.Layout.{axisCodes, rowWords}
 use Rattle.row_cells.specs.Row.{shown, axesOf}
 use Rattle.arc_numbers.specs.Arc.{Ends, Arc}
-use Rattle.arc_sample.specs.Samples.{arcRow}
+use Rattle.arc_answer.specs.Samples.{arcRow}
 use Rattle.arc_sample.specs.declared.Setting.{Setting}
 
 pub record DrawOf (rows : List ℕ) (from : ℕ) (r : List ℕ) (gs : ℕ) (at : List ℕ) (n : ℕ) : Type 0 where

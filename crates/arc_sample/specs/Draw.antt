@@ -26,7 +26,7 @@ use Rattle.arc_numbers.specs.Arc.{Ends, Arc, angleAt, radiusAt}
 use Rattle.arc_sample.specs.Rowing.{Rowing, rowing-same, rowing-more}
 use Rattle.arc_words.specs.Words.{drawn, drawnMask, startOf, spanOf, rampOf, sampleWord, endWord, lastWord}
 use Rattle.arc_made.specs.Drawn.{midRow, midRows, lastRow}
-use Rattle.arc_sample.specs.Samples.{ramp, lastCell, midCell, arcRow}
+use Rattle.arc_answer.specs.Samples.{ramp, lastCell, midCell, arcRow}
 
 -- ---- the code's words are the definition's cells
 module _ (gs : ℕ) (small : gs < 2 ^ axisCodes) (r : List ℕ) (u v : ℕ) (onU : u < axisCodes) (onV : v < axisCodes) where

@@ -1,4 +1,3 @@
-pub mod Samples
 pub mod Rowing
 pub mod Draw
 pub mod Asks

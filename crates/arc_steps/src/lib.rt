@@ -1,17 +1,11 @@
-// The steps along an arc: how many rows it has, and the place of each.
+// The steps along an arc: how many rows it has.
 use floats::TINY;
 ghost use mathlib.Core.Path.{_≡_};
 ghost use Rattle.arc_numbers.specs.Arc.{stepOf, wantedOf, countOf};
 ghost use Rattle.arc_numbers.specs.Types.{arcIs};
-ghost use Rattle.arc_steps.specs.Place.{PointAt};
 
 // Rows of one arc at most.
 pub const MOST_ROWS: u64 = 100000;
-
-pub struct Point {
-    pub u: f64,
-    pub v: f64,
-}
 
 // The angle between two samples.
 fn step(c: arc_numbers::Arc) -> f64
@@ -42,17 +36,5 @@ pub fn count(wanted: u64) -> u64
         MOST_ROWS
     } else {
         wanted
-    }
-}
-
-// The place at the fraction f of the arc.
-pub fn sample(c: arc_numbers::Arc, f: f64) -> Point
-    ensures { λ p. ⌜ PointAt (arcIs c) f p ⌝ }
-{
-    let a = trig::sincos(c.from + c.sweep * f);
-    let r = c.rs + (c.re - c.rs) * f;
-    Point {
-        u: c.cu + r * a.cos,
-        v: c.cv + r * a.sin,
     }
 }

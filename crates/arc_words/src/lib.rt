@@ -1,16 +1,15 @@
 // The plane's two axes, and the words of an arc's rows in axis order: at a sample, and at the programmed end.
 use layout::R_PRESENT;
 ghost use mathlib.Core.Path.{_≡_};
-ghost use Prim.Native.Nat.{_+_, _<_, _≤_};
+ghost use Prim.Native.Nat.{_<_, _≤_};
 ghost use lib.ListN.{length};
 ghost use Rattle.floats.specs.Lists.{upto};
 ghost use Rattle.layout.specs.Layout.{axisCodes, axisMasks, rowWords};
 ghost use Rattle.row_cells.specs.Codes.{planeU, planeV};
 ghost use Rattle.row_cells.specs.Row.{shown, presentOf};
 ghost use Rattle.row_cells.specs.Bits.{maskSum};
-ghost use Rattle.arc_centre.specs.Types.{endsIs};
 ghost use Rattle.arc_numbers.specs.Types.{arcIs};
-ghost use Rattle.arc_words.specs.Words.{drawn, startOf, spanOf, rampOf, sampleWord, endWord, lastWord, SampleOf};
+ghost use Rattle.arc_words.specs.Words.{drawn, startOf, spanOf, rampOf, sampleWord, SampleOf};
 
 pub fn plane_u(plane: u64) -> usize
     ensures { λ r. ⌜ (r ≡ planeU plane) × (r < 3) ⌝ }
@@ -104,28 +103,7 @@ pub fn put_sample(
     ensures { λ _. ⌜ now (words .exit) ≡ upto (sampleWord (arcIs c) u v (now (starts .entry)) (now (spans .entry)) f) axisCodes ⌝ }
 {
     put_ramps(words, starts, spans, f);
-    let p = arc_steps::sample(c, f);
+    let p = arc_place::sample(c, f);
     words[v] = floats::bits(p.v);
     words[u] = floats::bits(p.u);
-}
-
-fn put_ends(words: &mut [u64], row: &[u64])
-    requires { ⌜ (length (now words) ≡ axisCodes) × (length (now row) ≡ rowWords) ⌝ }
-    ensures { λ _. ⌜ now (words .exit) ≡ upto (endWord (now (row .entry))) axisCodes ⌝ }
-{
-    let mut k: usize = 0;
-    while k < layout::AXIS_CODES {
-        words[k] = row[layout::R_CELLS + k];
-        k += 1;
-    }
-}
-
-// The words of the last row.
-pub fn put_last(words: &mut [u64], row: &[u64], e: arc_centre::Ends, u: usize, v: usize)
-    requires { ⌜ (length (now words) ≡ axisCodes) × ((length (now row) ≡ rowWords) × ((u < axisCodes) × (v < axisCodes))) ⌝ }
-    ensures { λ _. ⌜ now (words .exit) ≡ upto (lastWord (endsIs e) u v (now (row .entry))) axisCodes ⌝ }
-{
-    put_ends(words, row);
-    words[v] = floats::bits(e.ev);
-    words[u] = floats::bits(e.eu);
 }

@@ -1,6 +1,7 @@
 // De Boor's triangle in work memory: a row of numbers for each control point, one a channel, the last point first. So
 // each level goes upwards in place, over the rows that still count.
 use bspline_low::low::share_at;
+use bspline_raise::raise_four;
 use curve_metric::WIDEST;
 use layout::AXIS_CODES;
 ghost use mathlib.Core.Path.{_≡_};
@@ -12,7 +13,7 @@ ghost use Rattle.layout.specs.Layout.{axisCodes, mostPoints};
 ghost use Rattle.curve_metric.specs.Widest.{widest};
 ghost use Rattle.bspline_tables.specs.Basis.{share};
 ghost use Rattle.bspline_low.specs.Low.{placed};
-ghost use Rattle.bspline_boor.specs.Climb.{Width, Put, Raised, Level, Climbed, Loaded};
+ghost use Rattle.bspline_raise.specs.Climb.{Width, Put, Raised, Level, Climbed, Loaded};
 
 // Numbers of a row at most: every axis and the weights, in whole fours. Rows are written out for three fours.
 pub const MOST_WIDE: usize = (AXIS_CODES + 4) / 4 * 4;
@@ -96,23 +97,6 @@ pub fn load_rows(cw: &[f64], n: usize, k: usize, p: usize, ch: usize, wide: usiz
         i += wide;
         h += 1;
     }
-}
-
-// Four numbers of a row at the next level. All are read before the first is written, so that they go in pairs.
-fn raise_four(d: &mut [f64], i: usize, wide: usize, share: f64)
-    requires { ⌜ i + wide + 3 < length (now d) ⌝ }
-    ensures { λ _. ⌜ Raised (now (d .entry)) (now (d .exit)) i 4 wide share ⌝ }
-{
-    let rest = 1.0 - share;
-    let e = i + wide;
-    let x0 = rest * d[e] + share * d[i];
-    let x1 = rest * d[e + 1] + share * d[i + 1];
-    let x2 = rest * d[e + 2] + share * d[i + 2];
-    let x3 = rest * d[e + 3] + share * d[i + 3];
-    d[i] = x0;
-    d[i + 1] = x1;
-    d[i + 2] = x2;
-    d[i + 3] = x3;
 }
 
 fn raise_row(d: &mut [f64], i: usize, wide: usize, share: f64)

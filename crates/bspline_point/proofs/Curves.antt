@@ -13,7 +13,7 @@ use Rattle.floats.specs.Fill.{length-upto, at-upto, upto-below}
 use Rattle.layout.specs.Layout.{mostPoints}
 use Rattle.bspline_tables.specs.Basis.{levels}
 use Rattle.bspline_tables.specs.Tables.{weighted, window, heldAt, spanIn, curveAt}
-use Rattle.bspline_boor.specs.Climb.{mostWide, column, Climbed, Loaded}
+use Rattle.bspline_raise.specs.Climb.{mostWide, column, Climbed, Loaded}
 use Rattle.bspline_boor.specs.Levels.{window-at, window-length}
 
 module _ (ks cw : List Float) (n p ch : ℕ) (t : Float) (l : List Float) where

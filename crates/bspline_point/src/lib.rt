@@ -19,7 +19,7 @@ ghost use Rattle.floats.specs.Numbers.{f0};
 ghost use Rattle.floats.specs.Lists.{filled};
 ghost use Rattle.curve_metric.specs.Widest.{widest};
 ghost use Rattle.bspline_tables.specs.Tables.{curveAt, Curve};
-ghost use Rattle.bspline_boor.specs.Climb.{Width, fewCells, someCells, manyCells};
+ghost use Rattle.bspline_raise.specs.Climb.{Width, fewCells, someCells, manyCells};
 
 // The point at t, in work memory of p + 1 rows.
 fn eval_in(

@@ -6,10 +6,10 @@ ghost use Rattle.floats.specs.Numbers.{ofNat};
 ghost use Rattle.floats.specs.Lists.{upto, filled};
 ghost use Rattle.layout.specs.Layout.{axisCodes, mostPoints};
 ghost use Rattle.bspline_tables.specs.Basis.{degreeOf};
-ghost use Rattle.bspline_tables.specs.Tables.{controlAt, Rows, BasisIs};
+ghost use Rattle.bspline_tables.specs.Tables.{controlAt, Rows};
 
 // The degree that n points support.
-fn degree_of(degree: usize, n: usize) -> usize
+pub fn degree_of(degree: usize, n: usize) -> usize
     requires { ⌜ 1 ≤ n ⌝ }
     ensures { λ r. ⌜ r ≡ degreeOf n degree ⌝ }
 {
@@ -33,7 +33,7 @@ fn knot(p: usize, spans: usize, i: usize) -> f64
     spans as f64
 }
 
-fn fill_knots(p: usize, spans: usize, m: usize, ks: &mut [f64])
+pub fn fill_knots(p: usize, spans: usize, m: usize, ks: &mut [f64])
     requires { ⌜ (spans ≤ mostPoints) × (m ≤ length (now ks)) ⌝ }
     ensures { λ _. ⌜ now (ks .exit) ≡ filled (λ i. ofNat (min (i - p) spans)) m (now (ks .entry)) ⌝ }
 {
@@ -71,7 +71,7 @@ fn channel(pts: &[f64], ws: &[f64], ch: usize, c: usize, out: &mut [f64])
 }
 
 // The weighted numbers, channel by channel, and then the weights.
-fn fill_controls(pts: &[f64], ws: &[f64], ch: usize, n: usize, cw: &mut [f64])
+pub fn fill_controls(pts: &[f64], ws: &[f64], ch: usize, n: usize, cw: &mut [f64])
     requires { ⌜ (ch ≤ axisCodes) × (n ≤ mostPoints) ⌝ }
     requires { ⌜ (n * ch ≤ length (now pts)) × ((n ≤ length (now ws)) × ((ch + 1) * n ≤ length (now cw))) ⌝ }
     ensures { λ _. ⌜ Rows (now (cw .exit)) n (ch + 1) (λ c. upto (controlAt (now (pts .entry)) (now (ws .entry)) ch c) n) ⌝ }
@@ -86,25 +86,4 @@ fn fill_controls(pts: &[f64], ws: &[f64], ch: usize, n: usize, cw: &mut [f64])
     }
     let e = a + n;
     copy(&ws[..n], &mut cw[a..e]);
-}
-
-// Fills the tables of n control points, of ch numbers each, and returns the degree in force.
-pub fn prepare_basis(
-    pts: &[f64],
-    ws: &[f64],
-    n: usize,
-    ch: usize,
-    degree: usize,
-    ks: &mut [f64],
-    cw: &mut [f64],
-) -> usize
-    requires { ⌜ (2 ≤ n) × ((n ≤ mostPoints) × (ch ≤ axisCodes)) ⌝ }
-    requires { ⌜ (n * ch ≤ length (now pts)) × (n ≤ length (now ws)) ⌝ }
-    requires { ⌜ (2 * n ≤ length (now ks)) × ((axisCodes + 1) * n ≤ length (now cw)) ⌝ }
-    ensures { λ r. ⌜ BasisIs degree n ch (now (pts .entry)) (now (ws .entry)) r (now (ks .exit)) (now (cw .exit)) ⌝ }
-{
-    let p = degree_of(degree, n);
-    fill_knots(p, n - p, n + p + 1, ks);
-    fill_controls(pts, ws, ch, n, cw);
-    p
 }

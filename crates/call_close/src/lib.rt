@@ -4,12 +4,12 @@ use call_reply::done_reply;
 use call_reply::plain_reply;
 use call_reply::too_few;
 use layout::W_HELD;
-use push_start::forget;
+use push_forget::forget;
+use row_room::has_room;
 use saved_check::saved_check;
 use spline_put::put_emission;
-use spline_write::has_room;
 ghost use Rattle.call_reply.specs.Replies.{PushIs};
-ghost use Rattle.call_close.specs.Close.{closeSpec};
+ghost use Rattle.call_answer.specs.Close.{closeSpec};
 
 // Ends the run: a held spline is emitted.
 pub fn close(state: &mut [u64], store: &[u64], rows: &mut [u64]) -> Reply

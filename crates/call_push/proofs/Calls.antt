@@ -24,15 +24,15 @@ use Rattle.push_check.specs.Refusal.{isFull, pushCheck}
 use Rattle.push_resolve.specs.declared.Resolved.{Resolved}
 use Rattle.push_resolve.specs.Resolved.{resolved}
 use Rattle.push_check.specs.Due.{due}
-use Rattle.push_rows.specs.Answer.{ownAnswer}
+use Rattle.call_answer.specs.Answer.{ownAnswer}
 use Rattle.push_state.specs.Pushed.{pushState, pushStore}
-use Rattle.spline_put.specs.Held.{emission}
-use Rattle.call_push.specs.Push.{pushRows, pushDone, pushSpec}
+use Rattle.spline_answer.specs.Held.{emission}
+use Rattle.call_answer.specs.Push.{pushRows, pushDone, pushSpec}
 use Rattle.saved_state.specs.Checked.{saved-ok}
 use Rattle.saved_state.specs.StateLaws.{good, good-few}
 use Rattle.push_rows.specs.Own.{Ready, OwnPlanned, ownRows}
 use Rattle.push_rows.specs.OwnLaws.{ready}
-use Rattle.spline_write.specs.Room.{putWithin}
+use Rattle.row_room.specs.Room.{putWithin}
 use Rattle.call_push.specs.Before.{before}
 use Rattle.call_push.specs.BeforeLaws.{before-words}
 use Rattle.spline_put.specs.Emitted.{Put}
@@ -40,7 +40,7 @@ use Rattle.spline_put.specs.EmittedLaws.{room-left, room-short, put-refused, pu
 use Rattle.push_rows.specs.Few.{few-own}
 use Rattle.push_check.specs.declared.Due.the-variants.{Refused, Push}
 use Rattle.push_check.specs.DueLaws.{due-refused, due-push}
-use Rattle.call_push.specs.Settle.{Passed, Settles, settled}
+use Rattle.push_settle.specs.Settle.{Passed, Settles, settled}
 
 -- what a push that passes its checks has
 pub record Passes (st store r : List ℕ) : Type 0 where

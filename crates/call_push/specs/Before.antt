@@ -2,7 +2,7 @@
 use Prim.Native.Nat.{ℕ}
 use mathlib.Core.Bool.{Bool, cond}
 use mathlib.Core.List.{List, []}
-use Rattle.spline_put.specs.Held.{emission}
+use Rattle.spline_answer.specs.Held.{emission}
 
 abbrev pub before : Bool → List ℕ → List ℕ → List (List ℕ)
 before e st store = cond e (emission st store) []

@@ -1,4 +1,2 @@
 pub mod Before
 pub mod BeforeLaws
-pub mod Push
-pub mod Settle

@@ -1,29 +1,23 @@
 // Pushing a block: what it is due, the held spline that goes out before it, its own rows, the store, the state, the reply.
-use arc_rows::Plan;
 use call_reply::Reply;
-use call_reply::done_reply;
 use call_reply::plain_reply;
 use call_reply::too_few;
-use layout::ROW_WORDS;
-use push_after::push_state;
-use push_after::push_store;
 use push_check::Due;
 use push_check::check_push;
 use push_resolve::Resolved;
 use push_rows::plan_own;
-use push_rows::write_own;
+use push_settle::settle;
+use row_room::has_room;
 use spline_put::put_emission;
-use spline_write::has_room;
 ghost use mathlib.Core.Path.{_≡_};
-ghost use mathlib.Core.Bool.{cond};
 ghost use Prim.Native.Nat.{_≤_};
 ghost use Rattle.spline_write.specs.Emits.{mostOwn};
 ghost use Rattle.saved_state.specs.State.{savedCheck};
 ghost use Rattle.call_reply.specs.Replies.{PushIs};
 ghost use Rattle.spline_put.specs.Emitted.{Put};
 ghost use Rattle.call_push.specs.Before.{before};
-ghost use Rattle.call_push.specs.Push.{pushSpec};
-ghost use Rattle.call_push.specs.Settle.{Passed, Settles, settled};
+ghost use Rattle.call_answer.specs.Push.{pushSpec};
+ghost use Rattle.push_settle.specs.Settle.{Passed};
 
 // Counts the rows that go out before the block's own and, where they and `own` more have room, writes them to the front
 // of `rows`.
@@ -35,35 +29,6 @@ fn put_before(state: &[u64], store: &[u64], rows: &mut [u64], emits: bool, own: 
         return put_emission(state, store, rows, own);
     }
     0
-}
-
-fn warning_of(news: bool, warning: u64) -> u64
-    ensures { λ r. ⌜ r ≡ cond news 7 warning ⌝ }
-{
-    if news { 7 } else { warning }
-}
-
-// The end of a push, where nothing can refuse any more: writes a planned block's rows after the first ones, and leaves the
-// block in the state and the store.
-fn settle(
-    state: &mut [u64],
-    store: &mut [u64],
-    rows: &mut [u64],
-    row: &[u64],
-    b: Resolved,
-    first: usize,
-    plan: Plan,
-) -> Reply
-    requires { ⌜ Settles (now state) (now store) (now row) b (now rows) first plan ⌝ }
-    ensures { λ r. ⌜ PushIs (settled (now (state .entry)) (now (store .entry)) (now (rows .entry)) (now (row .entry)) first plan) r (now (state .exit))
-        (now (store .exit)) (now (rows .exit)) ⌝ }
-{
-    let needed = first + plan.count;
-    let warning = warning_of(b.news, plan.warning);
-    write_own(rows, first * ROW_WORDS, state, row, b, plan);
-    push_store(store, row, b);
-    push_state(state, row, b);
-    done_reply(needed as u64, warning, plan.wanted, plan.held)
 }
 
 // Pushes a block that has passed every check but that of room.

@@ -1,19 +1,14 @@
 // What the row text program says to what a call answered: its rows, and its warning or its refusal, behind what waits.
-use call_reply::Reply;
 use csv_figures::Placed;
 use csv_out::BAD_TEXT;
 use csv_out::Run;
 use csv_out::refuse;
-use layout::R_LINE;
-ghost use mathlib.Core.Path.{_≡_};
 ghost use Prim.Native.Nat.{_+_, _≤_};
 ghost use lib.ListN.{length};
-ghost use Rattle.layout.specs.Layout.{rowWords};
-ghost use Rattle.row_cells.specs.Row.{lineOf};
 ghost use Rattle.csv_out.specs.Say.{noticeRoom};
 ghost use Rattle.csv_out.specs.Said.{Noted, Said};
 ghost use Rattle.csv_answer.specs.Answer.{warningText, answer};
-ghost use Rattle.csv_answer.specs.Answers.{AnswerFits, Answers};
+ghost use Rattle.csv_answer.specs.Answers.{AnswerFits};
 
 // A call's warning, where it has one.
 fn warned(run: Run, err: &mut [u8], warning: u64) -> Run
@@ -23,7 +18,7 @@ fn warned(run: Run, err: &mut [u8], warning: u64) -> Run
     if warning == 0 {
         return run;
     }
-    let n = csv_line::put_notice(err, run.err, run.source, warning, false);
+    let n = csv_notice::put_notice(err, run.err, run.source, warning, false);
     Run {
         out: run.out,
         err: n,
@@ -35,7 +30,7 @@ fn warned(run: Run, err: &mut [u8], warning: u64) -> Run
 
 // What a call answered: its rows, and its warning or its refusal. A refused call writes no row, and neither does one
 // with a number that has no text.
-fn answered(
+pub fn answered(
     run: Run,
     code: u64,
     count: u64,
@@ -52,7 +47,7 @@ fn answered(
     if code != 0 {
         return refuse(run, err, run.source, code);
     }
-    let Placed::Upto(n) = csv_write::write_rows(rows, count as usize, out, run.out) else {
+    let Placed::Upto(n) = csv_rows::write_rows(rows, count as usize, out, run.out) else {
         return refuse(run, err, run.source, BAD_TEXT);
     };
     warned(
@@ -66,35 +61,4 @@ fn answered(
         err,
         warning,
     )
-}
-
-// The source line of a row.
-pub fn source_of(row: &[u64]) -> u64
-    requires { ⌜ length (now row) ≡ rowWords ⌝ }
-    ensures { λ r. ⌜ r ≡ lineOf (now (row .entry)) ⌝ }
-{
-    row[R_LINE]
-}
-
-// What a call answered at a source line is said, and that line is then the last block's.
-pub fn call_answered(
-    run: Run,
-    source: u64,
-    reply: Reply,
-    rows: &[u64],
-    out: &mut [u8],
-    err: &mut [u8],
-) -> Run
-    requires { ⌜ AnswerFits (reply .code) (reply .count) (length (now rows)) (length (now out)) (length (now err)) run ⌝ }
-    ensures { λ r.
-        ⌜ Answers source reply (now (rows .entry)) run (now (out .entry)) (now (err .entry)) r (now (out .exit)) (now (err .exit)) ⌝ }
-{
-    let read = Run {
-        out: run.out,
-        err: run.err,
-        physical: run.physical,
-        source,
-        refused: run.refused,
-    };
-    answered(read, reply.code, reply.count, reply.warning, rows, out, err)
 }

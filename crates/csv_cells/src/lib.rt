@@ -1,7 +1,7 @@
 // The cells of a line in: the fields behind its words, each into its word of a row.
+use csv_columns::COLUMNS;
+use csv_columns::code_at;
 use csv_fields::Number;
-use csv_line::COLUMNS;
-use csv_line::code_at;
 use layout::R_CELLS;
 use layout::R_PRESENT;
 ghost use mathlib.Core.Path.{_≡_};
@@ -58,7 +58,7 @@ fn read_cell(field: &[u8]) -> Cell
             word: 0,
         };
     }
-    match csv_fields::read_number(field) {
+    match csv_values::read_number(field) {
         Number::Value(x) => Cell {
             ok: true,
             bit: 1,

@@ -1,11 +1,10 @@
-// The numbers of the row text: a size in millionths, nearest with ties to even, and a whole number
-// over a power of ten.
+// A size in millionths, the nearest with ties to even: what the row text writes of a number.
 ghost use mathlib.Core.Path.{_≡_};
-ghost use Prim.Native.Nat.{_+_, _*_, _/_, _%_, _^_, _≤_, _<_};
+ghost use Prim.Native.Nat.{_+_, _*_, _^_, _≤_, _<_};
 ghost use lib.Ieee as Ieee;
 ghost use lib.Ieee.{binary64};
 ghost use lib.Ieee.Nearest.{closest};
-ghost use Rattle.csv_decimal.specs.Decimal.{millionths, quotient, width};
+ghost use Rattle.csv_decimal.specs.Decimal.{millionths};
 ghost use Rattle.csv_decimal.specs.Sticky.{Sticky};
 
 // 10^9 in millionths: what is not below it is not written.
@@ -74,86 +73,4 @@ pub fn in_millionths(x: f64) -> u64
     ensures { λ r. ⌜ r ≡ millionths x ⌝ }
 {
     size_of_bits(floats::bits(x))
-}
-
-// 10^k, for a k below 10.
-fn power(k: usize) -> u64
-    requires { ⌜ k < 10 ⌝ }
-    ensures { λ r. ⌜ r ≡ 10 ^ k ⌝ }
-{
-    match k {
-        0 => 1,
-        1 => 10,
-        2 => 100,
-        3 => 1000,
-        4 => 10000,
-        5 => 100000,
-        6 => 1000000,
-        7 => 10000000,
-        8 => 100000000,
-        _ => 1000000000,
-    }
-}
-
-// A byte as a number.
-pub fn wide(x: u8) -> u64
-    ensures { λ r. ⌜ r ≡ x ⌝ }
-{
-    x as u64
-}
-
-// The last digit of v, as a byte.
-pub fn last_figure(v: u64) -> u8
-    ensures { λ r. ⌜ r ≡ 48 + v % 10 ⌝ }
-{
-    (48 + v % 10) as u8
-}
-
-// How many digits n has.
-pub fn digits(n: u64) -> usize
-    ensures { λ r. ⌜ r ≡ width n ⌝ }
-{
-    if n < 10 {
-        return 1;
-    }
-    if n < 100 {
-        return 2;
-    }
-    if n < 1000 {
-        return 3;
-    }
-    if n < 10000 {
-        return 4;
-    }
-    if n < 100000 {
-        return 5;
-    }
-    if n < 1000000 {
-        return 6;
-    }
-    if n < 10000000 {
-        return 7;
-    }
-    if n < 100000000 {
-        return 8;
-    }
-    if n < 1000000000 {
-        return 9;
-    }
-    10
-}
-
-// n / 10^k, with a minus sign if it is not zero.
-pub fn over_power(minus: bool, n: u64, k: usize) -> f64
-    requires { ⌜ k < 10 ⌝ }
-    ensures { λ r. ⌜ r ≡ quotient minus n k ⌝ }
-{
-    let q = std::num::nearest_u64_to_f64(n) / std::num::nearest_u64_to_f64(power(k));
-    if minus {
-        if n > 0 {
-            return -q;
-        }
-        return q;
-    }
-    q
 }

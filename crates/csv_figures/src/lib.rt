@@ -29,7 +29,7 @@ fn put_figures(out: &mut [u8], n: usize, k: usize, v: u64) -> usize
     let mut j = k;
     while j > 0 {
         j -= 1;
-        out[n + j] = csv_decimal::last_figure(rest);
+        out[n + j] = csv_digits::last_figure(rest);
         rest = rest / 10;
     }
     n + k
@@ -40,11 +40,11 @@ pub fn put_whole(out: &mut [u8], n: usize, v: u64) -> usize
     requires { ⌜ n + 10 ≤ length (now out) ⌝ }
     ensures { λ r. ⌜ Wrote (now (out .entry)) n (wholeText v) (now (out .exit)) r ⌝ }
 {
-    put_figures(out, n, csv_decimal::digits(v), v)
+    put_figures(out, n, csv_digits::digits(v), v)
 }
 
-// Stores v millionths from n on.
-fn put_millionths(out: &mut [u8], n: usize, v: u64) -> usize
+// Stores v millionths from n on, with six decimals.
+pub fn put_millionths(out: &mut [u8], n: usize, v: u64) -> usize
     requires { ⌜ (n + 16 ≤ length (now out)) × (v < 1000000000000000) ⌝ }
     ensures { λ r. ⌜ Wrote (now (out .entry)) n (millionthsText v) (now (out .exit)) r ⌝ }
 {

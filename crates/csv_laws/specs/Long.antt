@@ -23,7 +23,7 @@ use Rattle.csv_read.specs.Reader.{readRow}
 use Rattle.csv_forms.specs.Forms.{CellForm, absent, present, FieldsForm}
 use Rattle.csv_forms.specs.RowForms.{accepted-has-form}
 use Rattle.csv_out.specs.Say.{refusal, heading}
-use Rattle.text_lines.specs.Cut.{lf, cut, restFrom}
+use Rattle.text_cut.specs.Cut.{lf, cut, restFrom}
 use Rattle.csv_spec.specs.Line.{Stand, Step, unread, onText, onEnd, counted, csvLine}
 use Rattle.csv_spec.specs.LineLaws.{end-at, end-left}
 use Rattle.csv_spec.specs.Csv.{andThen, csvRest, begun, Whole, csvSpec}

@@ -6,7 +6,7 @@ use lib.Dec.{T}
 use lib.ListN.{length}
 use Rattle.csv_line.specs.LineText.{crlf, headerOut, parted, joined}
 use Rattle.csv_forms.specs.Clean.{cleanAll}
-use Rattle.text_lines.specs.Cut.{linesFrom}
+use Rattle.text_cut.specs.Cut.{linesFrom}
 use Rattle.csv_spec.specs.Line.{Step}
 use Rattle.csv_spec.specs.Csv.{csvLines, begun}
 

@@ -21,7 +21,7 @@ use Rattle.csv_write.specs.Texts.{flatten-more}
 use Rattle.csv_forms.specs.RoundTrip.{written-is-clean}
 use Rattle.csv_out.specs.Say.{Say, badText, lastLine, nextLine, refusal, heading}
 use Rattle.csv_answer.specs.Answer.{answer}
-use Rattle.text_lines.specs.Cut.{linesFrom, restFrom}
+use Rattle.text_cut.specs.Cut.{linesFrom, restFrom}
 use Rattle.csv_out.specs.SayLaws.{heading-good, heading-bad}
 use Rattle.csv_spec.specs.Line.{Stand, Step, spoken, unread, onRow, onRead, onText, onEnd, csvLine, csvClose, csvEnd}
 use Rattle.csv_spec.specs.Csv.{andThen, still, csvLines, csvFinish, csvRest, begun, csvSpec}

@@ -4,8 +4,8 @@ use mathlib.Core.Path.{_≡_, refl, sym, ap, _∙_}
 use mathlib.Core.Bool.{Bool, true, false, cond}
 use mathlib.Core.List.{List, [], _∷_, _++_, append-nil}
 use lib.ListN.{length}
-use Rattle.text_lines.specs.Cut.{cut, linesFrom, restFrom}
-use Rattle.text_lines.specs.CutLaws.{lines-pieces, rest-pieces}
+use Rattle.text_cut.specs.Cut.{cut, linesFrom, restFrom}
+use Rattle.text_cut.specs.CutLaws.{lines-pieces, rest-pieces}
 use Rattle.csv_spec.specs.Line.{Stand, Step, csvLine}
 use Rattle.csv_spec.specs.Csv.{andThen, still, csvLines, csvFinish, csvRest, begun, Whole, csvSpec, Begins}
 use Rattle.csv_spec.specs.CsvLaws.{then-assoc, then-still, finish-then, refused-lines, rest-whole, rest-refused}

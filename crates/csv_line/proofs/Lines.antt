@@ -10,16 +10,11 @@ use lib.ListN.{length, take, drop, getD, set, length-set}
 use lib.Seq.{sets, take-suc, take-length, drop-cons, drop-length, length-take-le}
 use borrow.Author.Tests.{lt-ltb, le-ltb, eq-eqb, ne-eqb}
 use Rattle.csv_figures.specs.Out.{Wrote}
-use Rattle.csv_figures.specs.OutLaws.{sets-append, wrote-then}
-use Rattle.csv_figures.specs.Write.{wholeText}
-use Rattle.csv_decimal.specs.Widths.{width-ten}
-use Rattle.csv_figures.specs.Writers.{whole-length}
-use Rattle.csv_words.specs.Text.{bytes}
+use Rattle.csv_figures.specs.OutLaws.{sets-append}
 use Rattle.csv_words.specs.Words.{same}
 use Rattle.csv_line.specs.declared.End.{End}
 use Rattle.csv_line.specs.declared.End.the-variants as End
-use Rattle.csv_line.specs.LineText.{comma, crlf, endOf}
-use Rattle.csv_line.specs.Notice.{noticeText}
+use Rattle.csv_line.specs.LineText.{endOf}
 
 -- ---- `text_end`
 module _ (s : List ℕ) where
@@ -112,17 +107,3 @@ pub stored-all : {s o o′ : List ℕ} {n i : ℕ} → Storing s o n i o′ → 
 stored-all {s} {o} {o′} {n} {i} c h =
     let e : i ≡ length s = omega (arith, c .within) in
     record { next = ap (λ (k : ℕ). n + k) e; text = c .text ∙ ap (λ (k : ℕ). sets o n (take k s)) e ∙ ap (sets o n) (take-length s) }
-
--- ---- a line of standard error
-module _ {o o₁ o₂ o₃ : List ℕ} {n a b c : ℕ} (line number : ℕ) (u : Wrote o n (wholeText line) o₁ a) (v : Wrote o₁ a (comma ∷ []) o₂ b)
-    (w : Wrote o₂ b (wholeText number) o₃ c) where
-  pub warned : {o′ : List ℕ} {r : ℕ} → Wrote o₃ c crlf o′ r → Wrote o n (noticeText line number false) o′ r
-  unfolding noticeText
-  warned z = wrote-then u (wrote-then (wrote-then v w) z)
-
-  pub refused : {o₄ o′ : List ℕ} {d r : ℕ} → Wrote o₃ c (bytes ",refused") o₄ d → Wrote o₄ d crlf o′ r → Wrote o n (noticeText line number true) o′ r
-  unfolding noticeText
-  refused y z = wrote-then u (wrote-then (wrote-then v w) (wrote-then y z))
-
-pub whole-short : {o o′ : List ℕ} {n r : ℕ} (v : ℕ) → Wrote o n (wholeText v) o′ r → (r ≤ n + 10) × (length o′ ≡ length o)
-whole-short {o} {o′} {n} {r} v w = (omega (arith, w .next, whole-length v, width-ten v), Rattle.csv_figures.specs.OutLaws.wrote-length w)

@@ -1,21 +1,12 @@
-// Lines: their ends, the headers, the columns, and the lines of standard error.
+// Lines: their ends and the headers.
+use csv_figures::put_byte;
 ghost use mathlib.Core.Path.{_≡_};
 ghost use mathlib.Core.List.{_++_};
-ghost use Prim.Native.Nat.{_+_, _≤_, _<_};
+ghost use Prim.Native.Nat.{_+_, _≤_};
 ghost use lib.ListN.{length};
-ghost use Rattle.layout.specs.Layout.{cells};
 ghost use Rattle.csv_words.specs.Words.{same};
 ghost use Rattle.csv_figures.specs.Out.{Wrote};
-ghost use Rattle.csv_line.specs.LineText.{crlf, header, headerOut, endOf, columnCount, codeAt};
-ghost use Rattle.csv_line.specs.Notice.{noticeText};
-use csv_figures::put_byte;
-
-// The columns of cells, behind the line number and the two words; and those before I, and before F.
-pub const COLUMNS: usize = 11;
-
-pub const I_COLUMN: usize = 3;
-
-pub const F_COLUMN: usize = 10;
+ghost use Rattle.csv_line.specs.LineText.{crlf, header, headerOut, endOf};
 
 // Where the text of a line ends and its CRLF begins.
 pub enum End {
@@ -65,6 +56,16 @@ pub fn is_header(text: &[u8]) -> bool
     )
 }
 
+// Whether the text of a line is the second header.
+pub fn is_header_out(text: &[u8]) -> bool
+    ensures { λ r. ⌜ r ≡ same headerOut (now (text .entry)) ⌝ }
+{
+    is_same(
+        b"line_no,gg01_motion,gg06_plane_select,X,Y,Z,I,J,K,CR,TURN,PW,SD,F,flattened",
+        text,
+    )
+}
+
 pub fn put_bytes(out: &mut [u8], n: usize, s: &[u8]) -> usize
     requires { ⌜ n + length (now s) ≤ length (now out) ⌝ }
     ensures { λ r. ⌜ Wrote (now (out .entry)) n (now (s .entry)) (now (out .exit)) r ⌝ }
@@ -96,32 +97,4 @@ pub fn put_header(out: &mut [u8], n: usize) -> usize
         b"line_no,gg01_motion,gg06_plane_select,X,Y,Z,I,J,K,CR,TURN,PW,SD,F,flattened",
     );
     put_crlf(out, a)
-}
-
-// The codes of the cells by columns, five bits each: F, SD PW TURN CR K J I, Z Y X. A number from which one is shifted out, and
-// not a table or tests of the column, since it is asked for each cell that is read or written.
-const CODES: u64 = 0x2e_b49c_a307_8820;
-
-// The code of the cell in column i: X Y Z, I J K CR TURN PW SD, F.
-pub fn code_at(i: usize) -> usize
-    requires { ⌜ i < columnCount ⌝ }
-    ensures { λ r. ⌜ (r ≡ codeAt i) × (r < cells) ⌝ }
-{
-    let d = 5 * i;
-    ((CODES >> d) % 32) as usize
-}
-
-// A line of standard error: a warning, or a refusal.
-pub fn put_notice(out: &mut [u8], n: usize, line: u64, number: u64, refused: bool) -> usize
-    requires { ⌜ n + 32 ≤ length (now out) ⌝ }
-    ensures { λ r. ⌜ Wrote (now (out .entry)) n (noticeText line number refused) (now (out .exit)) r ⌝ }
-{
-    let a = csv_figures::put_whole(out, n, line);
-    let b = put_byte(out, a, b',');
-    let c = csv_figures::put_whole(out, b, number);
-    if refused {
-        let d = put_bytes(out, c, b",refused");
-        return put_crlf(out, d);
-    }
-    put_crlf(out, c)
 }

@@ -1,10 +1,11 @@
 // What the row text program says to a header and to text that it cannot read: bytes that are added to what waits for
 // standard output, and bytes that are added to what waits for standard error. Nothing is written to a descriptor here.
+ghost use mathlib.Core.Path.{_≡_};
 ghost use mathlib.Core.Bool.{true};
 ghost use Prim.Native.Nat.{_+_, _≤_};
 ghost use lib.ListN.{length};
 ghost use Rattle.csv_line.specs.Notice.{noticeText};
-ghost use Rattle.csv_out.specs.Say.{noticeRoom, headerRoom, heading};
+ghost use Rattle.csv_out.specs.Say.{noticeRoom, headerRoom, heading, nextLine};
 ghost use Rattle.csv_out.specs.Said.{Noted, Said, NextIs};
 
 // How long the lines of standard error and those of rows never are longer than, and how many rows a call is lent room for.
@@ -20,7 +21,7 @@ pub const CALL_ROOM: usize = ROW_ROOM * LENT_ROWS;
 pub const BAD_TEXT: u64 = 10;
 
 // Physical lines are counted up to this one.
-const LAST_LINE: u64 = 9999999999;
+pub const LAST_LINE: u64 = 9999999999;
 
 // What the lines so far have left: `out` and `err` bytes wait to be written; `physical` is the number of the line read
 // next, and `source` the source line of the last block.
@@ -37,7 +38,7 @@ pub fn refuse(run: Run, err: &mut [u8], line: u64, number: u64) -> Run
     requires { ⌜ run .err + noticeRoom ≤ length (now err) ⌝ }
     ensures { λ r. ⌜ Noted true (noticeText line number true) run (now (err .entry)) r (now (err .exit)) ⌝ }
 {
-    let n = csv_line::put_notice(err, run.err, line, number, true);
+    let n = csv_notice::put_notice(err, run.err, line, number, true);
     Run {
         out: run.out,
         err: n,
@@ -67,18 +68,24 @@ pub fn headed(run: Run, text: &[u8], out: &mut [u8], err: &mut [u8]) -> Run
     refuse(run, err, run.physical, BAD_TEXT)
 }
 
-// The next line: one more, up to the last that is counted.
+// The number of the next line: one more, up to the last that is counted.
+pub fn next_number(physical: u64) -> u64
+    ensures { λ r. ⌜ r ≡ nextLine physical ⌝ }
+{
+    if physical < LAST_LINE {
+        return physical + 1;
+    }
+    physical
+}
+
+// The next line.
 pub fn next_line(run: Run) -> Run
     ensures { λ r. ⌜ NextIs run r ⌝ }
 {
-    let mut physical = run.physical;
-    if physical < LAST_LINE {
-        physical += 1;
-    }
     Run {
         out: run.out,
         err: run.err,
-        physical,
+        physical: next_number(run.physical),
         source: run.source,
         refused: run.refused,
     }

@@ -3,7 +3,7 @@ use Prim.Native.Nat.{ℕ}
 use mathlib.Core.Bool.{Bool, false, cond}
 use mathlib.Core.List.{List}
 use Rattle.text_lines.specs.declared.Turn.{Turn}
-use Rattle.text_lines.specs.Cut.{between}
+use Rattle.text_cut.specs.Cut.{between}
 use Rattle.csv_out.specs.declared.Run.{Run}
 use Rattle.csv_status.specs.Status.{goesOn, ended}
 use Rattle.csv_reading.specs.declared.Reading.{Reading}

@@ -5,7 +5,7 @@ use mathlib.Core.List.{List}
 use Rattle.text_lines.specs.declared.Found.{Found}
 use Rattle.text_lines.specs.declared.Found.the-variants as Found
 use Rattle.text_lines.specs.declared.Turn.{Turn}
-use Rattle.text_lines.specs.Cut.{between}
+use Rattle.text_cut.specs.Cut.{between}
 use Rattle.csv_out.specs.declared.Run.{Run}
 use Rattle.csv_status.specs.Status.{goesOn, ended}
 use Rattle.csv_spec.specs.Line.{csvLine, csvEnd}

@@ -6,7 +6,7 @@ use mathlib.Core.Bool.{Bool, true, false}
 use mathlib.Core.List.{List, [], _++_, append-nil, append-assoc}
 use native.Mathlib.Omega.{arith}
 use lib.ListN.{length, take}
-use Rattle.text_lines.specs.Cut.{cut}
+use Rattle.text_cut.specs.Cut.{cut}
 use Rattle.csv_status.specs.Status.{goesOn, ended}
 use Rattle.csv_spec.specs.Line.{Stand, Step, csvLine}
 use Rattle.csv_spec.specs.Csv.{andThen, still, csvRest, begun, Whole, csvSpec, Begins}

@@ -9,8 +9,8 @@ use lib.ListN.{length, take, drop, take-append-drop}
 use Rattle.text_lines.specs.declared.Found.{Found}
 use Rattle.text_lines.specs.declared.Found.the-variants as Found
 use Rattle.text_lines.specs.declared.Turn.{Turn}
-use Rattle.text_lines.specs.Cut.{cut, between}
-use Rattle.text_lines.specs.CutLaws.{first-whole}
+use Rattle.text_cut.specs.Cut.{cut, between}
+use Rattle.text_cut.specs.CutLaws.{first-whole}
 use Rattle.text_lines.specs.Turns.{NoLine, Told, Turned}
 use Rattle.text_lines.specs.TurnLaws.{between-length}
 use Rattle.csv_out.specs.declared.Run.{Run}

@@ -5,7 +5,7 @@ use mathlib.Core.Path.{_≡_}
 use mathlib.Core.Bool.{false}
 use mathlib.Core.List.{List, [], _++_}
 use lib.ListN.{length, take}
-use Rattle.text_lines.specs.Cut.{cut}
+use Rattle.text_cut.specs.Cut.{cut}
 use Rattle.csv_io.specs.Flush.{outRoom, errRoom}
 use Rattle.csv_status.specs.Status.{goesOn, ended}
 use Rattle.csv_spec.specs.Line.{Step, csvLine, csvEnd}

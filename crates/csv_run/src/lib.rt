@@ -2,8 +2,6 @@
 // after turn, and then what still waits is written. Memory is of a fixed size.
 use call_close::close;
 use call_push::push;
-use csv_answer::call_answered;
-use csv_answer::source_of;
 use csv_ending::Ending;
 use csv_ending::last;
 use csv_io::ERR_ROOM;
@@ -24,6 +22,8 @@ use csv_reading::first;
 use csv_reading::going;
 use csv_reading::left_of;
 use csv_reading::reads_on;
+use csv_replied::call_answered;
+use csv_replied::source_of;
 use csv_status::GOES_ON;
 use csv_status::may_end;
 use csv_status::turns_left;

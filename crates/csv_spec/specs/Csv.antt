@@ -7,7 +7,7 @@ use lib.ListN.{length, replicate}
 use Rattle.layout.specs.Layout.{rowWords, stateWords, mostHeld}
 use Rattle.call_start.specs.Start.{startSpec}
 use Rattle.csv_start.specs.Given.{tolerance, axes}
-use Rattle.text_lines.specs.Cut.{linesFrom, restFrom}
+use Rattle.text_cut.specs.Cut.{linesFrom, restFrom}
 use Rattle.csv_out.specs.Say.{lentRows}
 use Rattle.csv_spec.specs.Line.{Stand, Step, csvLine, csvEnd}
 

@@ -6,8 +6,8 @@ use mathlib.Core.List.{List, [], _∷_, _++_, append-assoc, append-nil}
 use native.Mathlib.Omega.{arith}
 use lib.ListN.{length, take, drop}
 use lib.Seq.{take-length, drop-length}
-use Rattle.text_lines.specs.Cut.{cut, linesFrom, restFrom}
-use Rattle.text_lines.specs.CutLaws.{lines-pieces, rest-pieces, first-line, first-rest, no-line}
+use Rattle.text_cut.specs.Cut.{cut, linesFrom, restFrom}
+use Rattle.text_cut.specs.CutLaws.{lines-pieces, rest-pieces, first-line, first-rest, no-line}
 use Rattle.csv_spec.specs.Line.{Stand, Step, csvLine, csvEnd}
 use Rattle.csv_spec.specs.Csv.{andThen, still, csvLines, csvFinish, csvRest}
 
@@ -33,20 +33,20 @@ finish-then d e n = go (e .stand .refused)
 
 -- ---- u has been read and not yet used, `later` is still to come, and the first line stands whole in u
 module _ (u later : List ℕ) (h : cut u ≤ length u) where
-  abbrev first : List ℕ
+  abbrev pub first : List ℕ
   first = take (cut u) u
 
-  abbrev behind : List ℕ
+  abbrev pub behind : List ℕ
   behind = drop (cut u) u ++ later
 
-  whole-first : linesFrom [] (u ++ later) ≡ first ∷ linesFrom [] behind
+  pub whole-first : linesFrom [] (u ++ later) ≡ first ∷ linesFrom [] behind
   whole-first =
       lines-pieces u later []
       ∙ ap (λ (l : List (List ℕ)). l ++ linesFrom (restFrom [] u) later) (first-line u [] h)
       ∙ ap (λ (p : List ℕ). first ∷ (linesFrom [] (drop (cut u) u) ++ linesFrom p later)) (first-rest u [] h)
       ∙ ap (λ (l : List (List ℕ)). first ∷ l) (sym (lines-pieces (drop (cut u) u) later []))
 
-  whole-rest : restFrom [] (u ++ later) ≡ restFrom [] behind
+  pub whole-rest : restFrom [] (u ++ later) ≡ restFrom [] behind
   whole-rest = rest-pieces u later [] ∙ ap (λ (p : List ℕ). restFrom p later) (first-rest u [] h) ∙ sym (rest-pieces (drop (cut u) u) later [])
 
   -- it is done, and the rest is as if the input began behind it

@@ -7,8 +7,8 @@ use lib.Dec.{eqb}
 use lib.ListN.{take}
 use Rattle.row_cells.specs.Row.{lineOf}
 use Rattle.call_reply.specs.Replies.{After}
-use Rattle.call_push.specs.Push.{pushSpec}
-use Rattle.call_close.specs.Close.{closeSpec}
+use Rattle.call_answer.specs.Push.{pushSpec}
+use Rattle.call_answer.specs.Close.{closeSpec}
 use Rattle.csv_line.specs.declared.End.{End}
 use Rattle.csv_line.specs.declared.End.the-variants as End
 use Rattle.csv_line.specs.LineText.{endOf}

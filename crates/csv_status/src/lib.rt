@@ -1,4 +1,4 @@
-// How a run of the row text program stands: whether it may end or goes on, its status, and one line for what failed.
+// How a run of a row text program stands: whether it may end or goes on, its status, and one line for what failed.
 use libc::STDERR_FILENO;
 ghost use mathlib.Core.Logic.{_⊎_};
 ghost use mathlib.Core.Path.{_≡_};
@@ -37,19 +37,27 @@ pub fn turns_left(turns: u64, over: u64) -> u64
     if over == GOES_ON { turns - 1 } else { 0 }
 }
 
-// One plain line that names what failed.
-pub fn tell(over: u64) -> bool {
+// What failed, in the words that stand behind the program's name.
+fn words_of(over: u64) -> bool {
     match over {
-        NO_INPUT => io::write_all(
-            STDERR_FILENO,
-            b"flatcsv: standard input could not be read\n",
-        ),
-        NO_OUTPUT => io::write_all(
-            STDERR_FILENO,
-            b"flatcsv: standard output could not be written\n",
-        ),
+        NO_INPUT => io::write_all(STDERR_FILENO, b": standard input could not be read\n"),
+        NO_OUTPUT => io::write_all(STDERR_FILENO, b": standard output could not be written\n"),
         _ => true,
     }
+}
+
+// One plain line by which the program of this name says what failed. Nothing is said where standard error did.
+pub fn tell(name: &[u8], over: u64) -> bool {
+    if over < NO_INPUT {
+        return true;
+    }
+    if over > NO_OUTPUT {
+        return true;
+    }
+    if io::write_all(STDERR_FILENO, name) {
+        return words_of(over);
+    }
+    false
 }
 
 // 0 done, 1 refused, 2 could not read or write, or did not come to the end.

@@ -52,7 +52,7 @@ fn packed(s: &[u8]) -> u64
     let mut n: u64 = 0;
     let mut i = 0;
     while i < s.len() {
-        n = n * 256 + csv_decimal::wide(s[i]);
+        n = n * 256 + csv_digits::wide(s[i]);
         i += 1;
     }
     n

@@ -36,8 +36,8 @@ use Rattle.curve_spans.specs.Stretches.{spanSamples, splineSamples}
 use Rattle.curve_spans.specs.Asks.{Spans}
 use Rattle.curve_segments.specs.Stretches.{fitRunAt}
 use Rattle.curve_segments.specs.Asks.{Segments}
-use Rattle.curve_runs.specs.declared.Drawing.{Drawing}
-use Rattle.curve_runs.specs.Runs.{drawnRuns, shapeOf}
+use Rattle.curve_drawing.specs.declared.Drawing.{Drawing}
+use Rattle.curve_drawing.specs.Runs.{drawnRuns, shapeOf}
 use Rattle.curve_runs.specs.Asks.{Ready}
 use Rattle.curve_runs.proofs.Owning.{ownFrom, count-owned, count-past}
 

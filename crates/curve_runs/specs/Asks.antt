@@ -15,7 +15,7 @@ use Rattle.curve_walk.specs.declared.Form.the-variants.{Basis, Fit}
 use Rattle.curve_walk.specs.declared.Kept.{Kept}
 use Rattle.curve_walk.specs.declared.Shape.{Shape}
 use Rattle.curve_walk.specs.Asks.{Recalls}
-use Rattle.curve_runs.specs.declared.Drawing.{Drawing}
+use Rattle.curve_drawing.specs.declared.Drawing.{Drawing}
 use Rattle.curve_runs.specs.Lefts.{curveLefts}
 
 -- the tables are in this form those of a drawing's points

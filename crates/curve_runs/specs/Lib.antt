@@ -1,4 +1,3 @@
-pub mod Runs
 pub mod Lefts
 pub mod Asks
 pub mod Draws

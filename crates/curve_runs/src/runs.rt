@@ -1,6 +1,6 @@
 // The runs of a spline: prepared, counted, written.
-use crate::Drawing;
 use crate::shape_of;
+use curve_drawing::Drawing;
 use curve_segments::count::count_segments;
 use curve_segments::write::write_segments;
 use curve_spans::count::count_spline;
@@ -18,7 +18,7 @@ ghost use Rattle.floats.specs.Lists.{filled, flatten, spliced};
 ghost use Rattle.layout.specs.Layout.{axisCodes, mostPoints};
 ghost use Rattle.curve_metric.specs.Below.{Below};
 ghost use Rattle.curve_walk.specs.Walks.{encode};
-ghost use Rattle.curve_runs.specs.Runs.{shapeOf, drawnRuns};
+ghost use Rattle.curve_drawing.specs.Runs.{shapeOf, drawnRuns};
 ghost use Rattle.curve_runs.specs.Asks.{Ready, Remembers};
 
 // Fills the tables of the points that the curve runs through or is drawn to.
@@ -39,7 +39,7 @@ pub fn prepare(
     let n = d.n;
     let ch = d.ch;
     if is_basis(kind) {
-        let degree = bspline_tables::prepare_basis(pts, ws, n, ch, d.degree, ks, cs);
+        let degree = bspline_prepare::prepare_basis(pts, ws, n, ch, d.degree, ks, cs);
         return Form::Basis(degree);
     }
     let cubic = is_cubic(kind);

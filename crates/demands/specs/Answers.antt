@@ -14,8 +14,8 @@ use Rattle.saved_state.specs.State.{stateOk, held, savedCheck}
 use Rattle.call_reply.specs.Replies.{plain, After, tooFew, untouched}
 use Rattle.call_seed.specs.Seed.{seeded, seedSpec}
 use Rattle.push_check.specs.Refusal.{pushCheck}
-use Rattle.call_push.specs.Push.{pushRows, pushDone, pushSpec}
-use Rattle.call_close.specs.Close.{closeRows, closeState, closeSpec}
+use Rattle.call_answer.specs.Push.{pushRows, pushDone, pushSpec}
+use Rattle.call_answer.specs.Close.{closeRows, closeState, closeSpec}
 use Rattle.demand_calls.specs.Judged.{Judged, accepted, counted, needs}
 use Rattle.demand_calls.specs.Places.{places}
 use Rattle.demand_state.specs.Refusals.{saved-number, push-number}

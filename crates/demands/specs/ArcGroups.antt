@@ -18,9 +18,9 @@ use Rattle.row_cells.specs.Codes.{planeU, planeV}
 use Rattle.row_cells.specs.Row.{cell, lineOf, markOf}
 use Rattle.row_made.specs.Made.{madeRow}
 use Rattle.floats.specs.Truth.{by-bit, cond-t, cond-f}
-use Rattle.arc_rows.specs.Arc.{Answer, passed, silent, Centre, centred, warned, Ends, Arc, wantedOf, countOf, lastCell, midCell, arcRow, arcRows, fromCentre}
-use Rattle.arc_rows.specs.Arc.{fromStart, arcAnswer}
-use Rattle.push_rows.specs.Answer.{answerAs}
+use Rattle.arc_answer.specs.Arc.{Answer, passed, silent, Centre, centred, warned, Ends, Arc, wantedOf, countOf, lastCell, midCell, arcRow, arcRows, fromCentre}
+use Rattle.arc_answer.specs.Arc.{fromStart, arcAnswer}
+use Rattle.call_answer.specs.Answer.{answerAs}
 use Rattle.demand_calls.specs.Laws.{none-some, cond-both}
 use Rattle.demand_groups.specs.Group.{Formed, Bare, Carries, Group}
 use Rattle.demand_groups.specs.InRange.{shown-bits}

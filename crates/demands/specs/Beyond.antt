@@ -14,8 +14,8 @@ use Rattle.saved_state.specs.State.{stateOk, held, savedCheck}
 use Rattle.call_reply.specs.Replies.{After}
 use Rattle.push_start.specs.OpenedLaws.{held-forgotten}
 use Rattle.push_check.specs.Refusal.{pushCheck}
-use Rattle.call_push.specs.Push.{pushRows, pushDone, pushSpec}
-use Rattle.call_close.specs.Close.{closeRows, closeState, closeSpec}
+use Rattle.call_answer.specs.Push.{pushRows, pushDone, pushSpec}
+use Rattle.call_answer.specs.Close.{closeRows, closeState, closeSpec}
 use Rattle.demand_calls.specs.Places.{places, Filled}
 use Rattle.demand_state.specs.Accepted.{Saved, saved}
 use Rattle.demands.specs.Answers.{closeDone, push-done, push-accepted, close-done, close-accepted}

@@ -17,9 +17,9 @@ use Rattle.call_reply.specs.Replies.{plain, AfterState, tooFew, untouched}
 use Rattle.call_start.specs.Start.{freshWord, fresh, startSpec}
 use Rattle.call_seed.specs.Seed.{seeded, seedSpec}
 use Rattle.push_check.specs.Refusal.{pushCheck}
-use Rattle.call_push.specs.Push.{pushRows, pushDone, pushSpec}
-use Rattle.spline_write.specs.Room.{fits}
-use Rattle.call_close.specs.Close.{closeRows, closeState, closeSpec}
+use Rattle.call_answer.specs.Push.{pushRows, pushDone, pushSpec}
+use Rattle.row_room.specs.Room.{fits}
+use Rattle.call_answer.specs.Close.{closeRows, closeState, closeSpec}
 use Rattle.demand_calls.specs.Laws.{cond-both}
 use Rattle.demand_calls.specs.PlaceLaws.{spliced-rows}
 use Rattle.demand_calls.specs.Safe.{Turned, Safe, SafeState}

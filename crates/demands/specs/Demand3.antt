@@ -11,7 +11,7 @@ use Rattle.row_cells.specs.Codes.{geometricOf}
 use Rattle.floats.specs.Truth.{by-bit}
 use Rattle.saved_state.specs.State.{tolOk, codesOk}
 use Rattle.call_start.specs.Start.{fresh, startSpec}
-use Rattle.call_close.specs.Close.{closeSpec}
+use Rattle.call_answer.specs.Close.{closeSpec}
 use Rattle.demand_calls.specs.Runs.{Event, seed, block, closed, blocksOf, wrote, run}
 use Rattle.demand_groups.specs.Written.{Piece, Written, groups}
 use Rattle.demand_state.specs.Fresh.{small-axes}
@@ -25,7 +25,7 @@ use Rattle.demands.specs.Sound.{sound-run}
 use Rattle.demands.specs.Steps.{words, run-groups}
 
 -- an accepted start
-started : (old : List ℕ) (tol : ℕ) (axes : List ℕ) → startSpec old tol axes .reply .code ≡ 0
+pub started : (old : List ℕ) (tol : ℕ) (axes : List ℕ) → startSpec old tol axes .reply .code ≡ 0
     → (codesOk axes ≡ true) × (startSpec old tol axes .state ≡ fresh tol axes)
 unfolding startSpec
 started old tol axes =

@@ -6,8 +6,8 @@ use Rattle.row_cells.specs.Codes.{geometricOf}
 use Rattle.call_reply.specs.Replies.{After}
 use Rattle.call_start.specs.Start.{startSpec}
 use Rattle.call_seed.specs.Seed.{seedSpec}
-use Rattle.call_push.specs.Push.{pushSpec}
-use Rattle.call_close.specs.Close.{closeSpec}
+use Rattle.call_answer.specs.Push.{pushSpec}
+use Rattle.call_answer.specs.Close.{closeSpec}
 use Rattle.demand_calls.specs.Runs.{blocksOf, Call, pushing, seeding, closing, wrote, run, Traceless}
 use Rattle.demand_calls.specs.Safe.{Safe, SafeState}
 use Rattle.demand_groups.specs.Written.{Written}

@@ -18,7 +18,7 @@ use Rattle.row_cells.specs.Row.{cell, presentOf, outRow}
 use Rattle.row_numbers.specs.RowNumbers.{within}
 use Rattle.floats.specs.Truth.{by-bit, and-left, cond-t, cond-f}
 use Rattle.row_check.specs.CheckLaws.{check-shape, out-check, check-cell-within}
-use Rattle.spline_emission.specs.Emission.{Spline, splineGroups, heldGroup, runsOf}
+use Rattle.spline_answer.specs.Words.{Spline, splineGroups, heldGroup, runsOf}
 use Rattle.demand_calls.specs.Every.{Every, nil, more}
 use Rattle.demand_calls.specs.Laws.{some-same, none-some, cond-both, every-append}
 use Rattle.demand_calls.specs.Runs.{Event}

@@ -4,8 +4,8 @@ use mathlib.Core.Path.{_≡_, refl}
 use mathlib.Core.Bool.{false}
 use mathlib.Core.List.{List}
 use borrow.Author.Tests.{eqb-false}
-use Rattle.call_push.specs.Push.{pushSpec}
-use Rattle.call_close.specs.Close.{closeSpec}
+use Rattle.call_answer.specs.Push.{pushSpec}
+use Rattle.call_answer.specs.Close.{closeSpec}
 use Rattle.demand_calls.specs.RunLaws.{traceless}
 use Rattle.demand_calls.specs.Runs.{Call, pushing, seeding, closing, accepts}
 use Rattle.demands.specs.Demand1.{demand1}

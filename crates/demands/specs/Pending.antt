@@ -15,8 +15,8 @@ use Rattle.motion.specs.Motion.{isSpline, kindOf}
 use Rattle.saved_state.specs.State.{plainDegree}
 use Rattle.row_cells.specs.Row.{outRow}
 use Rattle.floats.specs.Truth.{by-bit, cond-t, cond-f}
-use Rattle.spline_emission.specs.Emission.{Spline, splineGroups}
-use Rattle.push_rows.specs.Answer.{answerAs}
+use Rattle.spline_answer.specs.Words.{Spline, splineGroups}
+use Rattle.call_answer.specs.Answer.{answerAs}
 use Rattle.demand_calls.specs.Runs.{Event, seed, block, closed}
 use Rattle.demand_groups.specs.Written.{groups}
 use Rattle.demand_standing.specs.Standing.{Standing, motionWith, goesOn, withBlock, withSeed, withClose, degreeFrom, together}

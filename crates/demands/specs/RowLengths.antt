@@ -18,16 +18,16 @@ use Rattle.demand_calls.specs.Every.{Every, nil, more}
 use Rattle.demand_calls.specs.Laws.{cond-both, every-append, every-upto, every-flatten}
 use Rattle.demand_calls.specs.PlaceLaws.{Long}
 use Rattle.row_made.specs.Made.{madeRow}
-use Rattle.arc_rows.specs.Arc.{Answer, silent, passed, arcAnswer, fromStart, fromCentre, arcRows, arcRow, Centre, centred, warned, Ends, Arc}
-use Rattle.spline_emission.specs.Emission.{Spline, splineGroups, heldGroup, pointGroup}
+use Rattle.arc_answer.specs.Arc.{Answer, silent, passed, arcAnswer, fromStart, fromCentre, arcRows, arcRow, Centre, centred, warned, Ends, Arc}
+use Rattle.spline_answer.specs.Words.{Spline, splineGroups, heldGroup, pointGroup}
 use Rattle.saved_state.specs.State.{held}
-use Rattle.push_rows.specs.Answer.{answerAs, ownAnswer}
+use Rattle.call_answer.specs.Answer.{answerAs, ownAnswer}
 use Rattle.push_resolve.specs.Blocks.{emits}
-use Rattle.spline_put.specs.Held.{emission}
-use Rattle.call_push.specs.Push.{pushRows}
-use Rattle.call_close.specs.Close.{closeRows}
+use Rattle.spline_answer.specs.Held.{emission}
+use Rattle.call_answer.specs.Push.{pushRows}
+use Rattle.call_answer.specs.Close.{closeRows}
 
-out-long : (r : List ℕ) → Long (outRow r)
+pub out-long : (r : List ℕ) → Long (outRow r)
 out-long r = record { words = length-out r }
 
 made-long : (gs r : List ℕ) (first : Bool) (motion : ℕ) (marked : Bool) (f : ℕ → Option ℕ) → Long (madeRow gs r first motion marked f)
@@ -38,7 +38,7 @@ passed-long : (w : ℕ) (r : List ℕ) → Every Long (passed w r .rows)
 unfolding passed
 passed-long w r = more (out-long r) nil
 
-arcRow-long : (gs : List ℕ) (plane : ℕ) (pos : ℕ → Option ℕ) (r : List ℕ) (e : Ends) (c : Arc) (n k : ℕ) → Long (arcRow gs plane pos r e c n k)
+pub arcRow-long : (gs : List ℕ) (plane : ℕ) (pos : ℕ → Option ℕ) (r : List ℕ) (e : Ends) (c : Arc) (n k : ℕ) → Long (arcRow gs plane pos r e c n k)
 unfolding arcRow
 arcRow-long gs plane pos r e c n k = cond-both Long (eqb k n) (made-long gs r _ _ _ _) (made-long gs r _ _ _ _)
 
@@ -85,7 +85,7 @@ unfolding splineGroups
 spline-long s = every-flatten (every-upto _ _ (λ i l. held-long s _ i))
 
 -- ---- the rows of a push and of a close
-emission-long : (st store : List ℕ) → Every Long (emission st store)
+pub emission-long : (st store : List ℕ) → Every Long (emission st store)
 unfolding emission
 emission-long st store = spline-long _
 

@@ -15,17 +15,17 @@ use Rattle.row_cells.specs.Row as Row
 use Rattle.row_cells.specs.Bits as Bits
 use Rattle.row_numbers.specs.RowNumbers as RowNumbers
 use Rattle.row_check.specs.Check as Check
-use Rattle.arc_rows.specs.Arc.{passed}
+use Rattle.arc_answer.specs.Arc.{passed}
 use Rattle.saved_state.specs.State as State
 use Rattle.call_start.specs.Start as Start
 use Rattle.call_reply.specs.Replies.{After}
 use Rattle.call_start.specs.Start.{fresh}
-use Rattle.call_push.specs.Push as Push
+use Rattle.call_answer.specs.Push as Push
 use Rattle.push_resolve.specs.Blocks as Blocks
 use Rattle.push_check.specs.Refusal as Refusal
 use Rattle.push_state.specs.Pushed as Pushed
-use Rattle.push_rows.specs.Answer as Own
-use Rattle.call_push.specs.Push.{pushRows, pushSpec}
+use Rattle.call_answer.specs.Answer as Own
+use Rattle.call_answer.specs.Push.{pushRows, pushSpec}
 
 -- a program's push
 abbrev pub Program : Type 0

@@ -32,9 +32,9 @@ use Rattle.bspline_tables.specs.Basis.{basisRuns, basisOf, spansOf, evalBasis}
 use Rattle.bspline_tables.specs.BasisLaws.{runs-length}
 use Rattle.bspline_tables.specs.LastRun.{last-run}
 use Rattle.bspline_tables.specs.EndPoint.{end-point}
-use Rattle.curve_runs.specs.Runs.{curveRuns}
-use Rattle.spline_emission.specs.Emission.{Spline, isBspline, pointRows, channels, startPoint, pointsFrom, metricOf, weightOf, runsOf, placeOf, sampleCell}
-use Rattle.spline_emission.specs.Emission.{ownCell, isMarked, pointGroup, heldGroup}
+use Rattle.curve_drawing.specs.Runs.{curveRuns}
+use Rattle.spline_answer.specs.Words.{Spline, isBspline, pointRows, channels, startPoint, pointsFrom, metricOf, weightOf, runsOf, placeOf, sampleCell}
+use Rattle.spline_answer.specs.Words.{ownCell, isMarked, pointGroup, heldGroup}
 use Rattle.demand_calls.specs.Every.{Every}
 use Rattle.demand_calls.specs.Laws.{some-same, none-some, every-head, every-tail, every-keep}
 use Rattle.demand_groups.specs.Group.{Bare, Group}

@@ -22,7 +22,7 @@ use Rattle.floats.specs.Truth.{by-bit, and-right, or-f, cond-t, cond-f}
 use Rattle.row_cells.specs.Masks.{member-append, member-keep}
 use Rattle.row_check.specs.CheckLaws.{check-cell-within}
 use Rattle.curve_metric.specs.Metric.{pointOf}
-use Rattle.spline_emission.specs.Emission.{channelsFrom, firstCell, nextPoint, pointsFrom, weightOf}
+use Rattle.spline_answer.specs.Words.{channelsFrom, firstCell, nextPoint, pointsFrom, weightOf}
 use Rattle.demand_calls.specs.Every.{Every}
 use Rattle.demand_calls.specs.Laws.{every-head, every-tail}
 use Rattle.demand_groups.specs.InRange.{in-range}

@@ -21,7 +21,7 @@ use Rattle.curve_metric.specs.Walk.{Sample}
 use Rattle.curve_metric.specs.Ends.{EndsWith, ends-one, ends-map}
 use Rattle.curve_metric.specs.WalkLaws.{samples-end}
 use Rattle.fit_knots.specs.Fit.{Fit, keptTo, evalFit, fitRun, fitRuns}
-use Rattle.spline_emission.specs.Emission.{placeOf, nextPoint, pointsFrom}
+use Rattle.spline_answer.specs.Words.{placeOf, nextPoint, pointsFrom}
 
 -- ---- a fit
 run-ends : (fit : Fit) (ms : List ℕ) (tol : Float) (pts : List (List Float)) (ts : List Float) (i : ℕ)

@@ -20,8 +20,8 @@ use Rattle.call_reply.specs.Replies.{After, AfterState, plain}
 use Rattle.call_start.specs.Start.{fresh}
 use Rattle.call_seed.specs.Seed.{seeded, seedSpec}
 use Rattle.push_check.specs.Refusal.{pushCheck}
-use Rattle.call_push.specs.Push.{pushRows, pushDone}
-use Rattle.call_close.specs.Close.{closeRows, closeSpec}
+use Rattle.call_answer.specs.Push.{pushRows, pushDone}
+use Rattle.call_answer.specs.Close.{closeRows, closeSpec}
 use Rattle.demand_calls.specs.RunLaws.{run-keeps}
 use Rattle.demand_state.specs.Begun.{fresh-saved, seeded-saved}
 

@@ -18,16 +18,16 @@ use Rattle.row_cells.specs.Row.{planeOf, outRow}
 use Rattle.row_numbers.specs.RowNumbers.{within}
 use Rattle.floats.specs.Truth.{by-bit, cond-t, cond-f}
 use Rattle.floats.specs.Joins.{flatten-append}
-use Rattle.spline_emission.specs.Emission.{Spline, splineGroups}
+use Rattle.spline_answer.specs.Words.{Spline, splineGroups}
 use Rattle.saved_state.specs.State.{stateOk, held, position, curveStart, tolerance, motionNow, degree, savedCheck}
-use Rattle.spline_put.specs.Held.{heldSpline, emission}
+use Rattle.spline_answer.specs.Held.{heldSpline, emission}
 use Rattle.call_reply.specs.Replies.{After, AfterState, plain}
 use Rattle.call_seed.specs.Seed.{seeded, seedSpec}
 use Rattle.push_resolve.specs.Blocks.{orNow, motionThen, emits}
 use Rattle.push_check.specs.Refusal.{pushCheck}
-use Rattle.push_rows.specs.Answer.{answerAs, ownAnswer}
-use Rattle.call_push.specs.Push.{pushRows, pushDone, pushSpec}
-use Rattle.call_close.specs.Close.{closeRows, closeState, closeSpec}
+use Rattle.call_answer.specs.Answer.{answerAs, ownAnswer}
+use Rattle.call_answer.specs.Push.{pushRows, pushDone, pushSpec}
+use Rattle.call_answer.specs.Close.{closeRows, closeState, closeSpec}
 use Rattle.demand_calls.specs.Places.{places}
 use Rattle.demand_calls.specs.Runs.{Event, seed, block, closed, Call, pushing, seeding, closing, accepts, wrote, eventOf, taken, Ran, run}
 use Rattle.demand_state.specs.Accepted.{Saved, saved, Pushed, pushed, few-axes, past-place, past-start, state-words}

@@ -9,24 +9,11 @@ use Rattle.floats.specs.Numbers.{_⊕_, _⊖_, _⊗_, _⊘_, f0, f2, f6}
 use Rattle.fit_slopes.specs.Slopes.{step, secant, sup, diag, rhs, bendBack, bend, bent}
 
 module _ (ts : List Float) where
-  pub sup-more : {i j : ℕ} {h : Float} → j ≡ suc i → h ≡ step ts j → h ≡ sup ts j
-  sup-more ej e = rw (e, ej)
-
-  pub diag-more : {i j : ℕ} {h g d u : Float} → j ≡ suc i → h ≡ step ts i → g ≡ step ts j → d ≡ diag ts i → u ≡ sup ts i
-      → f2 ⊗ (h ⊕ g) ⊖ h ⊘ d ⊗ u ≡ diag ts j
-  unfolding diag
-  diag-more ej eh eg ed eu = rw (eh, eg, ed, eu, ej)
-
   sup-pos : (j : ℕ) → 0 < j → sup ts j ≡ step ts j
   sup-pos zero h = absurd (omega arith)
   sup-pos (suc j) h = refl
 
 module _ (ts ys : List Float) where
-  pub rhs-more : {i j : ℕ} {h d s t r : Float} → j ≡ suc i → h ≡ step ts i → d ≡ diag ts i → s ≡ secant ts ys i → t ≡ secant ts ys j → r ≡ rhs ts ys i
-      → f6 ⊗ (t ⊖ s) ⊖ h ⊘ d ⊗ r ≡ rhs ts ys j
-  unfolding rhs
-  rhs-more ej eh ed es et er = rw (eh, ed, es, et, er, ej)
-
   -- from knot i back to the one before, j
   pub back-more : (m i j : ℕ) {h b r d : Float} → 0 < j → i ≡ j + 1 → i ≤ m → h ≡ step ts j → b ≡ bendBack ts ys m (m - i) → r ≡ rhs ts ys j → d ≡ diag ts j
       → (r ⊖ h ⊗ b) ⊘ d ≡ bendBack ts ys m (m - j)

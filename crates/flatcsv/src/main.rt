@@ -17,7 +17,7 @@ ghost use Rattle.csv_run.specs.Run.{Ran};
 fn told(end: Ending, out: &[u8; OUT_ROOM], err: &[u8; ERR_ROOM])
     requires { ⌜ Ran end (now out) (now err) ⌝ }
 {
-    tell(end.over);
+    tell(b"flatcsv", end.over);
     report(end.over, end.refused);
 }
 

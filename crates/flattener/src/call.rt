@@ -3,8 +3,8 @@ use call_close::close;
 use call_push::push;
 use call_reply::Reply;
 ghost use Rattle.call_reply.specs.Replies.{PushIs};
-ghost use Rattle.call_close.specs.Close.{closeSpec};
-ghost use Rattle.call_push.specs.Push.{pushSpec};
+ghost use Rattle.call_answer.specs.Close.{closeSpec};
+ghost use Rattle.call_answer.specs.Push.{pushSpec};
 
 // Pushes a block: its rows go to the front of `rows`.
 #[no_mangle]

@@ -5,7 +5,10 @@ use lib.Dec.{leb, eqb}
 use Rattle.motion.specs.declared.Kind.{Kind}
 use Rattle.motion.specs.declared.Kind.the-variants.{Same, Linear, Clockwise, Counter, Akima, Basis, Cubic, Other, Refused}
 
--- the word of a straight move at feed
+-- the word of a rapid move, and that of a straight move at feed
+abbrev pub gZero : ℕ
+gZero = 1
+
 abbrev pub gOne : ℕ
 gOne = 2
 
@@ -69,6 +72,18 @@ cubicKind Cubic = true
 cubicKind Other = false
 cubicKind Refused = false
 
+-- a block of this kind does not go straight: everything but no word, G0 and G1
+abbrev pub curveKind : Kind → Bool
+curveKind Same = false
+curveKind Linear = false
+curveKind Clockwise = true
+curveKind Counter = true
+curveKind Akima = true
+curveKind Basis = true
+curveKind Cubic = true
+curveKind Other = true
+curveKind Refused = true
+
 unfoldable pub isSpline : ℕ → Bool
 isSpline m = splineKind (kindOf m)
 
@@ -80,3 +95,9 @@ isBasis m = basisKind (kindOf m)
 
 unfoldable pub isCubic : ℕ → Bool
 isCubic m = cubicKind (kindOf m)
+
+unfoldable pub isCurve : ℕ → Bool
+isCurve m = curveKind (kindOf m)
+
+abbrev pub isRapid : ℕ → Bool
+isRapid m = eqb m gZero

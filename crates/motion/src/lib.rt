@@ -1,8 +1,10 @@
 // What a motion word says: the one place that judges its number.
 ghost use mathlib.Core.Path.{_≡_};
-ghost use Rattle.motion.specs.Motion.{kindOf, splineKind, otherKind, basisKind, cubicKind};
+ghost use Rattle.motion.specs.Motion.{kindOf, splineKind, otherKind, basisKind, cubicKind, curveKind, isRapid};
 
-// The word of a straight move at feed.
+// The word of a straight move as fast as the machine goes, and that of one at feed.
+const G0: u64 = 1;
+
 pub const G1: u64 = 2;
 
 pub const LAST_MOTION: u64 = 31;
@@ -99,4 +101,28 @@ pub fn is_cubic(kind: Kind) -> bool
         Kind::Other => false,
         Kind::Refused => false,
     }
+}
+
+// Whether a block of this kind does not go straight.
+pub fn is_curve(kind: Kind) -> bool
+    ensures { λ r. ⌜ r ≡ curveKind kind ⌝ }
+{
+    match kind {
+        Kind::Same => false,
+        Kind::Linear => false,
+        Kind::Clockwise => true,
+        Kind::Counter => true,
+        Kind::Akima => true,
+        Kind::Basis => true,
+        Kind::Cubic => true,
+        Kind::Other => true,
+        Kind::Refused => true,
+    }
+}
+
+// Whether the word is a rapid move's.
+pub fn is_rapid(motion: u64) -> bool
+    ensures { λ r. ⌜ r ≡ isRapid motion ⌝ }
+{
+    motion == G0
 }

@@ -15,8 +15,9 @@ use Rattle.row_cells.specs.Bits.{has}
 use Rattle.row_cells.specs.Row.{presentOf, hasPoint}
 use Rattle.row_made.specs.MadeLaws.{made-same}
 use Rattle.floats.specs.Truth.{by-bit, or-t, or-f}
-use Rattle.arc_rows.specs.Arc.{Answer, silent, Ends, Arc, Centre, centred, warned, lastCell, midCell, arcRow, heldAxes, arcRows, wantedOf, countOf, fromCentre}
-use Rattle.arc_rows.specs.Arc.{fromStart, arcAnswer}
+use Rattle.arc_answer.specs.Arc.{Answer, silent, Ends, Arc, Centre, centred, warned, lastCell, midCell, arcRow}
+use Rattle.arc_answer.specs.Arc.{heldAxes, arcRows, wantedOf, countOf, fromCentre}
+use Rattle.arc_answer.specs.Arc.{fromStart, arcAnswer}
 
 -- ---- something holds of a member
 any-from : (p : ℕ → Bool) (gs : List ℕ) (k : ℕ) → member k gs ≡ true → p k ≡ true → anyOf p gs ≡ true

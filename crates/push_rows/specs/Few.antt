@@ -12,10 +12,10 @@ use Rattle.motion.specs.declared.Kind.{Kind}
 use Rattle.motion.specs.declared.Kind.the-variants.{Same, Linear, Clockwise, Counter, Akima, Basis, Cubic, Other, Refused}
 use Rattle.row_cells.specs.Codes.{planeU, planeV}
 use Rattle.floats.specs.Truth.{by-bit}
-use Rattle.arc_rows.specs.Arc.{Ends, Centre, centred, warned, passed, silent, arcRows, countOf, fromCentre, fromStart, arcAnswer}
+use Rattle.arc_answer.specs.Arc.{Ends, Centre, centred, warned, passed, silent, arcRows, countOf, fromCentre, fromStart, arcAnswer}
 use Rattle.saved_state.specs.State.{tolerance, geometric, position}
 use Rattle.push_resolve.specs.Blocks.{motionThen, planeThen}
-use Rattle.push_rows.specs.Answer.{answerAs, ownAnswer}
+use Rattle.call_answer.specs.Answer.{answerAs, ownAnswer}
 
 -- 4.18: an arc has at most 100,000 rows
 few-centre : (tol : Float) (gs : List ℕ) (plane : ℕ) (cw : Bool) (pos : ℕ → Option ℕ) (r : List ℕ) (d : Ends) (m : Centre)

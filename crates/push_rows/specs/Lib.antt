@@ -1,4 +1,3 @@
-pub mod Answer
 pub mod ArcSame
 pub mod Own
 pub mod OwnLaws

@@ -7,13 +7,13 @@ use lib.ListN.{length, getD}
 use lib.Dec.{eqb}
 use Rattle.layout.specs.Layout.{axisMasks, rowWords, wKnown}
 use Rattle.row_cells.specs.Row.{axesOf}
-use Rattle.arc_rows.specs.Arc.{arcAnswer}
+use Rattle.arc_answer.specs.Arc.{arcAnswer}
 use Rattle.arc_rows.specs.declared.Way.the-variants.{Pass}
 use Rattle.arc_rows.specs.declared.Plan.{Plan}
 use Rattle.arc_rows.specs.Plan.{planRows, Planned}
 use Rattle.saved_state.specs.State.{geometric, tolerance, position, geometricMask}
 use Rattle.push_resolve.specs.Blocks.{planeThen}
-use Rattle.push_rows.specs.Answer.{ownAnswer}
+use Rattle.call_answer.specs.Answer.{ownAnswer}
 use Rattle.push_resolve.specs.Asks.{Block}
 use Rattle.push_resolve.specs.BlockLaws.{block}
 use Rattle.push_resolve.specs.declared.Resolved.{Resolved}

@@ -19,14 +19,14 @@ use Rattle.row_cells.specs.Row.{shown, axesOf}
 use Rattle.row_check.specs.Check.{rowCheck}
 use Rattle.floats.specs.Truth.{by-bit, cond-t, cond-f}
 use Rattle.row_cells.specs.Masks.{has-past}
-use Rattle.arc_rows.specs.Arc.{Answer, passed, arcAnswer}
+use Rattle.arc_answer.specs.Arc.{Answer, passed, arcAnswer}
 use Rattle.arc_rows.specs.declared.Plan.{Plan}
 use Rattle.arc_rows.specs.Plan.{passPlan, planRows, wayRows, Planned, WriteOf}
 use Rattle.saved_state.specs.State.{geometric, tolerance, stateOk, pointWord, position, geometricMask}
 use Rattle.saved_state.specs.StateLaws.{good, point-small}
 use Rattle.saved_state.specs.Axes.{geometric-mask-small, mask-members}
 use Rattle.push_resolve.specs.Blocks.{motionThen, planeThen}
-use Rattle.push_rows.specs.Answer.{answerAs, ownAnswer}
+use Rattle.call_answer.specs.Answer.{answerAs, ownAnswer}
 use Rattle.push_resolve.specs.BlockLaws.{block}
 use Rattle.push_resolve.specs.declared.Resolved.{Resolved}
 use Rattle.push_resolve.specs.Resolved.{resolved}

@@ -1,6 +1,5 @@
-// A block's own rows: what they come to at the positions before it, and their writing.
+// What a block's own rows come to at the positions before it.
 use arc_group::plan_arc;
-use arc_group::write_arc;
 use arc_rows::Plan;
 use arc_rows::Way;
 use floats::of_bits;
@@ -9,17 +8,14 @@ use layout::W_KNOWN;
 use layout::W_TOLERANCE;
 use motion::Kind;
 use push_resolve::Resolved;
-use row_put::put_row;
 ghost use mathlib.Core.Path.{_≡_};
-ghost use Prim.Native.Nat.{_+_, _<_};
-ghost use Rattle.floats.specs.Lists.{flatten, spliced};
 ghost use Rattle.arc_rows.specs.Plan.{passPlan};
-ghost use Rattle.push_rows.specs.Own.{Ready, Writes, nonePlan, ownRows, OwnPlanned, TurnPlanned};
+ghost use Rattle.push_rows.specs.Own.{Ready, nonePlan, OwnPlanned, TurnPlanned};
 
 // The words of the positions.
-const POSITIONS: usize = W_KNOWN + 1;
+pub const POSITIONS: usize = W_KNOWN + 1;
 
-const POSITIONS_END: usize = POSITIONS + AXIS_CODES;
+pub const POSITIONS_END: usize = POSITIONS + AXIS_CODES;
 
 fn pass_plan() -> Plan
     ensures { λ p. ⌜ p ≡ passPlan 0 ⌝ }
@@ -77,43 +73,5 @@ pub fn plan_own(state: &[u64], row: &[u64], b: Resolved) -> Plan
         Kind::Cubic => none_plan(),
         Kind::Other => pass_plan(),
         Kind::Refused => pass_plan(),
-    }
-}
-
-fn write_turn(rows: &mut [u64], from: usize, state: &[u64], row: &[u64], b: Resolved, plan: Plan)
-    requires { ⌜ (Writes (now state) (now row) b plan (now rows) from) × (0 < plan .count) ⌝ }
-    ensures { λ _. ⌜ now (rows .exit) ≡ spliced (now (rows .entry)) from (flatten (ownRows (now (state .entry)) (now (row .entry)) plan)) ⌝ }
-{
-    write_arc(
-        rows,
-        from,
-        row,
-        b.axes,
-        b.plane,
-        state[W_KNOWN],
-        &state[POSITIONS..POSITIONS_END],
-        plan,
-    );
-}
-
-// A row that passes is written without asking what an arc needs.
-fn write_some(rows: &mut [u64], from: usize, state: &[u64], row: &[u64], b: Resolved, plan: Plan)
-    requires { ⌜ (Writes (now state) (now row) b plan (now rows) from) × (0 < plan .count) ⌝ }
-    ensures { λ _. ⌜ now (rows .exit) ≡ spliced (now (rows .entry)) from (flatten (ownRows (now (state .entry)) (now (row .entry)) plan)) ⌝ }
-{
-    let way = plan.way;
-    match way {
-        Way::Pass => put_row(rows, from, row),
-        Way::Along(_, _) => write_turn(rows, from, state, row, b, plan),
-    }
-}
-
-// Writes a planned block's rows from word `from` on.
-pub fn write_own(rows: &mut [u64], from: usize, state: &[u64], row: &[u64], b: Resolved, plan: Plan)
-    requires { ⌜ Writes (now state) (now row) b plan (now rows) from ⌝ }
-    ensures { λ _. ⌜ now (rows .exit) ≡ spliced (now (rows .entry)) from (flatten (ownRows (now (state .entry)) (now (row .entry)) plan)) ⌝ }
-{
-    if plan.count > 0 {
-        write_some(rows, from, state, row, b, plan);
     }
 }

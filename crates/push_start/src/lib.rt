@@ -1,4 +1,4 @@
-// The curve start in the state: the first block that is buffered opens it, an emission forgets it.
+// The curve start in the state: the first block that is buffered opens it.
 use layout::AXIS_CODES;
 use layout::W_DEGREE;
 use layout::W_HELD;
@@ -15,27 +15,7 @@ ghost use lib.Dec.{eqb};
 ghost use Rattle.floats.specs.Lists.{upto, spliced};
 ghost use Rattle.layout.specs.Layout.{axisCodes, wStart, stateWords};
 ghost use Rattle.saved_state.specs.State.{held, position};
-ghost use Rattle.push_start.specs.Opened.{forgotten, opened};
-
-fn zero_start(state: &mut [u64])
-    requires { ⌜ length (now state) ≡ stateWords ⌝ }
-    ensures { λ _. ⌜ now (state .exit) ≡ spliced (now (state .entry)) wStart (upto (λ (k : ℕ). 0) (axisCodes + 1)) ⌝ }
-{
-    let mut k: usize = 0;
-    while k < AXIS_CODES + 1 {
-        state[W_START + k] = 0;
-        k += 1;
-    }
-}
-
-// An emission forgets the curve start and the blocks.
-pub fn forget(state: &mut [u64])
-    requires { ⌜ length (now state) ≡ stateWords ⌝ }
-    ensures { λ _. ⌜ now (state .exit) ≡ forgotten (now (state .entry)) ⌝ }
-{
-    zero_start(state);
-    state[W_HELD] = 0;
-}
+ghost use Rattle.push_start.specs.Opened.{opened};
 
 // The position of axis k, zero where it is not known.
 fn known_word(state: &[u64], k: usize) -> u64

@@ -4,7 +4,7 @@ use layout::R_PRESENT;
 use layout::W_MOTION;
 use layout::W_PLANE;
 use layout::W_WARNED;
-use push_start::forget;
+use push_forget::forget;
 use push_state::buffer;
 use row_cells::lowest_bit;
 use row_cells::other_bits;

@@ -10,7 +10,7 @@ use lib.Seq.{length-take-le}
 use Rattle.text_lines.specs.declared.Found.{Found}
 use Rattle.text_lines.specs.declared.Found.the-variants as Found
 use Rattle.text_lines.specs.declared.Turn.{Turn}
-use Rattle.text_lines.specs.Cut.{lf, cut, between}
+use Rattle.text_cut.specs.Cut.{lf, cut, between}
 use Rattle.text_lines.specs.Turns.{FirstLine, Told, Turned}
 use Rattle.replay_turn.specs.Places.{Lies}
 

@@ -1,3 +1,4 @@
 pub mod Made
 pub mod Asks
 pub mod MadeLaws
+pub mod Making

@@ -1,26 +1,21 @@
-// A row that is made for a block's group.
+// What rides along in a made row, and the words before its cells.
 use layout::LIST_MASKS;
 use layout::R_CARRY;
-use layout::R_CELLS;
 use layout::R_LINE;
 use layout::R_PLANE;
 use layout::R_PRESENT;
 use row_lay::Head;
-use row_lay::lay_cells;
-use row_lay::put_cells;
-use row_lay::put_head;
 ghost use mathlib.Core.Path.{_≡_};
 ghost use mathlib.Core.Bool.{cond};
-ghost use Prim.Native.Nat.{_+_, _<_, _≤_};
+ghost use Prim.Native.Nat.{_<_};
 ghost use lib.Bits.{bitAnd};
 ghost use lib.ListN.{length};
-ghost use Rattle.floats.specs.Lists.{spliced};
 ghost use Rattle.layout.specs.Layout.{axisMasks, cells, rowWords};
 ghost use Rattle.row_cells.specs.Bits.{maskSum};
 ghost use Rattle.row_cells.specs.Row.{presentOf, axesOf};
 ghost use Rattle.row_lay.specs.Asks.{headWords};
 ghost use Rattle.row_made.specs.Made.{madeHas, riders};
-ghost use Rattle.row_made.specs.Asks.{MadeOf, madeHead, firstCells, madeCells, madeBy};
+ghost use Rattle.row_made.specs.Asks.{madeHead};
 
 // What a row is made of beside a block's row and the point's words: the masks of the geometric axes and of the point,
 // whether it is the group's first, which has the motion, and whether it is marked.
@@ -33,7 +28,7 @@ pub struct Made {
 }
 
 // The codes that ride on the first row of a group, as the block has them: not its geometric axes, of the mask gs.
-fn ridden(row: &[u64], gs: u64) -> u64
+pub fn ridden(row: &[u64], gs: u64) -> u64
     requires { ⌜ (length (now row) ≡ rowWords) × (gs < axisMasks) ⌝ }
     ensures { λ r. ⌜ r ≡ bitAnd (presentOf (now (row .entry))) (riders gs) ⌝ }
 {
@@ -51,33 +46,13 @@ fn made_mask(row: &[u64], gs: u64, first: bool, mask: u64) -> u64
     mask
 }
 
-// The cells of the first row of a group: what rides, and the point's own axes over it.
-fn put_first_cells(rows: &mut [u64], at: usize, row: &[u64], made: Made, words: &[u64])
-    requires { ⌜ MadeOf (now row) made (now words) × (at + cells ≤ length (now rows)) ⌝ }
-    ensures { λ _. ⌜ now (rows .exit) ≡ spliced (now (rows .entry)) at (firstCells (now (row .entry)) made (now (words .entry))) ⌝ }
-{
-    put_cells(rows, at, ridden(row, made.axes), &row[R_CELLS..]);
-    lay_cells(rows, at, made.mask & made.axes, words);
-}
-
-fn put_made_cells(rows: &mut [u64], at: usize, row: &[u64], made: Made, words: &[u64])
-    requires { ⌜ MadeOf (now row) made (now words) × (at + cells ≤ length (now rows)) ⌝ }
-    ensures { λ _. ⌜ now (rows .exit) ≡ spliced (now (rows .entry)) at (madeCells (now (row .entry)) made (now (words .entry))) ⌝ }
-{
-    if made.first {
-        put_first_cells(rows, at, row, made, words);
-    } else {
-        put_cells(rows, at, made.mask, words);
-    }
-}
-
 fn if_first(first: bool, x: u64) -> u64
     ensures { λ r. ⌜ r ≡ cond first x 0 ⌝ }
 {
     if first { x } else { 0 }
 }
 
-fn made_head(row: &[u64], made: Made) -> Head
+pub fn made_head(row: &[u64], made: Made) -> Head
     requires { ⌜ (length (now row) ≡ rowWords) × ((made .axes < axisMasks) × (made .mask < axisMasks)) ⌝ }
     ensures { λ r. ⌜ headWords r ≡ madeHead (now (row .entry)) made ⌝ }
 {
@@ -91,14 +66,4 @@ fn made_head(row: &[u64], made: Made) -> Head
         carry: if_first(made.first, row[R_CARRY]),
         present: present,
     }
-}
-
-// Writes, from word `at` on, a row of the group of `row`: its geometric cells are the words of the mask, and the first
-// row has the motion and what rides along.
-pub fn put_made(rows: &mut [u64], at: usize, row: &[u64], made: Made, words: &[u64])
-    requires { ⌜ MadeOf (now row) made (now words) × (at + rowWords ≤ length (now rows)) ⌝ }
-    ensures { λ _. ⌜ now (rows .exit) ≡ spliced (now (rows .entry)) at (madeBy (now (row .entry)) made (now (words .entry))) ⌝ }
-{
-    put_head(rows, at, made_head(row, made));
-    put_made_cells(rows, at + R_CELLS, row, made, words);
 }

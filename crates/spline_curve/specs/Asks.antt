@@ -8,19 +8,18 @@ use lib.Ieee.{Float}
 use Rattle.floats.specs.Numbers.{f1}
 use Rattle.floats.specs.Lists.{keep, rowsOf}
 use Rattle.layout.specs.Layout.{rowWords, axisCodes, mostHeld, mostPoints}
-use Rattle.motion.specs.Motion.{kindOf}
 use Rattle.row_cells.specs.Row.{hasPoint}
 use Rattle.curve_metric.specs.Below.{Below}
 use Rattle.curve_walk.specs.declared.Form.{Form}
-use Rattle.curve_runs.specs.declared.Drawing.{Drawing}
-use Rattle.curve_runs.specs.Runs.{shapeOf}
+use Rattle.curve_drawing.specs.declared.Drawing.{Drawing}
+use Rattle.curve_drawing.specs.Runs.{shapeOf}
 use Rattle.curve_runs.specs.Asks.{Ready, Remembers}
 use Rattle.spline_channels.specs.Channels.{Spline, channelsFrom, splineOf}
 use Rattle.spline_points.specs.Points.{startValue, pointsFrom, weightOf}
 use Rattle.spline_metric.specs.Metric.{metricOf}
 use Rattle.spline_channels.specs.Gathers.{Once}
-use Rattle.spline_curve.specs.declared.Curve.{Curve}
-use Rattle.spline_curve.specs.declared.Job.{Job}
+use Rattle.spline_job.specs.declared.Curve.{Curve}
+use Rattle.spline_job.specs.declared.Job.{Job}
 
 -- what a state and a store that passed give: no axis code twice, a word for each axis of the curve start, the held rows
 pub record Holds (axes words store : List ℕ) (held : ℕ) : Type 0 where
@@ -50,10 +49,6 @@ pub record Gathered (gs : List ℕ) (start : ℕ → Option ℕ) (blocks : List 
   pub count : g .n ≡ length (keep (hasPoint gs) blocks) + 1
   pub drawn : rowsOf pts (g .ch) (g .n) ≡ drawnFrom gs start blocks
   pub weights : take (g .n) ws ≡ f1 ∷ map weightOf (keep (hasPoint gs) blocks)
-
--- the curve to draw
-abbrev pub drawingOf : Job → Curve → Drawing
-drawingOf job g = record { kind = kindOf (job .motion); degree = job .degree; n = g .n; ch = g .ch; tol = job .tol }
 
 -- what the curve's arithmetic asks
 pub record Curved (d : Drawing) (ms : List ℕ) (pts ws : List Float) : Type 0 where

@@ -15,16 +15,17 @@ use Rattle.row_cells.specs.Codes.{geometricOf}
 use Rattle.row_cells.specs.Row.{shown}
 use Rattle.curve_metric.specs.Points.{length-rows}
 use Rattle.curve_walk.specs.Walks.{encode}
-use Rattle.curve_runs.specs.declared.Drawing.{Drawing}
-use Rattle.curve_runs.specs.Runs.{drawnRuns}
+use Rattle.curve_drawing.specs.declared.Drawing.{Drawing}
+use Rattle.curve_drawing.specs.Runs.{drawnRuns}
 use Rattle.curve_runs.specs.Draws.{drawn-as}
 use Rattle.spline_channels.specs.Channels.{channels, pointRows, blockAt}
 use Rattle.spline_points.specs.Points.{startPoint}
 use Rattle.spline_places.specs.Places.{Few}
-use Rattle.spline_curve.specs.declared.Curve.{Curve}
-use Rattle.spline_curve.specs.declared.Job.{Job}
-use Rattle.spline_curve.specs.Runs.{runsOf}
-use Rattle.spline_curve.specs.Asks.{splineIn, drawingOf, Gathered}
+use Rattle.spline_job.specs.declared.Curve.{Curve}
+use Rattle.spline_job.specs.declared.Job.{Job}
+use Rattle.spline_answer.specs.Runs.{runsOf}
+use Rattle.spline_curve.specs.Asks.{splineIn, Gathered}
+use Rattle.spline_job.specs.Jobs.{drawingOf}
 use Rattle.spline_curve.specs.Widths.{by-many, by-few}
 
 -- ---- the runs

@@ -21,10 +21,11 @@ use Rattle.spline_channels.specs.Gathers.{Appended, Once, Codes}
 use Rattle.spline_points.specs.Gathers.{PointsAre}
 use Rattle.spline_channels.specs.ChannelLaws.{Good, channels-good, channels-few, geometric-few, once-distinct, distinct-keep, none-good}
 use Rattle.spline_channels.specs.Keeps.{keep-upto-most, keep-most, member-at}
-use Rattle.spline_curve.specs.declared.Curve.{Curve}
-use Rattle.spline_curve.specs.declared.Job.{Job}
-use Rattle.curve_runs.specs.declared.Drawing.{Drawing}
-use Rattle.spline_curve.specs.Asks.{drawingOf, Gathered, Curved}
+use Rattle.spline_job.specs.declared.Curve.{Curve}
+use Rattle.spline_job.specs.declared.Job.{Job}
+use Rattle.curve_drawing.specs.declared.Drawing.{Drawing}
+use Rattle.spline_curve.specs.Asks.{Gathered, Curved}
+use Rattle.spline_job.specs.Jobs.{drawingOf}
 
 -- ---- the channels of listed axes
 module _ (axes : List ℕ) (blocks : List (List ℕ)) (o : Once axes) where

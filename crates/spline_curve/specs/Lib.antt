@@ -1,4 +1,3 @@
-pub mod Runs
 pub mod Asks
 pub mod Widths
 pub mod Gathers

@@ -24,7 +24,7 @@ use Rattle.fit_knots.specs.Fit.{Fit, keptTo, fitOf, pieceFrom, pieceOf, evalFit
 use Rattle.bspline_tables.specs.Basis.{Bspline, basisOf, spansOf, evalBasis, basisSamples, Owned, owned, ownerFrom, runOf, basisRuns}
 use Rattle.layout.specs.Layout.{mostPoints}
 use Rattle.motion.specs.Motion.{isBasis, isCubic}
-use Rattle.curve_runs.specs.Runs.{runsBy, curveRuns}
+use Rattle.curve_drawing.specs.Runs.{runsBy, curveRuns}
 
 -- ---- lists of rows of one length
 module _ {A : Type 0} where

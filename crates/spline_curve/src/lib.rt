@@ -1,14 +1,15 @@
 // The curve of the held blocks: gathered, prepared, counted and written.
-use curve_runs::Drawing;
+use curve_drawing::Drawing;
 use curve_runs::runs::count_runs;
 use curve_runs::runs::prepare;
 use curve_runs::runs::write_runs;
 use curve_walk::Form;
 use curve_walk::Kept;
-use motion::kind_of;
 use spline_channels::channels_of;
+use spline_gather::points_of;
+use spline_job::Curve;
+use spline_job::Job;
 use spline_metric::metric_of;
-use spline_points::points_of;
 ghost use mathlib.Core.Path.{_≡_};
 ghost use mathlib.Core.List.{[]};
 ghost use Prim.Native.Nat.{ℕ, _+_, _*_, _-_, _≤_, _<_};
@@ -19,26 +20,8 @@ ghost use Rattle.row_cells.specs.Codes.{geometricOf};
 ghost use Rattle.row_cells.specs.Row.{shown};
 ghost use Rattle.spline_channels.specs.Channels.{blockAt};
 ghost use Rattle.curve_walk.specs.Walks.{encode};
-ghost use Rattle.curve_runs.specs.Runs.{drawnRuns};
-ghost use Rattle.spline_curve.specs.Asks.{drawingOf, Holds, Gathered, Curved, Drawn, Recalled};
-
-// What an emission is asked: the held spline's word, degree and tolerance, the axes of its start, its blocks, and the rows
-// that are to have room behind it.
-pub struct Job {
-    pub motion: u64,
-    pub degree: u64,
-    pub tol: f64,
-    pub start: u64,
-    pub held: usize,
-    pub own: usize,
-}
-
-// The channels, the metric's places and the points of a gathered curve, by their number.
-pub struct Curve {
-    pub ch: usize,
-    pub metric: usize,
-    pub n: usize,
-}
+ghost use Rattle.curve_drawing.specs.Runs.{drawnRuns};
+ghost use Rattle.spline_curve.specs.Asks.{Holds, Gathered, Curved, Drawn, Recalled};
 
 // Gathers the channels, the metric's places, the points and the weights of the held blocks.
 pub fn gather_curve(
@@ -63,20 +46,6 @@ pub fn gather_curve(
     let metric = metric_of(&chans[..ch], ms);
     let n = points_of(axes, job.start, words, store, held, &chans[..ch], pts, ws);
     Curve { ch, metric, n }
-}
-
-// The curve to draw.
-pub fn drawing_of(job: Job, curve: Curve) -> Drawing
-    ensures { λ r. ⌜ r ≡ drawingOf job curve ⌝ }
-{
-    let kind = kind_of(job.motion);
-    Drawing {
-        kind: kind,
-        degree: job.degree as usize,
-        n: curve.n,
-        ch: curve.ch,
-        tol: job.tol,
-    }
 }
 
 // Fills the tables of a curve, where there are two points for one.

@@ -4,7 +4,7 @@ use mathlib.Core.Path.{subst, _≡_}
 use mathlib.Core.List.{List}
 use lib.Ieee.{Float}
 use Rattle.spline_plan.specs.declared.Emission.{Emission}
-use Rattle.spline_curve.specs.declared.Job.{Job}
+use Rattle.spline_job.specs.declared.Job.{Job}
 use Rattle.spline_write.specs.Emits.{mostOwn, Plans, Emitted, EmittedAs}
 use Rattle.spline_plan.specs.Plans.{Planned}
 

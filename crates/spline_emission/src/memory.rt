@@ -8,7 +8,7 @@ use crate::sizes::SMALL_LEFTS;
 use fit_slopes::sizes::SMALL_POINTS;
 use layout::AXIS_CODES;
 use layout::MOST_POINTS;
-use spline_curve::Job;
+use spline_job::Job;
 use spline_plan::plan_emission;
 use spline_write::write_emission;
 ghost use Prim.Native.Nat.{_*_, _≤_, _<_};

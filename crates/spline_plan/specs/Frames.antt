@@ -18,7 +18,7 @@ use Rattle.spline_channels.specs.Channels.{Spline, channels, placeOf}
 use Rattle.spline_places.specs.declared.frame.Frame.{Frame}
 use Rattle.spline_places.specs.Groups.{isBspline}
 use Rattle.spline_sample.specs.Puts.{Sound}
-use Rattle.spline_curve.specs.Runs.{runsOf}
+use Rattle.spline_answer.specs.Runs.{runsOf}
 use Rattle.spline_plan.specs.Words.{Lies, place-below}
 use Rattle.spline_plan.specs.Plans.{placesOf, frameOf}
 use Rattle.spline_sample.specs.SampleLaws.{bit-below}

@@ -1,4 +1,3 @@
-pub mod Emission
 pub mod Plans
 pub mod Words
 pub mod Frames

@@ -14,8 +14,8 @@ use Rattle.motion.specs.Motion as Motion
 use Rattle.row_cells.specs.Codes.{geometricOf}
 use Rattle.row_cells.specs.Row.{shown, hasPoint}
 use Rattle.curve_walk.specs.declared.Form.{Form}
-use Rattle.curve_runs.specs.declared.Drawing.{Drawing}
-use Rattle.curve_runs.specs.Runs.{drawnRuns}
+use Rattle.curve_drawing.specs.declared.Drawing.{Drawing}
+use Rattle.curve_drawing.specs.Runs.{drawnRuns}
 use Rattle.spline_channels.specs.Channels.{Spline, channels, pointRows, blockAt}
 use Rattle.spline_points.specs.Points.{startPoint, pointsFrom, weightOf}
 use Rattle.spline_metric.specs.Metric.{metricOf}
@@ -27,12 +27,13 @@ use Rattle.spline_places.specs.declared.place.Place.{Place}
 use Rattle.spline_places.specs.Places.{Few}
 use Rattle.spline_places.specs.Sizes.{placeTo}
 use Rattle.spline_places.specs.SizeLaws.{place-few}
-use Rattle.spline_curve.specs.declared.Curve.{Curve}
-use Rattle.spline_curve.specs.declared.Job.{Job}
-use Rattle.spline_curve.specs.Runs.{runsOf}
-use Rattle.spline_plan.specs.Emission.{splineGroups}
+use Rattle.spline_job.specs.declared.Curve.{Curve}
+use Rattle.spline_job.specs.declared.Job.{Job}
+use Rattle.spline_answer.specs.Runs.{runsOf}
+use Rattle.spline_answer.specs.Emission.{splineGroups}
 use Rattle.spline_plan.specs.Words.{Lies, same-count}
-use Rattle.spline_curve.specs.Asks.{splineIn, drawingOf, Holds, Gathered, Drawn, Recalled}
+use Rattle.spline_curve.specs.Asks.{splineIn, Holds, Gathered, Drawn, Recalled}
+use Rattle.spline_job.specs.Jobs.{drawingOf}
 use Rattle.spline_plan.specs.Plans.{placesOf, frameOf, Counted, Planned}
 use Rattle.spline_curve.specs.Curves.{runs-are}
 use Rattle.spline_curve.specs.Gathers.{chan-below}

@@ -16,9 +16,10 @@ use Rattle.spline_places.specs.declared.place.Place.{Place}
 use Rattle.spline_places.specs.Places.{Few}
 use Rattle.spline_places.specs.Sizes.{placeTo}
 use Rattle.spline_plan.specs.declared.Emission.{Emission}
-use Rattle.spline_curve.specs.Runs.{runsOf}
-use Rattle.spline_plan.specs.Emission.{splineGroups}
-use Rattle.spline_curve.specs.Asks.{Recalled, Drawn, drawingOf, splineIn, Holds, Gathered}
+use Rattle.spline_answer.specs.Runs.{runsOf}
+use Rattle.spline_answer.specs.Emission.{splineGroups}
+use Rattle.spline_curve.specs.Asks.{Recalled, Drawn, splineIn, Holds, Gathered}
+use Rattle.spline_job.specs.Jobs.{drawingOf}
 
 -- an emission has at most so many rows
 abbrev pub mostEmitted : ℕ

@@ -1,13 +1,13 @@
 // An emission before its first row is written: gathered, prepared and counted.
-use curve_runs::Drawing;
+use curve_drawing::Drawing;
 use curve_walk::Form;
 use layout::AXIS_CODES;
-use spline_curve::Curve;
-use spline_curve::Job;
 use spline_curve::count_curve;
-use spline_curve::drawing_of;
 use spline_curve::gather_curve;
 use spline_curve::prepare_curve;
+use spline_job::Curve;
+use spline_job::Job;
+use spline_job::drawing_of;
 use spline_places::place::Place;
 use spline_places::place::total;
 ghost use mathlib.Core.Path.{_≡_};
@@ -16,7 +16,7 @@ ghost use Prim.Native.Nat.{ℕ, _*_, _-_, _≤_};
 ghost use lib.ListN.{length, getD};
 ghost use Rattle.floats.specs.Lists.{filled};
 ghost use Rattle.layout.specs.Layout.{axisCodes};
-ghost use Rattle.curve_runs.specs.Runs.{drawnRuns};
+ghost use Rattle.curve_drawing.specs.Runs.{drawnRuns};
 ghost use Rattle.spline_curve.specs.Asks.{Holds, Curved, Drawn, Recalled};
 ghost use Rattle.spline_plan.specs.Plans.{Rooms, Planned};
 

@@ -12,9 +12,9 @@ use Rattle.saved_state.specs.Checked.{saved-ok}
 use Rattle.saved_state.specs.StateLaws.{good, good-few, axes-few}
 use Rattle.spline_channels.specs.Channels.{splineOf}
 use Rattle.spline_curve.specs.Asks.{Holds}
-use Rattle.spline_plan.specs.Emission.{splineGroups}
-use Rattle.spline_write.specs.Room.{putWithin}
-use Rattle.spline_put.specs.Held.{emission}
+use Rattle.spline_answer.specs.Emission.{splineGroups}
+use Rattle.row_room.specs.Room.{putWithin}
+use Rattle.spline_answer.specs.Held.{emission}
 use Rattle.spline_put.specs.Emitted.{codesOf, startOf, Put}
 use Rattle.spline_put.specs.EmittedLaws.{holds, emission-is, emission-few}
 

@@ -5,7 +5,7 @@ use mathlib.Core.List.{List}
 use lib.ListN.{length, getD, take, drop}
 use Rattle.layout.specs.Layout.{axisCodes, wAxes, wStart}
 use Rattle.spline_channels.specs.Channels.{Spline, splineOf}
-use Rattle.spline_write.specs.Room.{putWithin}
+use Rattle.row_room.specs.Room.{putWithin}
 use Rattle.saved_state.specs.State.{axisCount, motionNow, degree, held, tolerance}
 use Rattle.spline_plan.specs.Plans.{mostEmitted}
 

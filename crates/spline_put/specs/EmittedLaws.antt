@@ -27,14 +27,14 @@ use Rattle.spline_channels.specs.Flat.{Sized, sized-append, sized-cons, length-
 use Rattle.spline_points.specs.Curve.{points-length}
 use Rattle.spline_channels.specs.Keeps.{keep-most}
 use Rattle.spline_places.specs.Groups.{pointGroup, heldGroup}
-use Rattle.spline_curve.specs.Runs.{runsOf}
-use Rattle.spline_plan.specs.Emission.{splineGroups}
-use Rattle.spline_write.specs.Room.{putWithin}
+use Rattle.spline_answer.specs.Runs.{runsOf}
+use Rattle.spline_answer.specs.Emission.{splineGroups}
+use Rattle.row_room.specs.Room.{putWithin}
 use Rattle.spline_curve.specs.Asks.{Holds}
 use Rattle.saved_state.specs.State.{axisCount, motionNow, degree, held, tolerance, geometric, pointWord, curveStart, heldRows, codeOk, codesOk}
 use Rattle.saved_state.specs.State.{axesOk, stateOk, savedCheck}
 use Rattle.saved_state.specs.StateLaws.{Good, good, good-few, point-small}
-use Rattle.spline_put.specs.Held.{heldSpline, emission}
+use Rattle.spline_answer.specs.Held.{heldSpline, emission}
 use Rattle.saved_state.specs.Checked.{saved-ok, saved-store}
 use Rattle.spline_curve.specs.Widths.{runs-few}
 use Rattle.spline_sample.specs.SampleLaws.{bit-below}

@@ -8,13 +8,13 @@ use layout::W_HELD;
 use layout::W_MOTION;
 use layout::W_START;
 use layout::W_TOLERANCE;
-use spline_curve::Job;
-use spline_emission::emit_within;
+use spline_emit::emit_within;
+use spline_job::Job;
 ghost use mathlib.Core.Path.{_≡_};
 ghost use Prim.Native.Nat.{_≤_};
 ghost use Rattle.spline_write.specs.Emits.{mostOwn};
 ghost use Rattle.saved_state.specs.State.{savedCheck};
-ghost use Rattle.spline_put.specs.Held.{emission};
+ghost use Rattle.spline_answer.specs.Held.{emission};
 ghost use Rattle.spline_put.specs.Emitted.{Put};
 
 // The words of the curve start.

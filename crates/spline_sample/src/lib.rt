@@ -5,7 +5,7 @@ use layout::R_PRESENT;
 use layout::ROW_WORDS;
 use row_cells::has_bit;
 use row_made::Made;
-use row_made::put_made;
+use row_make::put_made;
 use spline_marks::is_marked;
 use spline_marks::motion_of;
 use spline_places::frame::Frame;

@@ -19,8 +19,8 @@ use Rattle.row_cells.specs.Codes.{geometricOf}
 use Rattle.row_cells.specs.Row.{hasPoint}
 use Rattle.row_cells.specs.Bits.{maskSum}
 use Rattle.curve_walk.specs.Walks.{encode}
-use Rattle.curve_runs.specs.declared.Drawing.{Drawing}
-use Rattle.curve_runs.specs.Runs.{drawnRuns}
+use Rattle.curve_drawing.specs.declared.Drawing.{Drawing}
+use Rattle.curve_drawing.specs.Runs.{drawnRuns}
 use Rattle.spline_channels.specs.Channels.{Spline, channels, blockAt}
 use Rattle.spline_channels.specs.Flat.{Sized, flat-row, length-flatten}
 use Rattle.spline_places.specs.declared.frame.Frame.{Frame}
@@ -32,10 +32,10 @@ use Rattle.spline_rows.specs.RawBlocks.{rawHeld, heldWords}
 use Rattle.spline_rows.specs.Puts.{Spreads}
 use Rattle.spline_rows.specs.RawLaws.{block-long}
 use Rattle.spline_plan.specs.declared.Emission.{Emission}
-use Rattle.spline_curve.specs.declared.Job.{Job}
-use Rattle.spline_curve.specs.Runs.{runsOf}
-use Rattle.spline_plan.specs.Emission.{splineGroups}
-use Rattle.spline_write.specs.Room.{putWithin}
+use Rattle.spline_job.specs.declared.Job.{Job}
+use Rattle.spline_answer.specs.Runs.{runsOf}
+use Rattle.spline_answer.specs.Emission.{splineGroups}
+use Rattle.row_room.specs.Room.{putWithin}
 use Rattle.spline_curve.specs.Widths.{getD-map}
 use Rattle.spline_plan.specs.Words.{Lies, same-words, place-sum}
 use Rattle.spline_curve.specs.Asks.{splineIn, Holds}

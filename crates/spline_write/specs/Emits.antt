@@ -6,9 +6,9 @@ use lib.ListN.{length}
 use lib.Ieee.{Float}
 use Rattle.floats.specs.Lists.{flatten}
 use Rattle.spline_plan.specs.declared.Emission.{Emission}
-use Rattle.spline_curve.specs.declared.Job.{Job}
-use Rattle.spline_plan.specs.Emission.{splineGroups}
-use Rattle.spline_write.specs.Room.{putWithin}
+use Rattle.spline_job.specs.declared.Job.{Job}
+use Rattle.spline_answer.specs.Emission.{splineGroups}
+use Rattle.row_room.specs.Room.{putWithin}
 use Rattle.spline_plan.specs.Plans.{Planned}
 use Rattle.spline_curve.specs.Asks.{splineIn}
 

@@ -1,8 +1,8 @@
 // A planned emission, written: its samples, then its rows.
 use layout::AXIS_CODES;
-use layout::ROW_WORDS;
 use motion::is_basis;
 use row_axes::axes_mask;
+use row_room::has_room;
 use spline_curve::write_curve;
 use spline_places::frame::Frame;
 use spline_places::frame::places_of;
@@ -10,7 +10,7 @@ use spline_places::place::Place;
 use spline_plan::Emission;
 use spline_rows::spread;
 ghost use mathlib.Core.Path.{_≡_};
-ghost use Prim.Native.Nat.{_+_, _*_, _-_, _≤_};
+ghost use Prim.Native.Nat.{_*_, _-_, _≤_};
 ghost use lib.ListN.{length};
 ghost use Rattle.floats.specs.Lists.{upto, flatten, spliced};
 ghost use Rattle.layout.specs.Layout.{rowWords};
@@ -19,15 +19,7 @@ ghost use Rattle.spline_channels.specs.Channels.{blockAt};
 ghost use Rattle.spline_rows.specs.Puts.{Spreads};
 ghost use Rattle.spline_rows.specs.RawBlocks.{heldWords};
 ghost use Rattle.spline_plan.specs.Plans.{placesOf, frameOf};
-ghost use Rattle.spline_write.specs.Room.{hasRoom};
 ghost use Rattle.spline_write.specs.Emits.{Plans, EmittedAs};
-
-// Whether n rows have room. It is judged here alone: for an emission and the block after it, and for all rows of a call.
-pub fn has_room(rows: &[u64], n: usize) -> bool
-    ensures { λ r. ⌜ r ≡ hasRoom n (now (rows .entry)) ⌝ }
-{
-    n <= rows.len() / ROW_WORDS
-}
 
 // Spreads the samples, which stand from the first word of `rows` on, to the rows of the held blocks.
 fn spread_curve(

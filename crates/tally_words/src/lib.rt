@@ -2,11 +2,10 @@
 use row_cells::has_bit;
 ghost use mathlib.Core.Path.{_≡_};
 ghost use mathlib.Core.Bool.{_||_};
-ghost use Prim.Native.Nat.{ℕ, _<_, _≤_};
+ghost use Prim.Native.Nat.{_<_, _≤_};
 ghost use lib.ListN.{length};
-ghost use Rattle.floats.specs.Lists.{all};
 ghost use Rattle.row_cells.specs.Bits.{has};
-ghost use Rattle.tally_words.specs.Words.{mostJobs, bFirst, bFinal, tallyWords, jobsIn, slotAt, tryAt, tryOk, tallyOk, emptyTally, bit, jobsWith};
+ghost use Rattle.tally_words.specs.Words.{mostJobs, bFirst, bFinal, tallyWords, slotAt, tryAt, tryOk, emptyTally, bit};
 
 pub const MOST_JOBS: usize = 64;
 
@@ -76,7 +75,7 @@ fn has_passed(w: u64) -> bool
     has_bit(w, B_FINAL)
 }
 
-fn try_ok(w: u64) -> bool
+pub fn try_ok(w: u64) -> bool
     ensures { λ r. ⌜ r ≡ tryOk w ⌝ }
 {
     if w >= TRY_WORDS {
@@ -86,34 +85,6 @@ fn try_ok(w: u64) -> bool
         return true;
     }
     !has_passed(w)
-}
-
-fn tries_ok(tally: &[u64], n: usize) -> bool
-    requires { ⌜ (length (now tally) ≡ tallyWords) × (n ≤ mostJobs) ⌝ }
-    ensures { λ r. ⌜ r ≡ all n (λ (i : ℕ). tryOk (tryAt (now (tally .entry)) i)) ⌝ }
-{
-    let mut i: usize = 0;
-    while i < n {
-        if !try_ok(try_at(tally, i)) {
-            return false;
-        }
-        i += 1;
-    }
-    true
-}
-
-// Whether words are a tally (9.23).
-pub fn tally_ok(tally: &[u64]) -> bool
-    ensures { λ r. ⌜ r ≡ tallyOk (now (tally .entry)) ⌝ }
-{
-    if tally.len() != TALLY_WORDS {
-        return false;
-    }
-    let n = tally[W_JOBS] as usize;
-    if n > MOST_JOBS {
-        return false;
-    }
-    tries_ok(tally, n)
 }
 
 // Makes every word 0 (9.25).
@@ -135,19 +106,4 @@ pub fn number_of(b: bool) -> u64
         return 1;
     }
     0
-}
-
-// How many slots have bit b in their try word.
-pub fn jobs_with(tally: &[u64], b: u64) -> u64
-    requires { ⌜ (length (now tally) ≡ tallyWords) × ((jobsIn (now tally) ≤ mostJobs) × (b < 64)) ⌝ }
-    ensures { λ r. ⌜ r ≡ jobsWith (now (tally .entry)) b ⌝ }
-{
-    let n = tally[W_JOBS] as usize;
-    let mut r: u64 = 0;
-    let mut i: usize = 0;
-    while i < n {
-        r += number_of(has_bit(try_at(tally, i), b));
-        i += 1;
-    }
-    r
 }

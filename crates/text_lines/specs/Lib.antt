@@ -1,4 +1,2 @@
-pub mod Cut
 pub mod Turns
-pub mod CutLaws
 pub mod TurnLaws

@@ -6,11 +6,12 @@ use native.Mathlib.Omega.{arith}
 use native.Mathlib.Nat.{sub-zero}
 use lib.ListN.{length, take, drop, length-drop}
 use lib.Seq.{length-take-le, take-take, drop-drop, take-add, drop-at}
-use Rattle.text_lines.specs.declared.Came.{Came}
+use Rattle.text_front.specs.declared.Came.{Came}
 use Rattle.text_lines.specs.declared.Found.{Found}
 use Rattle.text_lines.specs.declared.Found.the-variants as Found
-use Rattle.text_lines.specs.Cut.{cut, between}
-use Rattle.text_lines.specs.Turns.{AtFront, More, FirstLine, NoLine, Told, Turned}
+use Rattle.text_cut.specs.Cut.{cut, between}
+use Rattle.text_front.specs.Front.{AtFront, More}
+use Rattle.text_lines.specs.Turns.{FirstLine, NoLine, Told, Turned}
 
 module _ (b : List ℕ) (at end : ℕ) (window : at ≤ end) (inside : end ≤ length b) where
   pub between-length : length (between b at end) ≡ end - at

@@ -1,40 +1,12 @@
 -- CONTRACTS. What a turn of the reading loop does with the unread bytes. Assumes nothing.
-use Prim.Native.Nat.{ℕ, _+_, _-_, _≤_, _<_}
+use Prim.Native.Nat.{ℕ, _≤_, _<_}
 use mathlib.Core.Path.{_≡_}
 use mathlib.Core.List.{List}
 use lib.ListN.{length, take, drop}
-use Rattle.text_lines.specs.declared.Came.{Came}
 use Rattle.text_lines.specs.declared.Turn.{Turn}
 use Rattle.text_lines.specs.declared.Found.{Found}
 use Rattle.text_lines.specs.declared.Found.the-variants as Found
-use Rattle.text_lines.specs.Cut.{cut, between}
-
--- how many bytes are looked at together
-abbrev pub near : ℕ
-near = 16
-
--- no LF stands among the k bytes of b from `at` on
-pub record Free (b : List ℕ) (at k : ℕ) : Type 0 where
-  pub on : (e : ℕ) → at + k ≤ e → e ≤ length b → cut (between b at e) ≡ k + cut (between b (at + k) e)
-
--- the first line from `at` on ends where the one from i on does
-pub record Seeking (b : List ℕ) (at end i : ℕ) : Type 0 where
-  pub ahead : at ≤ i
-  pub within : i ≤ end
-  pub left : at + cut (between b at end) ≡ i + cut (between b i end)
-
--- the bytes of b from `at` up to `end` are the first r of b′
-pub record AtFront (b : List ℕ) (at end : ℕ) (b′ : List ℕ) (r : ℕ) : Type 0 where
-  pub count : r ≡ end - at
-  pub moved : take r b′ ≡ between b at end
-  pub same : length b′ ≡ length b
-
--- n bytes stood in b, and then came .n in b′: those n stay
-pub record More (b : List ℕ) (n : ℕ) (b′ : List ℕ) (r : Came) : Type 0 where
-  pub least : n ≤ r .n
-  pub most : r .n ≤ length b
-  pub kept : take n b′ ≡ take n b
-  pub same : length b′ ≡ length b
+use Rattle.text_cut.specs.Cut.{cut, between}
 
 -- l is the first line of u, and v the bytes behind it
 pub record FirstLine (u l v : List ℕ) : Type 0 where

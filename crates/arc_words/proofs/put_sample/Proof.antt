@@ -4,7 +4,7 @@ use native.Mathlib.Omega.{arith}
 use lib.ListN.{length-set}
 use Rattle.floats.specs.Numbers.{bits}
 use Rattle.arc_words.specs.Words.{sampleWord}
-use Rattle.arc_words.proofs.Words.{two-upto}
+use Rattle.arc_words.specs.WordLaws.{two-upto}
 use borrow.Author.Needs.{needs}
 use Rattle.arc_words.proofs.put_sample.Statement.{statement}
 use Rattle.arc_words.proofs.put_sample.Tie as tie

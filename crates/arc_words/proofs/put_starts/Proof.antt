@@ -5,7 +5,7 @@ use Rattle.floats.specs.Fill.{Filling, filling-none, filling-more}
 use Rattle.layout.specs.Layout.{axisCodes}
 use Rattle.row_cells.specs.Row.{shown}
 use Rattle.arc_words.specs.Words.{startOf}
-use Rattle.arc_words.proofs.Words.{filling-whole}
+use Rattle.arc_words.specs.WordLaws.{filling-whole}
 use borrow.Author.Needs.{needs}
 use Rattle.arc_words.proofs.put_starts.Statement.{statement}
 use Rattle.arc_words.proofs.put_starts.Tie as tie

@@ -3,7 +3,7 @@ use mathlib.Core.Path.{_≡_, refl}
 use Prim.Native.Nat.{_≤_, _-_}
 use native.Mathlib.Omega.{arith}
 use native.Mathlib.Numerals.{add-one}
-use Rattle.bspline_boor.specs.Climb.{Climbed}
+use Rattle.bspline_raise.specs.Climb.{Climbed}
 use Rattle.bspline_boor.proofs.Climbing.{climbed-none, climbed-more}
 use borrow.Author.Needs.{needs}
 use Rattle.bspline_boor.proofs.climb_up.Statement.{statement}

@@ -5,7 +5,7 @@ use native.Mathlib.Omega.{arith}
 use lib.ListN.{length-set}
 use lib.Ieee.{Float}
 use Rattle.floats.specs.Numbers.{at}
-use Rattle.bspline_boor.proofs.Climbing.{four-put}
+use Rattle.bspline_raise.specs.Fours.{four-put}
 use borrow.Author.Needs.{needs}
 use Rattle.bspline_boor.proofs.load_four.Statement.{statement}
 use Rattle.bspline_boor.proofs.load_four.Tie as tie

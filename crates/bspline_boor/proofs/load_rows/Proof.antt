@@ -5,7 +5,7 @@ use native.Mathlib.Omega.{arith}
 use native.Mathlib.Nat.{zero-mul}
 use lib.ListN.{length}
 use Rattle.bspline_tables.specs.RowLaws.{within}
-use Rattle.bspline_boor.specs.Climb.{Loaded}
+use Rattle.bspline_raise.specs.Climb.{Loaded}
 use Rattle.bspline_boor.proofs.Climbing.{loaded-none, loaded-more, loaded-end}
 use borrow.Author.Needs.{needs}
 use Rattle.bspline_boor.proofs.load_rows.Statement.{statement}

@@ -5,7 +5,7 @@ use native.Mathlib.Omega.{arith}
 use native.Mathlib.Nat.{zero-mul}
 use Rattle.bspline_tables.specs.Basis.{share}
 use Rattle.bspline_tables.specs.RowLaws.{within}
-use Rattle.bspline_boor.specs.Climb.{Level}
+use Rattle.bspline_raise.specs.Climb.{Level}
 use Rattle.bspline_boor.proofs.Climbing.{level-none, level-more, level-end}
 use borrow.Author.Needs.{needs}
 use Rattle.bspline_boor.proofs.raise_rows.Statement.{statement}

@@ -9,9 +9,9 @@ use Rattle.layout.specs.Layout.{rowWords}
 use Rattle.call_reply.specs.Replies.{plain, tooFew, doneReply, untouched}
 use Rattle.call_reply.specs.ReplyLaws.{answers}
 use Rattle.saved_state.specs.StateLaws.{good}
-use Rattle.call_close.specs.Close.{closeState}
+use Rattle.call_answer.specs.Close.{closeState}
 use Rattle.saved_state.specs.Checked.{saved-ok}
-use Rattle.call_close.proofs.Calls.{close-turned-is, close-none-is, close-few-is, close-done-is, no-rows}
+use Rattle.call_answer.specs.CloseLaws.{close-turned-is, close-none-is, close-few-is, close-done-is, no-rows}
 use Rattle.spline_put.specs.EmittedLaws.{room-left, room-short, put-refused, put-written}
 use borrow.Author.Needs.{needs}
 use Rattle.call_close.proofs.close.Statement.{statement}

@@ -1,5 +1,6 @@
 -- `csv_run::close_run` meets its contract. Assumes nothing.
-use Rattle.csv_run.specs.StepLaws.{answer-room, close-fits, close-step}
+use Rattle.csv_spec.specs.FitLaws.{close-fits}
+use Rattle.csv_run.specs.StepLaws.{answer-room, close-step}
 use borrow.Author.Needs.{needs}
 use Rattle.csv_run.proofs.close_run.Statement.{statement}
 use Rattle.csv_run.proofs.close_run.Tie as tie

@@ -1,5 +1,6 @@
 -- `csv_run::push_row` meets its contract. Assumes nothing.
-use Rattle.csv_run.specs.StepLaws.{answer-room, push-fits, row-step}
+use Rattle.csv_spec.specs.FitLaws.{push-fits}
+use Rattle.csv_run.specs.StepLaws.{answer-room, row-step}
 use borrow.Author.Needs.{needs}
 use Rattle.csv_run.proofs.push_row.Statement.{statement}
 use Rattle.csv_run.proofs.push_row.Tie as tie

@@ -1,6 +1,6 @@
 -- `csv_write::pass_offsets` meets its contract. Assumes nothing.
 use mathlib.Core.Path.{sym, _∙_}
-use Rattle.csv_write.proofs.Writing.{skips-none, skips-offsets}
+use Rattle.csv_write.specs.Writing.{skips-none, skips-offsets}
 use borrow.Author.Needs.{needs}
 use Rattle.csv_write.proofs.pass_offsets.Statement.{statement}
 use Rattle.csv_write.proofs.pass_offsets.Tie as tie

@@ -1,6 +1,6 @@
 -- `csv_write::put_end` meets its contract. Assumes nothing.
 use Prim.Native.Nat.{_-_}
-use Rattle.csv_write.proofs.Writing.{unmarked, marked}
+use Rattle.csv_write.specs.Writing.{unmarked, marked}
 use borrow.Author.Needs.{needs}
 use Rattle.csv_write.proofs.put_end.Statement.{statement}
 use Rattle.csv_write.proofs.put_end.Tie as tie

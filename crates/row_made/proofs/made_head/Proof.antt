@@ -1,5 +1,5 @@
 -- `row_made::made_head` meets its contract. Assumes nothing.
-use Rattle.row_made.proofs.Making.{head-same}
+use Rattle.row_made.specs.Making.{head-same}
 use borrow.Author.Needs.{needs}
 use Rattle.row_made.proofs.made_head.Statement.{statement}
 use Rattle.row_made.proofs.made_head.Tie as tie

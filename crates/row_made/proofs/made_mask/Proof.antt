@@ -2,7 +2,7 @@
 use mathlib.Core.Path.{_∙_, ap}
 use Prim.Native.Nat.{ℕ}
 use lib.Bits.{bitAnd, bitOr}
-use Rattle.row_made.proofs.Making.{first-mask, later-mask}
+use Rattle.row_made.specs.Making.{first-mask, later-mask}
 use borrow.Author.Needs.{needs}
 use Rattle.row_made.proofs.made_mask.Statement.{statement}
 use Rattle.row_made.proofs.made_mask.Tie as tie

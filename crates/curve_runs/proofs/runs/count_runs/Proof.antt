@@ -1,7 +1,7 @@
 -- `curve_runs::runs::count_runs` meets its contract. Assumes nothing.
 use mathlib.Core.Path.{ap, _∙_}
 use Rattle.curve_walk.specs.declared.Shape.{Shape}
-use Rattle.curve_runs.specs.Runs.{shapeOf}
+use Rattle.curve_drawing.specs.Runs.{shapeOf}
 use Rattle.curve_runs.proofs.Running.{ready-as, fresh-of, spline-spans, spline-counted, empty-counted, fit-segments, fit-counted}
 use Rattle.curve_runs.proofs.Recalling.{spline-remembers, empty-remembers, fit-remembers}
 use borrow.Author.Needs.{needs}

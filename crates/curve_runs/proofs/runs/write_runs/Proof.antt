@@ -7,7 +7,7 @@ use lib.Ieee.{Float}
 use Rattle.floats.specs.Lists.{spliced}
 use Rattle.curve_walk.specs.declared.Shape.{Shape}
 use Rattle.curve_walk.specs.Walks.{encode}
-use Rattle.curve_runs.specs.Runs.{shapeOf}
+use Rattle.curve_drawing.specs.Runs.{shapeOf}
 use Rattle.curve_runs.proofs.Running.{ready-as, spline-spans, spline-points, empty-written, fit-segments, fit-points}
 use Rattle.curve_runs.proofs.Recalling.{spline-recalls, fit-recalls}
 use borrow.Author.Needs.{needs}

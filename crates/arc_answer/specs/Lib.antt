@@ -1,0 +1,2 @@
+pub mod Arc
+pub mod Samples

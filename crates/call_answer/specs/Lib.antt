@@ -1,0 +1,4 @@
+pub mod Answer
+pub mod Push
+pub mod Close
+pub mod CloseLaws

@@ -1,0 +1,1 @@
+// What a push and a close answer, as definitions alone.

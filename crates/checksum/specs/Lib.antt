@@ -1,0 +1,3 @@
+pub mod Checksum
+pub mod Table
+pub mod Pieces

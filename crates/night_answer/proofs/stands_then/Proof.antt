@@ -1,0 +1,16 @@
+-- `night_answer::stands_then` meets its contract. Assumes nothing.
+use Rattle.night_answer.proofs.Hearing.{left-short, left-close, stays-refused}
+use Rattle.night_answer.proofs.stands_then.Statement.{statement}
+use Rattle.night_answer.proofs.stands_then.Tie as tie
+
+returns : tie.Need-returns
+returns c = left-short _ _ (c .if1 .taken)
+
+returns-2 : tie.Need-returns-2
+returns-2 c = left-close _ _ (c .before .if1 .left) (c .if2 .taken)
+
+returns-3 : tie.Need-returns-3
+returns-3 c = stays-refused _ _ (c .before .if1 .left) (c .if2 .left)
+
+pub stands-then-spec : {M : Type 1} → statement M
+stands-then-spec = tie.close (tie.spec returns returns-2 returns-3)

@@ -1,0 +1,4 @@
+pub mod Names
+pub mod Tolerances
+pub mod Fields
+pub mod FieldLaws

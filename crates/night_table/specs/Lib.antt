@@ -1,0 +1,3 @@
+pub mod Table
+pub mod Back
+pub mod Lines

@@ -1,0 +1,105 @@
+-- CONTRACTS. A whole try: its start, its turns from the first to the last, and its end. Assumes nothing.
+use Prim.Native.Nat.{ℕ, _+_, _-_, _≤_}
+use mathlib.Core.Logic.{_⊎_}
+use mathlib.Core.Path.{_≡_}
+use mathlib.Core.Bool.{cond}
+use mathlib.Core.List.{List}
+use lib.Dec.{eqb}
+use Rattle.text_lines.specs.declared.Found.{Found}
+use Rattle.text_lines.specs.declared.Found.the-variants as Found
+use Rattle.text_lines.specs.declared.Turn.{Turn}
+use Rattle.text_cut.specs.Cut.{between}
+use Rattle.csv_status.specs.Status.{goesOn}
+use Rattle.night_answer.specs.declared.Ticket.{Ticket}
+use Rattle.night_answer.specs.declared.Course.{Course}
+use Rattle.night_answer.specs.declared.TryRun.{TryRun}
+use Rattle.night_answer.specs.Answer.{goes}
+use Rattle.night_answer.specs.Answers.{Sound}
+use Rattle.night_told.specs.Tellings.{StartTold}
+use Rattle.night_reading.specs.declared.Next.{Next}
+use Rattle.night_reading.specs.declared.Reading.{Reading}
+use Rattle.night_reading.specs.declared.Tried.{Tried}
+use Rattle.night_reading.specs.Reading.{kept, firstReading}
+use Rattle.night_reading.specs.Readings.{Ready, BehindIs, LastIs}
+use Rattle.night_spec.specs.Try.{Step, still, nightLine, nightEnd}
+use Rattle.night_calls.specs.Steps.{Slices, slices, standing, Stepped, tryRoom, listRoom}
+
+-- the bytes that the two buffers have room for: what may wait, and what a call adds to it
+abbrev pub outRoom : ℕ
+outRoom = tryRoom + kept
+
+abbrev pub listedsRoom : ℕ
+listedsRoom = listRoom + kept
+
+-- the unread bytes lie in the buffer, and what waits fits
+pub record Within (s : Reading) : Type 0 where
+  pub window : s .at ≤ s .end
+  pub inside : s .end ≤ kept
+  pub outs : s .run .out ≤ outRoom
+  pub lists : s .run .listed ≤ listedsRoom
+  pub sound : Sound (s .run)
+
+-- a turn's places lie in a buffer of n bytes
+pub record FoundIn (t : Turn) (n : ℕ) : Type 0 where
+  pub start : t .from ≤ t .at
+  pub window : t .at ≤ t .end
+  pub inside : t .end ≤ n
+
+-- what is done with what a turn found: lines are taken as long as the try goes on; the end of the input ends the try, and so does a line that
+-- fills the buffer
+abbrev pub lineDeed : Turn → TryRun → List ℕ → Slices → Step
+lineDeed t run b m =
+    cond (eqb (run .course .stands) goes) (nightLine (run .ticket) (standing run m) (between b (t .from) (t .at))) (still (standing run m))
+
+abbrev pub endDeed : Turn → TryRun → Slices → Step
+endDeed t run m = nightEnd (run .ticket) (standing run m) (t .end - t .at)
+
+abbrev pub deedOf : Found → Turn → TryRun → List ℕ → Slices → Step
+deedOf Found.Line t run b m = lineDeed t run b m
+deedOf Found.More t run b m = still (standing run m)
+deedOf Found.Ended t run b m = endDeed t run m
+deedOf Found.Full t run b m = endDeed t run m
+deedOf Found.Failed t run b m = still (standing run m)
+
+pub record DoneBy (f : Found) (t : Turn) (run : TryRun) (b : List ℕ) (m : Slices) (r : TryRun) (m′ : Slices) : Type 0 where
+  pub step : Stepped (deedOf f t run b m) run m r m′
+
+-- what the turn found was done, and the reading stands behind it
+pub record Did (next : Next) (s : Reading) (b : List ℕ) (m : Slices) (r : Reading) (m′ : Slices) : Type 0 where
+  pub going : next .over ≡ goesOn
+  pub then : TryRun
+  pub deed : DoneBy (next .turn .found) (next .turn) (next .run) b m then m′
+  pub reading : BehindIs s (next .turn) then b r
+
+-- what waited could not be written, and nothing was done
+pub record Stopped (next : Next) (s : Reading) (m : Slices) (r : Reading) (m′ : Slices) : Type 0 where
+  pub over : next .over ≡ goesOn → ⊥
+  pub reading : r ≡ record { at = s .at; end = s .end; run = next .run; over = next .over; sum = s .sum; length = s .length }
+  pub memory : m′ ≡ m
+
+-- one turn
+pub record TurnIs (s : Reading) (b : List ℕ) (m : Slices) (r : Reading) (b′ : List ℕ) (m′ : Slices) : Type 0 where
+  pub next : Next
+  pub ready : Ready s b next b′
+  pub deed : Did next s b′ m r m′ ⊎ Stopped next s m r m′
+  pub within : Within r
+
+-- turns one after another, each from where the one before it went on
+pub data Turns (s₀ : Reading) (b₀ : List ℕ) (m₀ : Slices) : Reading → List ℕ → Slices → Type 0 where
+  none : Turns s₀ b₀ m₀ s₀ b₀ m₀
+  then : {s r : Reading} {b b′ : List ℕ} {m m′ : Slices} → Turns s₀ b₀ m₀ s b m → s .over ≡ goesOn → TurnIs s b m r b′ m′
+      → Turns s₀ b₀ m₀ r b′ m′
+
+pub record AllTurns (s₀ : Reading) (b₀ : List ℕ) (m₀ : Slices) (s : Reading) (b : List ℕ) (m : Slices) : Type 0 where
+  pub turns : Turns s₀ b₀ m₀ s b m
+  pub within : Within s
+
+-- a try was started and told, its turns were done one after another, and what waited was handed over
+pub record Ran (t : Ticket) (tolerance : ℕ) (b : List ℕ) (m : Slices) (r : Tried) (b′ : List ℕ) (m′ : Slices) : Type 0 where
+  pub course : Course
+  pub state : List ℕ
+  pub tally : List ℕ
+  pub began : StartTold t (m .state) (m .tally) tolerance state tally course
+  pub reading : Reading
+  pub turned : AllTurns (firstReading t course) b (slices state (m .store) (m .rows) tally (m .out) (m .listed)) reading b′ m′
+  pub last : LastIs reading r

@@ -1,0 +1,93 @@
+-- DEFINITIONS. The box of a picture's points, and how it is fitted into the area of the picture. Assumes nothing.
+use Prim.Native.Nat.{ℕ, _+_, _-_, _*_, _/_, _≤_, _<_}
+use mathlib.Core.Bool.{Bool, true, false, cond}
+use lib.Dec.{ltb}
+use Rattle.picture_fit.specs.declared.Span.{Span}
+use Rattle.picture_fit.specs.declared.Scale.{Scale}
+use Rattle.picture_fit.specs.declared.Fit.{Fit}
+
+-- the picture's width in its own units, and the area of the path in it: how wide and high, and where its middle and its lower edge are
+abbrev pub wide : ℕ
+wide = 1000
+
+abbrev pub areaWide : ℕ
+areaWide = 940
+
+abbrev pub areaHigh : ℕ
+areaHigh = 820
+
+abbrev pub middle : ℕ
+middle = 440
+
+abbrev pub lowerEdge : ℕ
+lowerEdge = 850
+
+-- the widest box, in millionths of a millimetre
+abbrev pub widest : ℕ
+widest = 2000000000000000
+
+-- a millimetre in millionths, a unit in their millionths, and that in parts 10^-4
+abbrev pub millimetre : ℕ
+millimetre = 1000000
+
+abbrev pub unit : ℕ
+unit = 1000000000000
+
+abbrev pub fineUnit : ℕ
+fineUnit = 10000000000000000
+
+-- ---- a span of places: it has none where `to` is below `from`
+unfoldable pub lowerOf : ℕ → ℕ → ℕ
+lowerOf a b = cond (ltb b a) b a
+
+unfoldable pub higherOf : ℕ → ℕ → ℕ
+higherOf a b = cond (ltb a b) b a
+
+abbrev pub noSpan : Span
+noSpan = record { from = widest; to = 0 }
+
+abbrev pub widened : Span → ℕ → Span
+widened s p = record { from = lowerOf (s .from) p; to = higherOf (s .to) p }
+
+abbrev pub isEmpty : Span → Bool
+isEmpty s = ltb (s .to) (s .from)
+
+unfoldable pub extent : Span → ℕ
+extent s = cond (isEmpty s) 0 (lowerOf (s .to - s .from) widest)
+
+-- ---- a smaller box is not made larger than this one would be: what draws a picture has its limits
+abbrev pub least : ℕ
+least = 100
+
+unfoldable pub atLeast : ℕ → ℕ
+atLeast w = cond (ltb w least) least w
+
+-- the scale at which w millionths of a millimetre are `units` wide, rounded down: in millionths of a unit a millimetre, or for
+-- boxes of a millimetre and more in parts 10^-4 of that
+unfoldable pub scaleBy : ℕ → ℕ → Scale
+scaleBy units w =
+    let v = atLeast w in
+    cond (ltb v millimetre) (record { millionths = units * unit / v; fine = false }) (record { millionths = units * fineUnit / v; fine = true })
+
+-- how many units v is drawn over, where w is drawn over `units`
+unfoldable pub drawn : ℕ → ℕ → ℕ → ℕ
+drawn units v w = lowerOf (units * v / atLeast w) areaWide
+
+-- the fit of a box of w by h: as high as the area, or as wide, in its middle
+abbrev pub tallFit : ℕ → ℕ → Fit
+tallFit w h = record { scale = scaleBy areaHigh h; left = (wide - drawn areaHigh w h) / 2; base = lowerEdge }
+
+abbrev pub wideFit : ℕ → ℕ → Fit
+wideFit w h = record { scale = scaleBy areaWide w; left = (wide - drawn areaWide w w) / 2; base = middle + drawn areaWide h w / 2 }
+
+unfoldable pub fitOf : ℕ → ℕ → Fit
+fitOf w h = cond (ltb (w * areaHigh) (h * areaWide)) (tallFit w h) (wideFit w h)
+
+-- ---- numbers that have a text
+abbrev pub mostScale : ℕ
+mostScale = 1000000000000000
+
+pub record Small (f : Fit) : Type 0 where
+  pub scale : f .scale .millionths < mostScale
+  pub left : f .left ≤ wide
+  pub base : f .base ≤ wide

@@ -1,0 +1,2 @@
+pub mod PathText
+pub mod PathLaws

@@ -1,0 +1,1 @@
+// What a held spline comes to, as definitions alone.

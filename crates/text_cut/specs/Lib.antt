@@ -1,0 +1,3 @@
+pub mod Cut
+pub mod Seek
+pub mod CutLaws
