@@ -1,5 +1,5 @@
 -- LAWS. Clean texts: lines of such fields are parted as they were joined. Assumes nothing.
-use Prim.Native.Nat.{ℕ, zero, suc, _+_, _-_, _<_}
+use Prim.Native.Nat.{ℕ, zero, suc, _+_, _-_, _≤_, _<_}
 use mathlib.Core.Path.{_≡_, refl, sym, ap, _∙_, subst}
 use mathlib.Core.Bool.{Bool, true, false, cond, not}
 use mathlib.Core.List.{List, [], _∷_, _++_, append-nil}
@@ -28,21 +28,16 @@ pub clean-append : (s t : List ℕ) → T (clean s) → T (clean t) → T (clean
 clean-append [] t a b = b
 clean-append (c ∷ s) t a b = and-i (cleanByte c) (clean (s ++ t)) (and-l (cleanByte c) (clean s) a) (clean-append s t (and-r (cleanByte c) (clean s) a) b)
 
+-- a byte above the control ones that is no quote and no comma
+pub clean-above : (c : ℕ) → 32 ≤ c → (c ≡ 34 → ⊥) → (c ≡ comma → ⊥) → T (cleanByte c)
+clean-above c l q k = rw (ne-eqb c 34 q, ne-eqb c comma k, ne-eqb c 13 (λ (z : c ≡ 13). omega arith), ne-eqb c 10 (λ (z : c ≡ 10). omega arith)) tt
+
 digit-clean : (c : ℕ) → T (isDigit c) → T (cleanByte c)
 digit-clean c h = go (ltb c 48) refl h
   where
     go : (b : Bool) → ltb c 48 ≡ b → T (cond b false (ltb c 58)) → T (cleanByte c)
     go true e h = absurd h
-    go false e h =
-        let l = ltb-false c 48 e in
-        rw (
-          ne-eqb c 34 (λ (z : c ≡ 34). omega arith),
-          ne-eqb c comma (λ (z : c ≡ 44). omega arith),
-          ne-eqb c 13 (λ (z : c ≡ 13). omega arith),
-          ne-eqb c 10
-              (λ (z : c ≡ 10). omega arith),
-        )
-        tt
+    go false e h = let l = ltb-false c 48 e in clean-above c (omega arith) (λ (z : c ≡ 34). omega arith) (λ (z : c ≡ comma). omega arith)
 
 pub digits-clean : (t : List ℕ) → T (allDigits t) → T (clean t)
 digits-clean [] h = tt

@@ -181,7 +181,7 @@ row-line r =
     ∙ ap (λ (l : List ℕ). joined (headFields r ++ cellTexts r columnCount) ++ (comma ∷ l)) (append-nil (markText r)))
 
 -- ---- what is written has no quote, no comma, CR or LF in a field, and as many fields as the header
-figures-digits : (k v : ℕ) → T (allDigits (figures k v))
+pub figures-digits : (k v : ℕ) → T (allDigits (figures k v))
 unfolding figures
 figures-digits zero v = tt
 figures-digits (suc k) v = and-i (isDigit (48 + v / 10 ^ k % 10)) (allDigits (figures k v)) (subst T (sym (figure-in v k)) tt) (figures-digits k v)

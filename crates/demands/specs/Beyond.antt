@@ -1,27 +1,22 @@
 -- LAWS. 2.2: places beyond the rows stay; 3.15: closing again writes nothing. Assumes nothing.
 use Prim.Native.Nat.{ℕ, _≤_}
 use mathlib.Core.Path.{_≡_, sym, _∙_, ap, subst}
-use mathlib.Core.Bool.{true}
 use mathlib.Core.List.{List, []}
 use native.Mathlib.Omega.{arith}
 use lib.ListN.{length}
-use lib.Dec.{eqb}
-use borrow.Author.Tests.{eqb-true, eq-eqb}
 use Rattle.floats.specs.Lists.{flatten, spliced}
 use Rattle.floats.specs.Splice.{spliced-none}
-use Rattle.floats.specs.Truth.{by-bit, cond-t}
-use Rattle.saved_state.specs.State.{stateOk, held, savedCheck}
+use Rattle.saved_state.specs.State.{savedCheck}
 use Rattle.call_reply.specs.Replies.{After}
-use Rattle.push_start.specs.OpenedLaws.{held-forgotten}
 use Rattle.push_check.specs.Refusal.{pushCheck}
 use Rattle.call_answer.specs.Push.{pushRows, pushDone, pushSpec}
 use Rattle.call_answer.specs.Close.{closeRows, closeState, closeSpec}
 use Rattle.demand_calls.specs.Places.{places, Filled}
 use Rattle.demand_state.specs.Accepted.{Saved, saved}
+use Rattle.demand_close.specs.Again.{close-saved, again-rows}
 use Rattle.demands.specs.Answers.{closeDone, push-done, push-accepted, close-done, close-accepted}
 use Rattle.demands.specs.RowLengths.{pushRows-long, closeRows-long}
 use Rattle.demand_calls.specs.PlaceLaws.{filled}
-use Rattle.demand_state.specs.Keeps.{forgotten-saved, nothing-saved}
 
 -- ---- 2.2: the rows, then what stood there
 pub push-places : (st store rows r : List ℕ) → pushSpec st store rows r .reply .code ≡ 0
@@ -41,19 +36,6 @@ close-places st store rows z =
     (filled rows (closeRows st store) (closeRows-long st store))
 
 -- ---- 3.15: closing again writes nothing
-pub close-saved : (st store : List ℕ) → stateOk st ≡ true → savedCheck (closeState st) store ≡ 0
-unfolding closeState
-close-saved st store ok =
-    by-bit (eqb (held st) 0) (λ b. rw b (nothing-saved st store ok (eqb-true (held st) 0 b))) (λ b. rw b (forgotten-saved st store ok))
-
-none-left : (st store : List ℕ) → Saved st store → held (closeState st) ≡ 0
-unfolding closeState
-none-left st store p = by-bit (eqb (held st) 0) (λ b. rw b (eqb-true _ 0 b)) (λ b. rw b (held-forgotten st (p .words)))
-
-again-rows : (st store : List ℕ) → Saved st store → closeRows (closeState st) store ≡ []
-unfolding closeRows
-again-rows st store p = cond-t [] _ (eq-eqb _ 0 (none-left st store p))
-
 pub close-again : (st store rows lent : List ℕ) → closeSpec st store rows .reply .code ≡ 0
     → (closeSpec (closeState st) store lent .reply .code ≡ 0) × (closeSpec (closeState st) store lent .reply .count ≡ 0) ×
     (closeSpec (closeState st) store lent .rows ≡ lent)

@@ -13,7 +13,7 @@ use Rattle.demand_calls.specs.Runs.{Call, pushing, seeding, closing, accepts, r
 use Rattle.demand_state.specs.Accepted.{saved, Pushed, pushed}
 use Rattle.demand_state.specs.Keeps.{push-saved}
 use Rattle.demands.specs.Answers.{closeDone, push-done, push-accepted, close-done, close-accepted, seed-left}
-use Rattle.demands.specs.Beyond.{close-saved}
+use Rattle.demand_close.specs.Again.{close-saved}
 use Rattle.demands.specs.Demands.{answer}
 use Rattle.demands.specs.NoTrace.{refused-leaves}
 use Rattle.call_reply.specs.Replies.{After, AfterState, plain}

@@ -12,6 +12,7 @@ use night_command::Asked;
 use night_command::Command;
 use night_command::MOST_FILES;
 use night_command::command_of;
+use night_print::done_of;
 use night_print::print_report;
 use night_reading::Files;
 use night_reading::Tried;
@@ -270,14 +271,16 @@ fn whole_night(command: Command) {
     }
     let night = began.night;
     let place = all_tries(night, &mut marks, &mut tries, rounds_of(command.files));
-    night_steps::show_end(command.files);
-    let told = print_report(night.tries, began.from, command.files, &marks, &tries);
+    night_steps::show_end(done_of(command, &marks, &tries), command.files);
+    let told = print_report(night.tries, began.from, command, &marks, &tries);
+    if !told.ok {
+        complain_plainly(
+            b"night: standard output could not be written, or tries.csv not be read\n",
+        );
+    }
     if place.faults {
         status(false, false);
         return;
-    }
-    if !told.ok {
-        complain_plainly(b"night: standard output could not be written\n");
     }
     status(told.ok, told.all);
 }

@@ -36,13 +36,17 @@ module _ (kind code : ℕ) where
   unfolding standsThen
   left-short e = rw (eq-eqb code tooFewPlaces e)
 
-  pub left-close : (code ≡ tooFewPlaces → ⊥) → kind ≡ kClose → left ≡ standsThen kind code
+  pub open-text : (code ≡ tooFewPlaces → ⊥) → code ≡ badText → refused ≡ standsThen kind code
   unfolding standsThen
-  left-close d e = rw (ne-eqb code tooFewPlaces d, eq-eqb kind kClose e)
+  open-text d b = rw (ne-eqb code tooFewPlaces d, eq-eqb code badText b)
 
-  pub stays-refused : (code ≡ tooFewPlaces → ⊥) → (kind ≡ kClose → ⊥) → refused ≡ standsThen kind code
+  pub left-close : (code ≡ tooFewPlaces → ⊥) → (code ≡ badText → ⊥) → kind ≡ kClose → left ≡ standsThen kind code
   unfolding standsThen
-  stays-refused d e = rw (ne-eqb code tooFewPlaces d, ne-eqb kind kClose e)
+  left-close d b e = rw (ne-eqb code tooFewPlaces d, ne-eqb code badText b, eq-eqb kind kClose e)
+
+  pub stays-refused : (code ≡ tooFewPlaces → ⊥) → (code ≡ badText → ⊥) → (kind ≡ kClose → ⊥) → refused ≡ standsThen kind code
+  unfolding standsThen
+  stays-refused d b e = rw (ne-eqb code tooFewPlaces d, ne-eqb code badText b, ne-eqb kind kClose e)
 
 pub ends-closed : (kind stands : ℕ) → kind ≡ kClose → closed ≡ standsOn kind stands
 unfolding standsOn

@@ -43,9 +43,10 @@ heard r rows = cond (eqb (r .code) 0 && not (rowsWritable rows (r .count))) (pla
 abbrev pub orFirst : ℕ → ℕ → ℕ → ℕ
 orFirst refusal was now = cond (eqb refusal 0) now was
 
--- 11.6: behind a refusal the try is closed; where all the room was too little, or the close itself was refused, it is left without a close
+-- 11.6: behind a refusal the try is closed, and behind a close whose rows have no text once more; where all the room was too little, or the
+-- flattener refused the close, it is left without a close
 unfoldable pub standsThen : ℕ → ℕ → ℕ
-standsThen kind code = cond (eqb code tooFewPlaces || eqb kind kClose) left refused
+standsThen kind code = cond (eqb code tooFewPlaces || (not (eqb code badText) && eqb kind kClose)) left refused
 
 unfoldable pub turnedDown : Course → ℕ → ℕ → ℕ → Course
 turnedDown c kind code line =

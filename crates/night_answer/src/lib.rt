@@ -64,6 +64,9 @@ fn stands_then(kind: u64, code: u64) -> u64
     if code == TOO_FEW_PLACES {
         return LEFT;
     }
+    if code == BAD_TEXT {
+        return REFUSED;
+    }
     if kind == K_CLOSE {
         return LEFT;
     }

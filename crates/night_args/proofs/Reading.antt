@@ -1,22 +1,19 @@
 -- What the functions on the bytes of arguments do, step by step. Assumes nothing.
 use Prim.Native.Nat.{ℕ, zero, suc, _+_, _-_, _≤_, _<_}
 use mathlib.Core.Path.{_≡_, refl, sym, ap, _∙_, subst}
-use mathlib.Core.Bool.{Bool, true, false, not, _&&_, false≢true}
+use mathlib.Core.Bool.{Bool, true, false, not, _&&_}
 use mathlib.Core.List.{List, []}
 use native.Mathlib.Omega.{arith}
-use lib.Dec.{T, eqb, leb}
+use lib.Dec.{eqb, leb}
 use lib.Ieee.{Float, binary64, lt, ofBits}
 use lib.ListN.{length, drop, getD}
-use lib.Ieee.Bits.{is-true}
 use borrow.Author.Tests.{eq-eqb, ne-eqb, le-leb, lt-leb, leb-true, lt-ltb, le-ltb}
 use Rattle.floats.specs.Lists.{all}
-use Rattle.floats.specs.Truth.{and-f, and-i, and-left, cond-t, cond-f, all-more, all-fails, by-bit}
+use Rattle.floats.specs.Truth.{and-f, and-i, and-left, cond-t, cond-f, all-more, all-fails}
 use Rattle.floats.specs.Numbers.{bits}
 use Rattle.csv_fields.specs.declared.Number.{Number}
 use Rattle.csv_fields.specs.declared.Number.the-variants as Number
 use Rattle.csv_fields.specs.Read.{number}
-use Rattle.csv_words.specs.Words.{same}
-use Rattle.csv_words.specs.Table.{same-is, same-self}
 use Rattle.csv_line.specs.LineText.{parted}
 use Rattle.csv_cells.specs.Taking.{reach}
 use Rattle.csv_cells.specs.Parts.{rest-behind, rest-none}
@@ -24,19 +21,6 @@ use Rattle.night_args.specs.Names.{byteStands, startUpto, slash, start, 
 use Rattle.night_args.specs.Tolerances.{mostTolerances, isTolerance, bitsOf, countOf}
 use Rattle.night_args.specs.Fields.{FieldFrom, fieldIs}
 use Rattle.night_args.specs.FieldLaws.{rest-next, from-none, from-more, field-is}
-
--- ---- the answer of a comparison is `same`
-pub is-same : (s t : List ℕ) (r : Bool) → (r ≡ true → s ≡ t) → (s ≡ t → r ≡ true) → r ≡ same s t
-is-same s t r f g = by-bit (same s t) (λ h. yes h) (λ h. no h)
-  where
-    yes : same s t ≡ true → r ≡ same s t
-    yes h = g (same-is s t (subst T (sym h) tt)) ∙ sym h
-
-    no : same s t ≡ false → r ≡ same s t
-    no h = by-bit r (λ w. absurd (false≢true (sym h ∙ told (f w)))) (λ w. w ∙ sym h)
-      where
-        told : s ≡ t → same s t ≡ true
-        told e = subst (λ (x : List ℕ). same s x ≡ true) e (is-true (same s s) (same-self s))
 
 -- ---- a byte that may stand
 pub low-stands : (b : ℕ) → b < 32 → false ≡ byteStands b

@@ -5,6 +5,7 @@ use night_args::end_from;
 use night_args::field_from;
 use night_args::may_stand;
 use night_args::name_of;
+use night_names::is_ours;
 ghost use Prim.Native.Nat.{_+_, _≤_, _<_};
 
 // At most so many files.
@@ -34,7 +35,7 @@ pub struct Reason {
 }
 
 // The reasons: no such form; no tolerances; DIR is empty or too long; too many files; a FILE's name may not stand; two have
-// the same NAME.
+// the same NAME; one has the name of something that a night writes.
 pub const BAD_FORM: u64 = 0;
 
 pub const BAD_TOLERANCES: u64 = 1;
@@ -46,6 +47,8 @@ pub const TOO_MANY: u64 = 3;
 pub const BAD_NAME: u64 = 4;
 
 pub const SAME_NAME: u64 = 5;
+
+pub const OUR_NAME: u64 = 6;
 
 // The options, and none.
 const NO_OPTION: u64 = 0;
@@ -88,7 +91,7 @@ fn is_whole(i: usize) -> bool {
     n > 0
 }
 
-// Whether argument i may be a FILE: it is no option, and it has a NAME.
+// Whether an argument is a FILE's: it is no option, and it has a NAME.
 fn names_file(path: &[u8]) -> bool {
     if path.len() == 0 {
         return false;
@@ -103,13 +106,30 @@ fn names_file(path: &[u8]) -> bool {
     name.from < name.upto
 }
 
+// Whether argument i may be a FILE.
 fn is_file(i: usize) -> bool {
     let mut text = io::buffer();
     let n = os::arg(i, &mut text);
     if os::errno() != 0 {
         return false;
     }
-    names_file(&text[..n])
+    if names_file(&text[..n]) {
+        return !is_ours(&text[..n]);
+    }
+    false
+}
+
+// Why it may not, where it may not.
+fn fault_of(i: usize) -> u64 {
+    let mut text = io::buffer();
+    let n = os::arg(i, &mut text);
+    if os::errno() != 0 {
+        return BAD_NAME;
+    }
+    if names_file(&text[..n]) {
+        return OUR_NAME;
+    }
+    BAD_NAME
 }
 
 // The first argument from `first` on, of `files`, that may be no FILE, or 0.
@@ -217,7 +237,7 @@ fn with_files(list: usize, tolerances: usize, dir: usize, files: usize) -> Asked
     }
     let bad = bad_file(FIRST, files);
     if bad != 0 {
-        return nothing(BAD_NAME, bad);
+        return nothing(fault_of(bad), bad);
     }
     let twin = twin_file(FIRST as u64, files as u64);
     if twin != 0 {

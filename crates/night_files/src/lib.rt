@@ -80,6 +80,15 @@ pub fn rename_in(dir: usize, from: &[u8], to: &[u8]) -> bool {
     os::rename(&old[..m], &new[..k]) == 0
 }
 
+// Removes a file of DIR.
+pub fn remove_in(dir: usize, name: &[u8]) -> bool {
+    let mut folder = io::buffer();
+    let n = os::arg(dir, &mut folder);
+    let mut path = [0u8; PATH_ROOM];
+    let m = put_path(&mut path, &folder[..n], name);
+    os::unlink(&path[..m]) == 0
+}
+
 // Makes DIR where it is not there; whether it can be used shows where a file in it is opened.
 pub fn make_dir(dir: usize) -> bool {
     let mut folder = io::buffer();

@@ -2,13 +2,18 @@
 use Prim.Native.Nat.{ℕ, _+_, _≤_}
 use mathlib.Core.Path.{_≡_, refl, sym, ap, _∙_, subst}
 use mathlib.Core.Bool.{Bool, true, false, cond, not, _&&_, _||_, false≢true}
-use mathlib.Core.List.{List, _++_, append-assoc}
+use mathlib.Core.List.{List, [], _++_, append-assoc}
 use mathlib.Core.Option.{Option, none, some, Option·getD}
 use native.Mathlib.Omega.{arith}
 use lib.Dec.{eqb}
 use lib.ListN.{length, take, length-append}
 use borrow.Author.Tests.{eq-eqb, ne-eqb}
 use Rattle.floats.specs.Lists.{isSome}
+use Rattle.floats.specs.Truth.{by-bit}
+use Rattle.call_reply.specs.declared.Reply.{Reply}
+use Rattle.call_reply.specs.Replies.{After, AfterState}
+use Rattle.call_answer.specs.Close.{closeSpec}
+use Rattle.tally_call.specs.Calls.{kClose}
 use Rattle.csv_figures.specs.Out.{Wrote}
 use Rattle.csv_words.specs.Words.{same}
 use Rattle.csv_line.specs.LineText.{crlf, header, headerOut, endOf}
@@ -19,14 +24,16 @@ use Rattle.csv_out.specs.SayLaws.{header-short, adds-none, adds-wrote}
 use Rattle.csv_status.specs.Status.{mayEnd}
 use Rattle.night_answer.specs.declared.Ticket.{Ticket}
 use Rattle.night_answer.specs.declared.TryRun.{TryRun}
-use Rattle.night_answer.specs.Answer.{goes, refused}
+use Rattle.night_answer.specs.Answer.{goes, heard, answered, ifTold, doneBy, standsOn}
 use Rattle.night_answer.specs.Answers.{Sound, withCourse}
-use Rattle.night_told.specs.Telling.{nextCourse}
+use Rattle.night_told.specs.Telling.{toldBy, nextCourse}
 use Rattle.night_told.specs.Tellings.{UnreadTold}
-use Rattle.night_spec.specs.Try.{Stand, still, unread, headed, onRow, onClose, onRead, onText, onEnd, nightLine, ends, closes, nightEnd}
+use Rattle.night_spec.specs.Try.{Stand, Step, still, andThen, called, unread, headed, onRow, onClose, onRead, onText, onEnd, nightLine, ends}
+use Rattle.night_spec.specs.Try.{isOpen, closes, shuts, nightEnd}
+use Rattle.night_spec.specs.TryLaws.{end-over}
 use Rattle.night_calls.specs.Steps.{Slices, slices, standing, Stepped, Room}
 use Rattle.night_calls.specs.StepLaws.{same-stand, step-as, nothing-done, unread-step}
-use Rattle.night_line.specs.Lines.{withOut, HeadTold, EndTold}
+use Rattle.night_line.specs.Lines.{withOut, HeadTold, EndTold, CloseRoom}
 
 -- ---- the cases of a line
 module _ (t : Ticket) (s : Stand) (text : List ℕ) where
@@ -126,10 +133,6 @@ module _ (t : Ticket) (s : Stand) (behind : ℕ) where
       go true false e = absurd (false≢true (sym e))
       go false y e = refl
 
-  end-over : (s .course .stands ≡ goes → ⊥) → ends t s behind ≡ still s
-  unfolding ends
-  end-over h = rw (ne-eqb (s .course .stands) goes h)
-
 pub ends-may : {run : TryRun} {behind : ℕ} {w : List ℕ} → mayEnd behind (run .course .physical) ≡ true → EndTold run behind w run w
 ends-may {run} {behind} {w} e =
     record {
@@ -163,13 +166,37 @@ ends-bad {run} {r} {behind} {w} {w′} e h u =
 
 -- ---- the close
 module _ (t : Ticket) (s : Stand) where
-  pub closes-open : (eqb (s .course .stands) goes || eqb (s .course .stands) refused) ≡ true → closes t s ≡ onClose t s
+  pub closes-open : isOpen (s .course .stands) ≡ true → closes t s ≡ onClose t s
   unfolding closes
   closes-open e = rw e
 
-  pub closes-shut : (eqb (s .course .stands) goes || eqb (s .course .stands) refused) ≡ false → closes t s ≡ still s
+  pub closes-shut : isOpen (s .course .stands) ≡ false → closes t s ≡ still s
   unfolding closes
   closes-shut e = rw e
+
+  -- one that leaves the try open added nothing
+  abbrev added : Step → Type 0
+  added d = isOpen (d .stand .course .stands) ≡ true → (d .out ≡ []) × (d .listed ≡ [])
+
+  closed-adds : added (onClose t s)
+  unfolding onClose called answered ifTold doneBy standsOn
+  closed-adds =
+      by-bit (eqb (told .reply .code) 0)
+      (λ a. by-bit (eqb (said .code) 0) (λ b. rw (a, b) (λ e. absurd (false≢true e))) (λ b. rw (a, b) (λ e. (refl, refl))))
+      (λ a. rw a (λ e. absurd (false≢true e)))
+    where
+      after : After
+      after = closeSpec (s .state) (s .store) (s .rows)
+
+      said : Reply
+      said = heard (after .reply) (after .rows)
+
+      told : AfterState
+      told = toldBy t (s .tally) kClose said (after .rows)
+
+  open-adds : added (closes t s)
+  unfolding closes
+  open-adds = by-bit (isOpen (s .course .stands)) (λ a. rw a closed-adds) (λ a. rw a (λ e. (refl, refl)))
 
 -- ---- one step behind another
 adds-then : {t u o o′ o″ : List ℕ} {n k r : ℕ} → Adds t o n o′ k → Adds u o′ k o″ r → Adds (t ++ u) o n o″ r
@@ -180,17 +207,45 @@ adds-then {t} {u} {o} {o′} {o″} {n} {k} {r} a b =
       same = b .same ∙ a .same;
     }
 
-pub end-step : (behind : ℕ) {run mid r : TryRun} {m m′ m″ : Slices} → Stepped (ends (run .ticket) (standing run m) behind) run m mid m′
-    → Stepped (closes (mid .ticket) (standing mid m′)) mid m′ r m″ → Stepped (nightEnd (run .ticket) (standing run m) behind) run m r m″
-unfolding nightEnd
-end-step behind {run} {mid} {r} {m} {m′} {m″} a b =
-    let d = ends (run .ticket) (standing run m) behind in
-    let e : closes (run .ticket) (d .stand) ≡ closes (mid .ticket) (standing mid m′) =
-    ap (λ (x : Ticket). closes x (d .stand)) (sym (a .ticket)) ∙ ap (closes (mid .ticket)) (sym (a .stand)) in
-    let c : Stepped (closes (run .ticket) (d .stand)) mid m′ r m″ = step-as e b in
+-- a step f of what stands behind a step d
+then-step : (f : Ticket → Stand → Step) {d : Step} {run mid r : TryRun} {m m′ m″ : Slices} → Stepped d run m mid m′
+    → Stepped (f (mid .ticket) (standing mid m′)) mid m′ r m″ → Stepped (andThen d (f (run .ticket) (d .stand))) run m r m″
+then-step f {d} {run} {mid} {r} {m} {m′} {m″} a b =
+    let e : f (run .ticket) (d .stand) ≡ f (mid .ticket) (standing mid m′) =
+    ap (λ (x : Ticket). f x (d .stand)) (sym (a .ticket)) ∙ ap (f (mid .ticket)) (sym (a .stand)) in
+    let c : Stepped (f (run .ticket) (d .stand)) mid m′ r m″ = step-as e b in
     record { stand = c .stand; ticket = c .ticket ∙ a .ticket; out = adds-then (a .out) (c .out); listed = adds-then (a .listed) (c .listed); sound = c .sound }
+
+pub shut-step : {run mid r : TryRun} {m m′ m″ : Slices} → Stepped (closes (run .ticket) (standing run m)) run m mid m′
+    → Stepped (closes (mid .ticket) (standing mid m′)) mid m′ r m″ → Stepped (shuts (run .ticket) (standing run m)) run m r m″
+unfolding shuts
+shut-step a b = then-step closes a b
+
+pub end-step : (behind : ℕ) {run mid r : TryRun} {m m′ m″ : Slices} → Stepped (ends (run .ticket) (standing run m) behind) run m mid m′
+    → Stepped (shuts (mid .ticket) (standing mid m′)) mid m′ r m″ → Stepped (nightEnd (run .ticket) (standing run m) behind) run m r m″
+unfolding nightEnd
+end-step behind a b = then-step shuts a b
 
 -- what waits is as much, so there is as much room
 pub same-room : {run r : TryRun} {rows o l : ℕ} → Room run rows o l → r .out ≡ run .out → r .listed ≡ run .listed → Sound r → Room r rows o l
 same-room {run} {r} {rows} {o} {l} w a b s =
     record { places = w .places; outs = omega (arith, w .outs, a); lists = omega (arith, w .lists, b); sound = s }
+
+pub first-room : {run : TryRun} {rows o l : ℕ} → Room run rows o l → CloseRoom run rows o l
+first-room w = record { sound = w .sound; room = λ e. w }
+
+-- and there is where a close left the try open
+pub again-room : {run r : TryRun} {m m′ : Slices} → Room run (length (m .rows)) (length (m .out)) (length (m .listed))
+    → Stepped (closes (run .ticket) (standing run m)) run m r m′ → length (m′ .rows) ≡ length (m .rows)
+    → CloseRoom r (length (m′ .rows)) (length (m′ .out)) (length (m′ .listed))
+again-room {run} {r} {m} {m′} w c n = record { sound = c .sound; room = room }
+  where
+    room : isOpen (r .course .stands) ≡ true → Room r (length (m′ .rows)) (length (m′ .out)) (length (m′ .listed))
+    room e =
+        let none = open-adds (run .ticket) (standing run m) (ap (λ (x : Stand). isOpen (x .course .stands)) (sym (c .stand)) ∙ e) in
+        record {
+          places = n ∙ w .places;
+          outs = omega (arith, w .outs, c .out .count, c .out .same, ap length (none .0));
+          lists = omega (arith, w .lists, c .listed .count, c .listed .same, ap length (none .1));
+          sound = c .sound;
+        }

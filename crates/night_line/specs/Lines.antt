@@ -1,11 +1,12 @@
--- CONTRACTS. The header, and the end of the input, whatever the rest of the memory holds. Assumes nothing.
+-- CONTRACTS. The header, and the end of the input, whatever the rest of the memory holds; the room for a close. Assumes nothing.
 use Prim.Native.Nat.{ℕ}
 use mathlib.Core.Path.{_≡_}
+use mathlib.Core.Bool.{true}
 use mathlib.Core.List.{List}
 use Rattle.night_answer.specs.declared.TryRun.{TryRun}
 use Rattle.night_answer.specs.Answers.{Sound}
-use Rattle.night_spec.specs.Try.{onText, ends}
-use Rattle.night_calls.specs.Steps.{slices, standing, Stepped}
+use Rattle.night_spec.specs.Try.{onText, ends, isOpen}
+use Rattle.night_calls.specs.Steps.{slices, standing, Stepped, Room}
 
 -- the try with n bytes of rows that wait
 abbrev pub withOut : TryRun → ℕ → TryRun
@@ -24,3 +25,8 @@ pub record EndTold (run : TryRun) (behind : ℕ) (w : List ℕ) (r : TryRun) (w�
   pub step : (st store rows o l : List ℕ) → Sound run
       → let was = slices st store rows w o l in
       let is = slices st store rows w′ o l in Stepped (ends (run .ticket) (standing run was) behind) run was r is
+
+-- room for a close, where one is made
+pub record CloseRoom (run : TryRun) (rows o l : ℕ) : Type 0 where
+  pub sound : Sound run
+  pub room : isOpen (run .course .stands) ≡ true → Room run rows o l

@@ -11,16 +11,13 @@ use night_calls::push_told;
 use night_told::line_counted;
 use night_told::unread_told;
 ghost use mathlib.Core.Path.{_≡_};
-ghost use mathlib.Core.Bool.{_||_};
 ghost use Prim.Native.Nat.{_+_, _≤_};
-ghost use lib.Dec.{eqb};
 ghost use lib.ListN.{length};
 ghost use Rattle.csv_line.specs.LineText.{endOf};
 ghost use Rattle.csv_out.specs.Say.{headerRoom};
-ghost use Rattle.night_answer.specs.Answer.{goes, refused};
-ghost use Rattle.night_spec.specs.Try.{onText, onEnd, nightLine, closes, nightEnd};
+ghost use Rattle.night_spec.specs.Try.{onText, onEnd, nightLine, isOpen, closes, shuts, nightEnd};
 ghost use Rattle.night_calls.specs.Steps.{slices, standing, Stepped, Room};
-ghost use Rattle.night_line.specs.Lines.{withOut, HeadTold, EndTold};
+ghost use Rattle.night_line.specs.Lines.{withOut, HeadTold, EndTold, CloseRoom};
 
 // The try with n bytes of rows that wait.
 fn with_out(run: TryRun, n: usize) -> TryRun
@@ -120,7 +117,7 @@ pub fn night_line(
 }
 
 // The end of the input, with `behind` bytes behind its last line.
-fn input_ends(run: TryRun, behind: usize, tally: &mut [u64]) -> TryRun
+pub fn input_ends(run: TryRun, behind: usize, tally: &mut [u64]) -> TryRun
     ensures { λ r. ⌜ EndTold run behind (now (tally .entry)) r (now (tally .exit)) ⌝ }
 {
     if may_end(behind, run.course.physical) {
@@ -134,7 +131,7 @@ fn input_ends(run: TryRun, behind: usize, tally: &mut [u64]) -> TryRun
 
 // Whether a try is closed next.
 fn is_open(stands: u64) -> bool
-    ensures { λ r. ⌜ r ≡ (eqb stands goes || eqb stands refused) ⌝ }
+    ensures { λ r. ⌜ r ≡ isOpen stands ⌝ }
 {
     if stands == GOES {
         return true;
@@ -152,7 +149,7 @@ fn closed(
     out: &mut [u8],
     listed: &mut [u8],
 ) -> TryRun
-    requires { ⌜ Room run (length (now rows)) (length (now out)) (length (now listed)) ⌝ }
+    requires { ⌜ CloseRoom run (length (now rows)) (length (now out)) (length (now listed)) ⌝ }
     ensures { λ r.
         let was = slices (now (state .entry)) (now (store .entry)) (now (rows .entry)) (now (tally .entry)) (now (out .entry)) (now (listed .entry)) in
         let is = slices (now (state .exit)) (now (store .entry)) (now (rows .exit)) (now (tally .exit)) (now (out .exit)) (now (listed .exit)) in
@@ -162,6 +159,26 @@ fn closed(
         return close_told(run, state, store, rows, tally, out, listed);
     }
     run
+}
+
+// A close whose rows have no text leaves the try open, and a second close ends it.
+fn shut(
+    run: TryRun,
+    state: &mut [u64],
+    store: &[u64],
+    rows: &mut [u64],
+    tally: &mut [u64],
+    out: &mut [u8],
+    listed: &mut [u8],
+) -> TryRun
+    requires { ⌜ Room run (length (now rows)) (length (now out)) (length (now listed)) ⌝ }
+    ensures { λ r.
+        let was = slices (now (state .entry)) (now (store .entry)) (now (rows .entry)) (now (tally .entry)) (now (out .entry)) (now (listed .entry)) in
+        let is = slices (now (state .exit)) (now (store .entry)) (now (rows .exit)) (now (tally .exit)) (now (out .exit)) (now (listed .exit)) in
+        ⌜ Stepped (shuts (run .ticket) (standing run was)) run was r is ⌝ }
+{
+    let once = closed(run, state, store, rows, tally, out, listed);
+    closed(once, state, store, rows, tally, out, listed)
 }
 
 // The end of a try.
@@ -182,5 +199,5 @@ pub fn night_end(
         ⌜ Stepped (nightEnd (run .ticket) (standing run was) behind) run was r is ⌝ }
 {
     let then = input_ends(run, behind, tally);
-    closed(then, state, store, rows, tally, out, listed)
+    shut(then, state, store, rows, tally, out, listed)
 }

@@ -11,8 +11,12 @@ use night_files::behind;
 use night_files::cut_at;
 use night_files::line_at;
 use night_files::within;
+use night_jobs::same_file;
+use night_jobs::tried_word;
+use night_jobs::tries_of;
 use night_marks::is_over;
 use night_marks::mark_after;
+use night_table::C_CHECKSUM;
 use night_table::C_CLOSED;
 use night_table::C_CURVED;
 use night_table::C_FILE;
@@ -64,11 +68,15 @@ fn field_is_tolerance(text: &[u8], k: usize, command: Command, i: usize) -> bool
     is_tolerance_text(command, i, &text[from..end])
 }
 
-// Whether a line's numbers are those of the next try of its job.
-fn is_next(command: Command, numbers: &[u64], mark: u64, tries: u64) -> bool
+// Whether a line's numbers are those of the next try of its job, of which this mark and this word of its tries are known.
+fn is_next(command: Command, numbers: &[u64], mark: u64, word: u64) -> bool
     requires { ⌜ length (now numbers) ≡ columns ⌝ }
 {
+    let tries = tries_of(word);
     if is_over(mark, tries, command.tolerances as u64) {
+        return false;
+    }
+    if !same_file(word, numbers[C_CHECKSUM]) {
         return false;
     }
     if numbers[C_CLOSED] > 1 {
@@ -113,19 +121,19 @@ fn take_text(
     if i >= MOST_FILES {
         return bad_line();
     }
-    let count = tries[i];
-    if !is_next(command, &numbers, marks[i], count) {
+    let word = tries[i];
+    if !is_next(command, &numbers, marks[i], word) {
         return bad_line();
     }
     let place = std::num::wrapping_add_usize(command.first, i);
     if !field_is_argument(text, C_FILE, place) {
         return bad_line();
     }
-    if !field_is_tolerance(text, C_TOLERANCE, command, count as usize) {
+    if !field_is_tolerance(text, C_TOLERANCE, command, tries_of(word) as usize) {
         return bad_line();
     }
     marks[i] = mark_after(marks[i], numbers[C_CLOSED] == 1, numbers[C_PASSED] == 1);
-    tries[i] = numbers[C_TRY];
+    tries[i] = tried_word(numbers[C_CHECKSUM], numbers[C_TRY]);
     Line {
         ok: true,
         bytes: 0,
@@ -181,7 +189,7 @@ pub struct Stood {
 }
 
 // At most so many lines.
-const MOST_LINES: u64 = 16 * 65536 + 1;
+pub const MOST_LINES: u64 = 16 * 65536 + 1;
 
 // The lines of tries.csv from a place on.
 pub fn take_lines(

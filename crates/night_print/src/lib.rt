@@ -5,17 +5,27 @@ use csv_line::text_end;
 use libc::STDOUT_FILENO;
 use night_args::end_from;
 use night_args::field_from;
+use night_command::Command;
 use night_command::MOST_FILES;
+use night_files::is_torn;
 use night_files::line_at;
 use night_files::within;
+use night_jobs::NEVER_PASSED;
+use night_jobs::NOT_CLOSED;
+use night_jobs::NOT_TRIED;
+use night_jobs::WHEN_COARSER;
+use night_jobs::count_lot;
+use night_jobs::lot_of;
+use night_jobs::tries_of;
+use night_lines::MOST_LINES;
 use night_lines::TRY_ROOM;
 use night_marks::count_with;
 use night_report::put_count;
 use night_report::put_rate;
 use night_report::put_reasons;
+use night_report::put_tried;
 use night_table::C_FILE;
 use night_table::C_JOB;
-use night_table::C_PASSED;
 use night_table::C_TOLERANCE;
 use night_table::C_TRY;
 use night_table::COLUMNS;
@@ -28,61 +38,19 @@ ghost use Prim.Native.Nat.{_+_, _≤_, _<_};
 ghost use lib.ListN.{length};
 ghost use Rattle.night_table.specs.Table.{columns};
 
-// The lists: jobs that passed in a later try, jobs that never passed, jobs that were never closed.
-const COARSER: u64 = 0;
-
-const NEVER: u64 = 1;
-
-const LEFT: u64 = 2;
-
-// 1 for a job that was tried, by how often it was.
-fn one_if(count: u64) -> u64
-    ensures { λ r. ⌜ r ≤ 1 ⌝ }
-{
-    if count == 0 {
-        return 0;
-    }
-    1
-}
-
-// How many of the first n jobs were tried.
-fn tried(tries: &[u64; MOST_FILES], n: usize) -> u64
-    requires { ⌜ n ≤ 65536 ⌝ }
-    ensures { λ r. ⌜ r ≤ n ⌝ }
-{
-    let mut r: u64 = 0;
-    let mut i: usize = 0;
-    while i < n {
-        r += one_if(tries[i]);
-        i += 1;
-    }
-    r
-}
-
-// Whether a job with this mark, whose last try is `last`, stands in a list by its try of these numbers.
-fn stands_in(list: u64, numbers: &[u64], mark: u64, last: u64) -> bool
+// Whether the try of these numbers is the last one of a job in a lot, by its mark and the word of its tries.
+fn stands_in(lot: u64, tolerances: u64, numbers: &[u64], mark: u64, word: u64) -> bool
     requires { ⌜ length (now numbers) ≡ columns ⌝ }
 {
-    if list == COARSER {
-        if numbers[C_TRY] < 2 {
-            return false;
-        }
-        return numbers[C_PASSED] == 1;
-    }
-    if numbers[C_TRY] != last {
+    let tries = tries_of(word);
+    if numbers[C_TRY] != tries {
         return false;
     }
-    if row_cells::has_bit(mark, B_FINAL) {
-        return false;
-    }
-    if list == NEVER {
-        return row_cells::has_bit(mark, B_CLOSED);
-    }
-    !row_cells::has_bit(mark, B_CLOSED)
+    lot_of(mark, tries, tolerances) == lot
 }
 
-// A job's line in a list: its FILE, and its tolerance or its reasons.
-fn put_job(out: &mut [u8], list: u64, file: &[u8], tolerance: &[u8], numbers: &[u64]) -> usize
+// A job's line in the list of its lot: its FILE, and its tolerance or its reasons.
+fn put_job(out: &mut [u8], lot: u64, file: &[u8], tolerance: &[u8], numbers: &[u64]) -> usize
     requires { ⌜ length (now numbers) ≡ columns ⌝ }
 {
     if out.len() < TRY_ROOM {
@@ -96,7 +64,7 @@ fn put_job(out: &mut [u8], list: u64, file: &[u8], tolerance: &[u8], numbers: &[
     }
     let a = put_bytes(out, 0, b"  ");
     let b = put_bytes(out, a, file);
-    if list == COARSER {
+    if lot == WHEN_COARSER {
         let c = put_bytes(out, b, b" at ");
         let d = put_bytes(out, c, tolerance);
         return put_bytes(out, d, b"\n");
@@ -104,10 +72,11 @@ fn put_job(out: &mut [u8], list: u64, file: &[u8], tolerance: &[u8], numbers: &[
     put_reasons(out, b, numbers)
 }
 
-// The line of tries with this text, printed where its job stands in a list.
+// The line of tries with this text, printed where it is the last of its job, which is in a lot.
 fn print_text(
     text: &[u8],
-    list: u64,
+    lot: u64,
+    tolerances: u64,
     marks: &[u64; MOST_FILES],
     tries: &[u64; MOST_FILES],
 ) -> bool {
@@ -123,13 +92,13 @@ fn print_text(
         return false;
     }
     let i = (job - 1) as usize;
-    if !stands_in(list, &numbers, marks[i], tries[i]) {
+    if !stands_in(lot, tolerances, &numbers, marks[i], tries[i]) {
         return true;
     }
-    print_job(text, list, &numbers)
+    print_job(text, lot, &numbers)
 }
 
-fn print_job(text: &[u8], list: u64, numbers: &[u64]) -> bool
+fn print_job(text: &[u8], lot: u64, numbers: &[u64]) -> bool
     requires { ⌜ length (now numbers) ≡ columns ⌝ }
 {
     let from = field_from(text, C_FILE);
@@ -144,13 +113,7 @@ fn print_job(text: &[u8], list: u64, numbers: &[u64]) -> bool
     let stop = end_from(text, start);
     let mut out = [0u8; TRY_ROOM];
     let n = within(
-        put_job(
-            &mut out,
-            list,
-            &text[from..end],
-            &text[start..stop],
-            numbers,
-        ),
+        put_job(&mut out, lot, &text[from..end], &text[start..stop], numbers),
         &out,
     );
     io::write_all(STDOUT_FILENO, &out[..n])
@@ -159,7 +122,8 @@ fn print_job(text: &[u8], list: u64, numbers: &[u64]) -> bool
 // A line of tries with its end.
 fn print_line(
     line: &[u8],
-    list: u64,
+    lot: u64,
+    tolerances: u64,
     marks: &[u64; MOST_FILES],
     tries: &[u64; MOST_FILES],
 ) -> bool {
@@ -167,7 +131,7 @@ fn print_line(
         return false;
     };
     let n = within(end, line);
-    print_text(&line[..n], list, marks, tries)
+    print_text(&line[..n], lot, tolerances, marks, tries)
 }
 
 // The line at a place: how many bytes it has, and whether it could be printed.
@@ -179,7 +143,8 @@ struct Printed {
 fn print_at(
     file: i32,
     at: u64,
-    list: u64,
+    lot: u64,
+    tolerances: u64,
     marks: &[u64; MOST_FILES],
     tries: &[u64; MOST_FILES],
 ) -> Printed {
@@ -190,30 +155,28 @@ fn print_at(
     }
     Printed {
         bytes: n,
-        ok: print_line(&buf[..n], list, marks, tries),
+        ok: print_line(&buf[..n], lot, tolerances, marks, tries),
     }
 }
 
-// At most so many lines.
-const MOST_LINES: u64 = 16 * 65536 + 1;
-
-// The jobs of a list, by the lines of tries from a place on.
+// The jobs of a lot, by the lines of tries from a place on; a table that cannot be read to its end is no whole list.
 fn print_list(
     file: i32,
     from: u64,
-    list: u64,
+    lot: u64,
+    tolerances: u64,
     marks: &[u64; MOST_FILES],
     tries: &[u64; MOST_FILES],
 ) -> bool {
     let mut at = from;
     let mut left = MOST_LINES;
     while left > 0 {
-        let printed = print_at(file, at, list, marks, tries);
+        let printed = print_at(file, at, lot, tolerances, marks, tries);
         if !printed.ok {
             return false;
         }
         if printed.bytes == 0 {
-            return true;
+            return is_torn(file, at);
         }
         at = std::num::wrapping_add_u64(at, printed.bytes as u64);
         left -= 1;
@@ -237,16 +200,59 @@ fn print_rate(what: &[u8], a: u64, b: u64) -> bool
     io::write_all(STDOUT_FILENO, &out[..n])
 }
 
+// The line of a job that was not tried to its end, whose FILE is argument i.
+fn print_tried(i: usize, tries: u64, tolerances: u64) -> bool {
+    let mut path = io::buffer();
+    let n = os::arg(i, &mut path);
+    let mut out = [0u8; TRY_ROOM];
+    let a = put_bytes(&mut out, 0, b"  ");
+    let b = put_bytes(&mut out, a, &path[..n]);
+    let m = within(put_tried(&mut out, b, tries, tolerances), &out);
+    io::write_all(STDOUT_FILENO, &out[..m])
+}
+
+// The same for the job at a place among the files, where it was not.
+fn print_untried(command: Command, i: usize, mark: u64, word: u64) -> bool {
+    let tries = tries_of(word);
+    let tolerances = command.tolerances as u64;
+    if lot_of(mark, tries, tolerances) == NOT_TRIED {
+        return print_tried(
+            std::num::wrapping_add_usize(command.first, i),
+            tries,
+            tolerances,
+        );
+    }
+    true
+}
+
+// All of them.
+fn print_all_untried(
+    command: Command,
+    marks: &[u64; MOST_FILES],
+    tries: &[u64; MOST_FILES],
+) -> bool {
+    let mut i: usize = 0;
+    while i < MOST_FILES {
+        if i >= command.files {
+            return true;
+        }
+        if !print_untried(command, i, marks[i], tries[i]) {
+            return false;
+        }
+        i += 1;
+    }
+    true
+}
+
 // How a night stands: whether all was printed, and whether the first try of every job passed.
 pub struct Report {
     pub ok: bool,
     pub all: bool,
 }
 
-// The counts over the jobs.
+// The counts over the jobs: of all, of those with a closed try, and of these whose first and whose last one passed.
 pub struct Counts {
     pub jobs: u64,
-    pub tried: u64,
     pub closed: u64,
     pub first: u64,
     pub last: u64,
@@ -262,13 +268,6 @@ fn most(files: usize) -> usize
     MOST_FILES
 }
 
-fn less(a: u64, b: u64) -> u64 {
-    if a < b {
-        return 0;
-    }
-    a - b
-}
-
 fn print_head(c: Counts) -> bool {
     if !print_count(b"jobs ", c.jobs) {
         return false;
@@ -282,44 +281,102 @@ fn print_head(c: Counts) -> bool {
     print_rate(b"final tries passed ", c.last, c.closed)
 }
 
-// The lists, each behind how many jobs it has.
-fn print_lists(
+fn in_lot(command: Command, lot: u64, marks: &[u64; MOST_FILES], tries: &[u64; MOST_FILES]) -> u64 {
+    let n = most(command.files);
+    count_lot(marks, tries, n, command.tolerances as u64, lot)
+}
+
+// How many jobs are done with: all that are in no lot of those not tried.
+pub fn done_of(command: Command, marks: &[u64; MOST_FILES], tries: &[u64; MOST_FILES]) -> usize {
+    let left = in_lot(command, NOT_TRIED, marks, tries);
+    std::num::wrapping_sub_u64(command.files as u64, left) as usize
+}
+
+// A lot: how many jobs it has, and each by its last line of tries.
+fn print_lot(
+    what: &[u8],
+    lot: u64,
     file: i32,
     from: u64,
-    c: Counts,
+    command: Command,
+    marks: &[u64; MOST_FILES],
+    tries: &[u64; MOST_FILES],
+) -> bool
+    requires { ⌜ length (now what) ≤ 32 ⌝ }
+{
+    if !print_count(what, in_lot(command, lot, marks, tries)) {
+        return false;
+    }
+    print_list(file, from, lot, command.tolerances as u64, marks, tries)
+}
+
+// The jobs that were not tried to their end, where there are any.
+fn print_rest(command: Command, marks: &[u64; MOST_FILES], tries: &[u64; MOST_FILES]) -> bool {
+    let count = in_lot(command, NOT_TRIED, marks, tries);
+    if count == 0 {
+        return true;
+    }
+    if !print_count(b"not tried ", count) {
+        return false;
+    }
+    print_all_untried(command, marks, tries)
+}
+
+// All lots but that of the jobs that passed at first.
+fn print_lots(
+    file: i32,
+    from: u64,
+    command: Command,
     marks: &[u64; MOST_FILES],
     tries: &[u64; MOST_FILES],
 ) -> bool {
-    if !print_count(b"passed only when coarser ", less(c.last, c.first)) {
+    if !print_lot(
+        b"passed only when coarser ",
+        WHEN_COARSER,
+        file,
+        from,
+        command,
+        marks,
+        tries,
+    ) {
         return false;
     }
-    if !print_list(file, from, COARSER, marks, tries) {
+    if !print_lot(
+        b"never passed ",
+        NEVER_PASSED,
+        file,
+        from,
+        command,
+        marks,
+        tries,
+    ) {
         return false;
     }
-    if !print_count(b"never passed ", less(c.closed, c.last)) {
+    if !print_lot(
+        b"not closed ",
+        NOT_CLOSED,
+        file,
+        from,
+        command,
+        marks,
+        tries,
+    ) {
         return false;
     }
-    if !print_list(file, from, NEVER, marks, tries) {
-        return false;
-    }
-    if !print_count(b"not closed ", less(c.tried, c.closed)) {
-        return false;
-    }
-    print_list(file, from, LEFT, marks, tries)
+    print_rest(command, marks, tries)
 }
 
-// Prints what is to be said at the end: of the first n files, and of the lines of tries from a place on.
+// Prints what is to be said at the end of a night, by the lines of its tries from a place on.
 pub fn print_report(
     file: i32,
     from: u64,
-    files: usize,
+    command: Command,
     marks: &[u64; MOST_FILES],
     tries: &[u64; MOST_FILES],
 ) -> Report {
-    let n = most(files);
+    let n = most(command.files);
     let c = Counts {
         jobs: n as u64,
-        tried: tried(tries, n),
         closed: count_with(marks, n, B_CLOSED),
         first: count_with(marks, n, B_FIRST),
         last: count_with(marks, n, B_FINAL),
@@ -331,7 +388,7 @@ pub fn print_report(
         };
     }
     Report {
-        ok: print_lists(file, from, c, marks, tries),
+        ok: print_lots(file, from, command, marks, tries),
         all: c.first == c.jobs,
     }
 }

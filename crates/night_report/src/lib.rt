@@ -180,6 +180,18 @@ fn put_warned(out: &mut [u8], n: usize, numbers: &[u64]) -> usize
     word(out, b, b",")
 }
 
+// ` tried at 1 of 2 tolerances`
+pub fn put_tried(out: &mut [u8], n: usize, tries: u64, tolerances: u64) -> usize
+    requires { ⌜ n + 64 ≤ length (now out) ⌝ }
+    ensures { λ r. ⌜ r ≤ n + 64 ⌝ }
+{
+    let a = word(out, n, b" tried at ");
+    let b = number(out, a, tries);
+    let c = word(out, b, b" of ");
+    let d = number(out, c, tolerances);
+    word(out, d, b" tolerances\n")
+}
+
 // How many of how many jobs are done, over what stands in the line already.
 pub fn put_done(out: &mut [u8], done: u64, files: u64) -> usize
     requires { ⌜ 64 ≤ length (now out) ⌝ }

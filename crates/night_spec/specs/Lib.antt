@@ -1,1 +1,2 @@
 pub mod Try
+pub mod TryLaws

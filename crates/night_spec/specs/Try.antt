@@ -1,6 +1,6 @@
 -- DEFINITIONS. A try of a night, from the bytes of its file to what it leaves: rules 11.1 to 11.3. Assumes nothing.
-use Prim.Native.Nat.{ℕ}
-use mathlib.Core.Bool.{cond, _&&_, _||_, not}
+use Prim.Native.Nat.{ℕ, zero, suc}
+use mathlib.Core.Bool.{Bool, cond, _&&_, _||_, not}
 use mathlib.Core.List.{List, [], _∷_, _++_}
 use mathlib.Core.Option.{Option, none, some}
 use lib.Dec.{eqb}
@@ -11,7 +11,7 @@ use Rattle.call_start.specs.Start.{startSpec}
 use Rattle.call_answer.specs.Push.{pushSpec}
 use Rattle.call_answer.specs.Close.{closeSpec}
 use Rattle.tally_call.specs.Calls.{kPush, kClose}
-use Rattle.text_cut.specs.Cut.{linesFrom, restFrom}
+use Rattle.text_cut.specs.Cut.{lf, linesFrom, restFrom}
 use Rattle.csv_line.specs.declared.End.{End}
 use Rattle.csv_line.specs.declared.End.the-variants as End
 use Rattle.csv_line.specs.LineText.{crlf, header, headerOut, endOf}
@@ -119,18 +119,36 @@ nightLines t s (l ∷ ls) =
 unfoldable pub ends : Ticket → Stand → ℕ → Step
 ends t s behind = cond (eqb (s .course .stands) goes && (not (eqb behind 0) || eqb (s .course .physical) 1)) (unread t s) (still s)
 
--- a try that goes on, or met a refusal, is closed
+-- a try that goes on, or met a refusal, is open, and is closed
+abbrev pub isOpen : ℕ → Bool
+isOpen stands = eqb stands goes || eqb stands refused
+
 unfoldable pub closes : Ticket → Stand → Step
-closes t s = cond (eqb (s .course .stands) goes || eqb (s .course .stands) refused) (onClose t s) (still s)
+closes t s = cond (isOpen (s .course .stands)) (onClose t s) (still s)
+
+-- a close whose rows have no text leaves it open, and holding nothing: it is closed once more (11.6)
+unfoldable pub shuts : Ticket → Stand → Step
+shuts t s = let d = closes t s in andThen d (closes t (d .stand))
 
 unfoldable pub nightEnd : Ticket → Stand → ℕ → Step
-nightEnd t s behind = let d = ends t s behind in andThen d (closes t (d .stand))
+nightEnd t s behind = let d = ends t s behind in andThen d (shuts t (d .stand))
+
+-- 11.2: the first bytes of a line that has no end among them end the input, as if it had no more
+abbrev pub lineRoom : ℕ
+lineRoom = 65536
+
+-- the bytes that are taken, where the line that is read may have `room` more
+unfoldable pub taken : ℕ → List ℕ → List ℕ
+taken room [] = []
+taken zero (c ∷ t) = []
+taken (suc room) (c ∷ t) = c ∷ taken (cond (eqb c lf) lineRoom room) t
 
 -- all that is done from s on, with this input still to come
 unfoldable pub nightRest : Ticket → Stand → List ℕ → Step
 nightRest t s input =
-    let d = nightLines t s (linesFrom [] input) in
-    andThen d (nightEnd t (d .stand) (length (restFrom [] input)))
+    let read = taken lineRoom input in
+    let d = nightLines t s (linesFrom [] read) in
+    andThen d (nightEnd t (d .stand) (length (restFrom [] read)))
 
 -- ---- a try begins with a start, told as any call: axes X Y Z, this tolerance, no seed
 unfoldable pub begun : Ticket → List ℕ → List ℕ → List ℕ → List ℕ → ℕ → Stand

@@ -5,6 +5,7 @@ use night_command::BAD_NAME;
 use night_command::BAD_TOLERANCES;
 use night_command::Command;
 use night_command::MOST_FILES;
+use night_command::OUR_NAME;
 use night_command::Reason;
 use night_command::SAME_NAME;
 use night_command::TOO_MANY;
@@ -119,6 +120,7 @@ pub fn explain(reason: Reason) {
             b"night: a FILE is no name of a file, or has a comma, a quote or a byte below 32\n",
         ),
         SAME_NAME => complain(reason.at, b": a file before it has the same name\n"),
+        OUR_NAME => complain(reason.at, b": this is a name of what night writes\n"),
         _ => complain_plainly(
             b"usage: night --tolerances T[,T..] --out DIR FILE..    (night --help, night --version)\n",
         ),
@@ -143,7 +145,8 @@ fn open_table(dir: usize, name: &[u8]) -> i32 {
     open_in(dir, name, UPDATE)
 }
 
-// Sees to a table's header, and answers how long it is; 0 where the table begins with something else.
+// Sees to a table's header, and answers how long it is; 0 where the table begins with something else, or it could not be read or
+// written.
 fn tries_headed(file: i32) -> usize {
     let mut header = [0u8; 512];
     let n = within(put_tries_header(&mut header, 0), &header);
@@ -190,7 +193,10 @@ fn with_curved(command: Command, tries: i32, from: u64, lines: u64) -> Began {
     }
     let start = curved_headed(curved);
     if start == 0 {
-        return not_begun(command, b": curved.csv has another header\n");
+        return not_begun(
+            command,
+            b": curved.csv has another header, or it could not be read or written\n",
+        );
     }
     if !cut_curved(curved, start as u64, lines) {
         return not_begun(
@@ -222,7 +228,10 @@ pub fn begun(
     }
     let start = tries_headed(table);
     if start == 0 {
-        return not_begun(command, b": tries.csv has another header\n");
+        return not_begun(
+            command,
+            b": tries.csv has another header, or it could not be read or written\n",
+        );
     }
     let stood = take_lines(table, start as u64, command, marks, tries);
     if !stood.ok {

@@ -13,8 +13,12 @@ use night_files::cut_back;
 use night_files::open_in;
 use night_files::put_part_name;
 use night_files::put_rows_name;
+use night_files::remove_in;
 use night_files::rename_in;
 use night_files::within;
+use night_jobs::same_file;
+use night_jobs::tried_word;
+use night_jobs::tries_of;
 use night_lines::TRY_ROOM;
 use night_marks::is_over;
 use night_marks::mark_after;
@@ -67,6 +71,11 @@ pub struct Next {
     pub from: i64,
 }
 
+// Whether a job is over, by its mark and the word of its tries.
+fn done_with(command: Command, mark: u64, word: u64) -> bool {
+    is_over(mark, tries_of(word), command.tolerances as u64)
+}
+
 // The first job from a place on that is not over, or as many as there are.
 fn next_job(
     command: Command,
@@ -79,7 +88,7 @@ fn next_job(
         if i >= command.files {
             return i;
         }
-        if !is_over(marks[i], tries[i], command.tolerances as u64) {
+        if !done_with(command, marks[i], tries[i]) {
             return i;
         }
         i += 1;
@@ -127,6 +136,18 @@ fn rename_part(command: Command, i: usize, number: u64) -> bool {
     let mut name = [0u8; PATH_ROOM];
     let k = put_rows_name(&mut name, &path[..n], number);
     rename_in(command.dir, &part[..m], &name[..k])
+}
+
+// Neither name is left: what has no line in tries.csv has no rows.
+fn remove_rows(command: Command, i: usize, number: u64) {
+    let mut path = io::buffer();
+    let n = os::arg(i, &mut path);
+    let mut part = [0u8; PATH_ROOM];
+    let m = put_part_name(&mut part, &path[..n], number);
+    remove_in(command.dir, &part[..m]);
+    let mut name = [0u8; PATH_ROOM];
+    let k = put_rows_name(&mut name, &path[..n], number);
+    remove_in(command.dir, &name[..k]);
 }
 
 fn not_ready(found: bool, job: usize) -> Next {
@@ -180,12 +201,12 @@ pub fn show(done: usize, files: usize) {
     io::write_all(STDERR_FILENO, &line[..n]);
 }
 
-// The line of the terminal ends.
-pub fn show_end(files: usize) {
+// The line of the terminal ends, with the jobs that are done with.
+pub fn show_end(done: usize, files: usize) {
     if libc::isatty(STDERR_FILENO) != 1 {
         return;
     }
-    show(files, files);
+    show(done, files);
     io::write_all(STDERR_FILENO, b"\n");
 }
 
@@ -208,7 +229,7 @@ pub fn next_try(
         return not_ready(false, job);
     }
     show(job, command.files);
-    opened(night, job, tries[job])
+    opened(night, job, tries_of(tries[job]))
 }
 
 // What a try was: what failed, whether it was closed, its first refusal with its line, how many blocks it names, and the
@@ -222,28 +243,38 @@ pub struct Facts {
     pub checksum: u64,
 }
 
-// What fails a try that is then not counted: nothing, its input, its rows, its list of blocks, a call that could not be told.
+// What fails a try that is then not counted: nothing, its input, what it writes, a call that could not be told, another file
+// than its job's first try had.
 pub const NOTHING: u64 = 0;
 
 pub const INPUT: u64 = 1;
 
 pub const OUTPUT: u64 = 2;
 
-pub const LISTING: u64 = 3;
+pub const UNTOLD: u64 = 3;
 
-pub const UNTOLD: u64 = 4;
+const CHANGED: u64 = 4;
 
 fn say_failed(i: usize, failed: u64) {
     match failed {
         INPUT => complain(i, b": could not be read\n"),
-        OUTPUT => complain(i, b": its rows could not be written\n"),
-        LISTING => complain(i, b": its lines of curved.csv could not be written\n"),
+        OUTPUT => complain(
+            i,
+            b": its rows or its lines of curved.csv could not be written\n",
+        ),
+        CHANGED => complain(i, b": changed since its first try\n"),
         _ => complain(i, b": a call could not be told\n"),
     }
 }
 
-// The try is not counted: its lines of curved.csv go again, and its job is not tried again in this run.
+// The try is not counted: its rows and its lines of curved.csv go again, and its job is not tried again in this run.
 fn skipped(night: Night, next: Next) -> Place {
+    let command = night.command;
+    remove_rows(
+        command,
+        std::num::wrapping_add_usize(command.first, next.job),
+        next.number,
+    );
     let cut = cut_back(night.curved, next.from);
     Place {
         job: std::num::wrapping_add_usize(next.job, 1),
@@ -336,6 +367,20 @@ fn kept(night: Night, next: Next, numbers: &[u64]) -> bool
     false
 }
 
+// What fails a try in the end, where its rows' file was closed with this status and its job has this word of its tries.
+fn failing(facts: Facts, closed: i32, word: u64) -> u64 {
+    if facts.failed != NOTHING {
+        return facts.failed;
+    }
+    if closed != 0 {
+        return OUTPUT;
+    }
+    if same_file(word, facts.checksum) {
+        return NOTHING;
+    }
+    CHANGED
+}
+
 // What a try leaves: its files are closed, and its line and its job's marks are added where nothing failed.
 pub fn settle(
     night: Night,
@@ -354,20 +399,15 @@ pub fn settle(
     if job >= MOST_FILES {
         return skipped(night, next);
     }
-    if facts.failed != NOTHING {
-        say_failed(
-            std::num::wrapping_add_usize(command.first, job),
-            facts.failed,
-        );
-        return skipped(night, next);
-    }
-    if closed != 0 {
-        say_failed(std::num::wrapping_add_usize(command.first, job), OUTPUT);
+    let failed = failing(facts, closed, tries[job]);
+    if failed != NOTHING {
+        say_failed(std::num::wrapping_add_usize(command.first, job), failed);
         return skipped(night, next);
     }
     let passed = night_figures::has_passed(facts.closed, after);
     let numbers = numbers_of(next, facts, passed, before, after);
     if !kept(night, next, &numbers) {
+        skipped(night, next);
         return Place {
             job,
             faults: true,
@@ -375,7 +415,7 @@ pub fn settle(
         };
     }
     marks[job] = mark_after(marks[job], facts.closed, passed);
-    tries[job] = next.number;
+    tries[job] = tried_word(facts.checksum, next.number);
     Place {
         job,
         faults: place.faults,

@@ -1,20 +1,16 @@
 -- What the steps of reading a line of tries do. Assumes nothing.
-use Prim.Native.Nat.{ℕ, _+_, _-_, _*_, _^_, _≤_, _<_}
+use Prim.Native.Nat.{ℕ, _+_, _≤_, _<_}
 use mathlib.Core.Path.{_≡_, refl, sym, ap, _∙_, subst}
-use mathlib.Core.Bool.{Bool, true, false, _&&_, not, false≢true}
+use mathlib.Core.Bool.{Bool, true, false, _&&_, false≢true}
 use mathlib.Core.List.{List}
-use native.Mathlib.Nat.{pow-suc, pow-le-pow-right}
-use native.Mathlib.Numerals.{add-one}
 use native.Mathlib.Omega.{arith}
-use lib.Dec.{eqb, leb}
-use lib.ListN.{length, take, drop, getD, set}
-use lib.Seq.{take-suc, take-all}
-use borrow.Author.Tests.{eq-eqb, ne-eqb, leb-true}
+use lib.Dec.{eqb}
+use lib.ListN.{length, take, drop, set}
+use borrow.Author.Tests.{eq-eqb, ne-eqb}
 use Rattle.floats.specs.Lists.{upto, all}
 use Rattle.floats.specs.Fill.{Filling, filling-none, filling-more, filled-all}
-use Rattle.floats.specs.Truth.{and-f, and-i, and-right, cond-t, cond-f, all-more, all-fails}
-use Rattle.csv_fields.specs.Read.{isDigit, num}
-use Rattle.csv_fields.specs.Scans.{digit-in, num-last}
+use Rattle.floats.specs.Truth.{and-f, and-i, all-more, all-fails}
+use Rattle.csv_fields.specs.Read.{run, num}
 use Rattle.csv_line.specs.LineText.{parted}
 use Rattle.csv_cells.specs.Taking.{reach}
 use Rattle.csv_cells.specs.Parts.{rest-behind, rest-none}
@@ -23,74 +19,22 @@ use Rattle.night_args.specs.FieldLaws.{rest-next, from-none, from-more, field-i
 use Rattle.night_table.specs.declared.Whole.{Whole}
 use Rattle.night_table.specs.declared.Whole.the-variants as Whole
 use Rattle.night_table.specs.Table.{columns, isText, mayLack}
-use Rattle.night_table.specs.Back.{mostDigits, isShort, digitsOf, wholeOf, emptyAt, columnOf, isWhole, valueOf, readAt, isTry, valuesOf}
+use Rattle.night_table.specs.Back.{mostDigits, wholeOf, emptyAt, columnOf, isWhole, valueOf, readAt, isTry, valuesOf}
 use Rattle.night_table.specs.Lines.{Taken}
 
--- ---- a whole number
-pub short-none : (t : List ℕ) → length t ≡ 0 → false ≡ isShort t
-unfolding isShort
-short-none t e = rw (eq-eqb (length t) 0 e)
+-- ---- a whole number: k digits were scanned, and they make v
+module _ (t : List ℕ) (k v : ℕ) (e : k ≡ run mostDigits t) (w : v ≡ num 0 (take k t)) where
+  pub whole-none : k ≡ 0 → Whole.Bad ≡ wholeOf t
+  unfolding wholeOf
+  whole-none z = rw (← e, eq-eqb k 0 z)
 
-pub short-by : (t : List ℕ) → (length t ≡ 0 → ⊥) → leb (length t) mostDigits ≡ isShort t
-unfolding isShort
-short-by t n = rw (ne-eqb (length t) 0 n)
+  pub whole-all : (k ≡ 0 → ⊥) → k ≡ length t → Whole.Is v ≡ wholeOf t
+  unfolding wholeOf
+  whole-all z l = rw (← e, ne-eqb k 0 z, eq-eqb k (length t) l, ← w)
 
-pub short-few : (t : List ℕ) → isShort t ≡ true → length t ≤ mostDigits
-unfolding isShort
-short-few t e = leb-true (length t) mostDigits (and-right (not (eqb (length t) 0)) (leb (length t) mostDigits) e)
-
-pub whole-short : (t : List ℕ) (r : Whole) → isShort t ≡ true → r ≡ digitsOf t → r ≡ wholeOf t
-unfolding wholeOf
-whole-short t r e h = h ∙ sym (cond-t _ _ e)
-
-pub whole-long : (t : List ℕ) → isShort t ≡ false → Whole.Bad ≡ wholeOf t
-unfolding wholeOf
-whole-long t e = sym (cond-f _ _ e)
-
-abbrev digitAt : List ℕ → ℕ → Bool
-digitAt t i = isDigit (getD t i 0)
-
--- the first i bytes are digits, and make n
-pub record Digits (t : List ℕ) (i n : ℕ) : Type 0 where
-  pub within : i ≤ length t
-  pub good : all i (digitAt t) ≡ true
-  pub made : n ≡ num 0 (take i t)
-  pub low : n < 10 ^ i
-
-pub digits-none : (t : List ℕ) → Digits t 0 0
-unfolding all num
-digits-none t = record { within = omega arith; good = refl; made = refl; low = lib.Dec.lit< tt }
-
-pub digits-room : {t : List ℕ} {i n : ℕ} → Digits t i n → i < mostDigits → n < 1000000000
-digits-room {t} {i} {n} c h =
-    let p : 10 ^ i ≤ 10 ^ 9 = pow-le-pow-right (lib.Dec.lit< {m = 0} {n = 10} tt) (small i h) in omega (arith, c .low, p)
-  where
-    small : (i : ℕ) → i < mostDigits → i ≤ 9
-    small i h = omega arith
-
-pub digits-more : {t : List ℕ} {i n : ℕ} (d : ℕ) → Digits t i n → i < length t → 48 ≤ getD t i 0 → getD t i 0 < 58 → d ≡ getD t i 0 - 48
-    → Digits t (i + 1) (n * 10 + d)
-digits-more {t} {i} {n} d c h l u e =
-    record {
-      within = omega arith;
-      good = all-more i (digitAt t) (c .good) (digit-in (getD t i 0) l u);
-      made =
-          ap (λ (z : ℕ). z * 10 + d) (c .made)
-          ∙ ap (λ (z : ℕ). num 0 (take i t) * 10 + z) e
-          ∙ sym (num-last 0 (take i t) (getD t i 0))
-          ∙ ap (num 0) (sym (take-suc t i 0 h) ∙ ap (λ (k : ℕ). take k t) (sym (add-one i)));
-      low = subst (λ (z : ℕ). n * 10 + d < 10 ^ z) (sym (add-one i)) (omega (arith, c .low, pow-suc 10 i));
-    }
-
-pub digits-bad : (t : List ℕ) (i : ℕ) → i < length t → digitAt t i ≡ false → Whole.Bad ≡ digitsOf t
-unfolding digitsOf
-digits-bad t i h e = sym (cond-f _ _ (all-fails (length t) (digitAt t) i h e))
-
-pub digits-all : {t : List ℕ} {i n : ℕ} → Digits t i n → i ≡ length t → Whole.Is n ≡ digitsOf t
-unfolding digitsOf
-digits-all {t} {i} {n} c e =
-    ap Whole.Is (c .made ∙ ap (num 0) (ap (λ (k : ℕ). take k t) e ∙ take-all (length t) t (omega arith)))
-    ∙ sym (cond-t _ _ (subst (λ (k : ℕ). all k (digitAt t) ≡ true) e (c .good)))
+  pub whole-more : (k ≡ 0 → ⊥) → (k ≡ length t → ⊥) → Whole.Bad ≡ wholeOf t
+  unfolding wholeOf
+  whole-more z l = rw (← e, ne-eqb k 0 z, ne-eqb k (length t) l)
 
 -- ---- a column
 pub empty-lacks : (k : ℕ) → mayLack k ≡ true → Whole.Is 0 ≡ emptyAt k

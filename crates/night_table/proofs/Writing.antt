@@ -15,14 +15,15 @@ use Rattle.csv_figures.specs.Write.{wholeText}
 use Rattle.csv_figures.specs.Writers.{whole-length}
 use Rattle.csv_line.specs.LineText.{comma, crlf, tailed, joined}
 use Rattle.csv_write.specs.Texts.{tailed-append}
-use Rattle.night_table.specs.Table.{cRefusal, cLine, mayLack, refusalTexts, fieldText, fields, tryLine}
-use Rattle.night_table.specs.Lines.{texts, frontText, restText, PutNumbers, PutFront, PutRest, PutLine}
+use Rattle.night_table.specs.Table.{cJob, cRefusal, cLine, mayLack, refusalTexts, fieldText, fields, tryLine}
+use Rattle.night_table.specs.Back.{mostDigits}
+use Rattle.night_table.specs.Lines.{fieldRoom, checkedTexts, countedTexts, lastTexts, frontText, restText, PutNumbers, PutFront, PutRest, PutLine}
 
-pub whole-near : {o o′ : List ℕ} {n r : ℕ} (v : ℕ) → Wrote o n (wholeText v) o′ r → r ≤ n + 10
+pub whole-near : {o o′ : List ℕ} {n r : ℕ} (v : ℕ) → Wrote o n (wholeText v) o′ r → r ≤ n + mostDigits
 whole-near v w = omega (arith, w .next, whole-length v, width-ten v)
 
 pub next-put : {o o₁ o′ : List ℕ} {n a r : ℕ} (v : ℕ) → Wrote o n (comma ∷ []) o₁ a → Wrote o₁ a (wholeText v) o′ r
-    → Wrote o n (comma ∷ wholeText v) o′ r × (r ≤ n + 11)
+    → Wrote o n (comma ∷ wholeText v) o′ r × (r ≤ n + fieldRoom)
 next-put v x y = (wrote-then x y, omega (arith, x .next, whole-near v y))
 
 -- ---- numbers one behind another
@@ -35,7 +36,7 @@ unfolding tailed
 one-tail f = ap (λ (l : List ℕ). comma ∷ l) (append-nil f)
 
 pub numbers-more : {numbers o o₁ o′ : List ℕ} {from k n at r : ℕ} → PutNumbers numbers from k o n o₁ at
-    → Wrote o₁ at (comma ∷ wholeText (getD numbers (from + k) 0)) o′ r → r ≤ at + 11 → PutNumbers numbers from (k + 1) o n o′ r
+    → Wrote o₁ at (comma ∷ wholeText (getD numbers (from + k) 0)) o′ r → r ≤ at + fieldRoom → PutNumbers numbers from (k + 1) o n o′ r
 unfolding upto
 numbers-more {numbers} {o} {o₁} {o′} {from} {k} {n} {at} {r} p w h =
     let f : ℕ → List ℕ = λ i. wholeText (getD numbers (from + i) 0) in
@@ -68,14 +69,14 @@ two false x y l = refl
 
 abbrev grouped : List ℕ → List ℕ → List ℕ → List (List ℕ) → List (List ℕ)
 grouped numbers file tolerance l =
-    wholeText (getD numbers 0 0) ∷ (file ∷ (texts numbers 2 2 ++ (tolerance ∷ (texts numbers 5 4 ++ l))))
+    wholeText (getD numbers cJob 0) ∷ (file ∷ (checkedTexts numbers ++ (tolerance ∷ (countedTexts numbers ++ l))))
 
 fields-are : (numbers file tolerance : List ℕ) → fields numbers file tolerance
-    ≡ grouped numbers file tolerance (refusalTexts (getD numbers cRefusal 0) (getD numbers cLine 0) ++ texts numbers 11 17)
+    ≡ grouped numbers file tolerance (refusalTexts (getD numbers cRefusal 0) (getD numbers cLine 0) ++ lastTexts numbers)
 unfolding fields fieldText mayLack upto
 fields-are numbers file tolerance =
     ap (grouped numbers file tolerance)
-    (two (eqb (getD numbers cRefusal 0) 0) (wholeText (getD numbers 9 0)) (wholeText (getD numbers 10 0)) (texts numbers 11 17))
+    (two (eqb (getD numbers cRefusal 0) 0) (wholeText (getD numbers cRefusal 0)) (wholeText (getD numbers cLine 0)) (lastTexts numbers))
 
 joined-pieces : (a f t : List ℕ) (bs ds rs ws : List (List ℕ)) (e : List ℕ)
     → joined (a ∷ (f ∷ (bs ++ (t ∷ (ds ++ (rs ++ ws)))))) ++ e
@@ -87,8 +88,8 @@ line-is : (numbers file tolerance : List ℕ) → frontText numbers file toleran
 unfolding tryLine
 line-is numbers file tolerance =
     sym (ap (λ (fs : List (List ℕ)). joined fs ++ crlf) (fields-are numbers file tolerance)
-    ∙ joined-pieces (wholeText (getD numbers 0 0)) file tolerance (texts numbers 2 2) (texts numbers 5 4)
-    (refusalTexts (getD numbers cRefusal 0) (getD numbers cLine 0)) (texts numbers 11 17) crlf)
+    ∙ joined-pieces (wholeText (getD numbers cJob 0)) file tolerance (checkedTexts numbers) (countedTexts numbers)
+    (refusalTexts (getD numbers cRefusal 0) (getD numbers cLine 0)) (lastTexts numbers) crlf)
 
 pub line-put : {numbers file tolerance o o₁ o′ : List ℕ} {n a r : ℕ} → PutFront numbers file tolerance o n o₁ a → PutRest numbers o₁ a o′ r
     → PutLine numbers file tolerance o n o′ r

@@ -1,11 +1,11 @@
 -- DEFINITIONS. What the text of a line of tries is read as: rule 11.16. Assumes nothing.
 use Prim.Native.Nat.{ℕ}
-use mathlib.Core.Bool.{Bool, true, false, cond, _&&_, not}
+use mathlib.Core.Bool.{Bool, true, false, cond, _&&_}
 use mathlib.Core.List.{List, []}
-use lib.Dec.{eqb, leb}
-use lib.ListN.{length, getD}
+use lib.Dec.{eqb}
+use lib.ListN.{length, take, getD}
 use Rattle.floats.specs.Lists.{upto, all}
-use Rattle.csv_fields.specs.Read.{isDigit, num}
+use Rattle.csv_fields.specs.Read.{run, num}
 use Rattle.csv_line.specs.LineText.{parted}
 use Rattle.night_table.specs.declared.Whole.{Whole}
 use Rattle.night_table.specs.declared.Whole.the-variants as Whole
@@ -15,14 +15,10 @@ use Rattle.night_table.specs.Table.{columns, isText, mayLack}
 abbrev pub mostDigits : ℕ
 mostDigits = 10
 
-unfoldable pub isShort : List ℕ → Bool
-isShort t = not (eqb (length t) 0) && leb (length t) mostDigits
-
-unfoldable pub digitsOf : List ℕ → Whole
-digitsOf t = cond (all (length t) (λ (i : ℕ). isDigit (getD t i 0))) (Whole.Is (num 0 t)) Whole.Bad
-
 unfoldable pub wholeOf : List ℕ → Whole
-wholeOf t = cond (isShort t) (digitsOf t) Whole.Bad
+wholeOf t =
+    cond (eqb (run mostDigits t) 0) Whole.Bad
+    (cond (eqb (run mostDigits t) (length t)) (Whole.Is (num 0 (take (run mostDigits t) t))) Whole.Bad)
 
 unfoldable pub emptyAt : ℕ → Whole
 emptyAt k = cond (mayLack k) (Whole.Is 0) Whole.Bad

@@ -9,15 +9,24 @@ use Rattle.csv_figures.specs.Write.{wholeText}
 use Rattle.csv_words.specs.Text.{bytes}
 use Rattle.csv_line.specs.LineText.{crlf, joined}
 
+-- ---- the columns: those that stand apart, and the first of each that stand together
 abbrev pub columns : ℕ
 columns = 28
 
--- ---- the columns that are not numbers alone: the file, the tolerance; the refusal and its line may be empty
+abbrev pub cJob : ℕ
+cJob = 0
+
 abbrev pub cFile : ℕ
 cFile = 1
 
+abbrev pub cChecksum : ℕ
+cChecksum = 2
+
 abbrev pub cTolerance : ℕ
 cTolerance = 4
+
+abbrev pub cClosed : ℕ
+cClosed = 5
 
 abbrev pub cRefusal : ℕ
 cRefusal = 9
@@ -25,6 +34,10 @@ cRefusal = 9
 abbrev pub cLine : ℕ
 cLine = 10
 
+abbrev pub cWarnings : ℕ
+cWarnings = 11
+
+-- the file and the tolerance are no numbers; the refusal and its line may be empty
 unfoldable pub isText : ℕ → Bool
 isText k = eqb k cFile || eqb k cTolerance
 
@@ -33,8 +46,8 @@ mayLack k = eqb k cRefusal || eqb k cLine
 
 abbrev pub triesHeader : List ℕ
 triesHeader =
-    bytes
-    "job,file,checksum,try,tolerance,closed,blocks,rows,marked,refusal,refusal_line,warning_1,warning_2,warning_3,warning_4,warning_5,warning_6,warning_7,warning_8,warning_9,warning_10,warning_11,warning_12,warning_13,warning_14,warning_15,curved,passed"
+    bytes "job,file,checksum,try,tolerance,closed,blocks,rows,marked,refusal,refusal_line,warning_1,warning_2,warning_3,warning_4,"
+    ++ bytes "warning_5,warning_6,warning_7,warning_8,warning_9,warning_10,warning_11,warning_12,warning_13,warning_14,warning_15,curved,passed"
 
 abbrev pub curvedHeader : List ℕ
 curvedHeader = bytes "job,try,line,motion,warning"

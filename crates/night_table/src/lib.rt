@@ -1,6 +1,6 @@
 // The lines of a night's table of tries: the text of one, its headers, and reading one back.
 use csv_cells::field_end;
-use csv_digits::wide;
+use csv_fields::scan;
 use csv_figures::put_byte;
 use csv_figures::put_whole;
 use csv_line::put_bytes;
@@ -13,8 +13,9 @@ ghost use Rattle.csv_figures.specs.Out.{Wrote};
 ghost use Rattle.csv_figures.specs.Write.{wholeText};
 ghost use Rattle.csv_line.specs.LineText.{comma, crlf, tailed};
 ghost use Rattle.night_table.specs.Table.{columns, isText, mayLack, triesHeader, curvedHeader, refusalTexts};
-ghost use Rattle.night_table.specs.Back.{mostDigits, isShort, digitsOf, wholeOf, emptyAt, columnOf};
-ghost use Rattle.night_table.specs.Lines.{lineRoom, PutNumbers, PutFront, PutRest, PutLine, Taken};
+ghost use Rattle.night_table.specs.Back.{wholeOf, emptyAt, columnOf};
+ghost use Rattle.night_table.specs.Lines.{fieldRoom, frontRoom, restRoom, lineRoom, headerRoom};
+ghost use Rattle.night_table.specs.Lines.{PutNumbers, PutFront, PutRest, PutLine, Taken};
 
 // The columns; those of warnings are one behind another.
 pub const C_JOB: usize = 0;
@@ -47,8 +48,12 @@ pub const C_PASSED: usize = 27;
 
 pub const COLUMNS: usize = 28;
 
-// Bytes that a line is never more than, its two texts apart.
-pub const LINE_ROOM: usize = 320;
+// Columns of numbers that stand one behind another: before the tolerance, before the refusal, and from the warnings on.
+const CHECKED: usize = C_TOLERANCE - C_CHECKSUM;
+
+const COUNTED: usize = C_REFUSAL - C_CLOSED;
+
+const LAST: usize = COLUMNS - C_WARNINGS;
 
 // Digits of a whole number, at most.
 const DIGITS: usize = 10;
@@ -61,8 +66,8 @@ pub enum Whole {
 
 // A comma and a number.
 fn put_next(out: &mut [u8], n: usize, v: u64) -> usize
-    requires { ⌜ n + 11 ≤ length (now out) ⌝ }
-    ensures { λ r. ⌜ Wrote (now (out .entry)) n (comma ∷ wholeText v) (now (out .exit)) r × (r ≤ n + 11) ⌝ }
+    requires { ⌜ n + fieldRoom ≤ length (now out) ⌝ }
+    ensures { λ r. ⌜ Wrote (now (out .entry)) n (comma ∷ wholeText v) (now (out .exit)) r × (r ≤ n + fieldRoom) ⌝ }
 {
     let a = put_byte(out, n, b',');
     put_whole(out, a, v)
@@ -79,7 +84,7 @@ fn put_text(out: &mut [u8], n: usize, s: &[u8]) -> usize
 
 // The numbers of `count` columns from `from` on, each behind a comma.
 fn put_numbers(out: &mut [u8], n: usize, numbers: &[u64], from: usize, count: usize) -> usize
-    requires { ⌜ (from + count ≤ length (now numbers)) × (n + 11 * count ≤ length (now out)) ⌝ }
+    requires { ⌜ (from + count ≤ length (now numbers)) × (n + fieldRoom * count ≤ length (now out)) ⌝ }
     ensures { λ r. ⌜ PutNumbers (now (numbers .entry)) from count (now (out .entry)) n (now (out .exit)) r ⌝ }
 {
     let mut at = n;
@@ -93,8 +98,8 @@ fn put_numbers(out: &mut [u8], n: usize, numbers: &[u64], from: usize, count: us
 
 // The refusal and its line, or two empty fields.
 fn put_refusal(out: &mut [u8], n: usize, refusal: u64, line: u64) -> usize
-    requires { ⌜ n + 22 ≤ length (now out) ⌝ }
-    ensures { λ r. ⌜ Wrote (now (out .entry)) n (tailed (refusalTexts refusal line)) (now (out .exit)) r × (r ≤ n + 22) ⌝ }
+    requires { ⌜ n + 2 * fieldRoom ≤ length (now out) ⌝ }
+    ensures { λ r. ⌜ Wrote (now (out .entry)) n (tailed (refusalTexts refusal line)) (now (out .exit)) r × (r ≤ n + 2 * fieldRoom) ⌝ }
 {
     if refusal == 0 {
         return put_bytes(out, n, b",,");
@@ -105,23 +110,23 @@ fn put_refusal(out: &mut [u8], n: usize, refusal: u64, line: u64) -> usize
 
 // The line of a try up to its tolerance.
 fn put_front(out: &mut [u8], n: usize, numbers: &[u64], file: &[u8], tolerance: &[u8]) -> usize
-    requires { ⌜ (length (now numbers) ≡ columns) × (n + length (now file) + length (now tolerance) + 40 ≤ length (now out)) ⌝ }
+    requires { ⌜ (length (now numbers) ≡ columns) × (n + length (now file) + length (now tolerance) + frontRoom ≤ length (now out)) ⌝ }
     ensures { λ r. ⌜ PutFront (now (numbers .entry)) (now (file .entry)) (now (tolerance .entry)) (now (out .entry)) n (now (out .exit)) r ⌝ }
 {
     let a = put_whole(out, n, numbers[C_JOB]);
     let b = put_text(out, a, file);
-    let c = put_numbers(out, b, numbers, C_CHECKSUM, 2);
+    let c = put_numbers(out, b, numbers, C_CHECKSUM, CHECKED);
     put_text(out, c, tolerance)
 }
 
 // The rest of it.
 fn put_rest(out: &mut [u8], n: usize, numbers: &[u64]) -> usize
-    requires { ⌜ (length (now numbers) ≡ columns) × (n + 260 ≤ length (now out)) ⌝ }
+    requires { ⌜ (length (now numbers) ≡ columns) × (n + restRoom ≤ length (now out)) ⌝ }
     ensures { λ r. ⌜ PutRest (now (numbers .entry)) (now (out .entry)) n (now (out .exit)) r ⌝ }
 {
-    let a = put_numbers(out, n, numbers, C_CLOSED, 4);
+    let a = put_numbers(out, n, numbers, C_CLOSED, COUNTED);
     let b = put_refusal(out, a, numbers[C_REFUSAL], numbers[C_LINE]);
-    let c = put_numbers(out, b, numbers, C_WARNINGS, 17);
+    let c = put_numbers(out, b, numbers, C_WARNINGS, LAST);
     put_crlf(out, c)
 }
 
@@ -136,64 +141,40 @@ pub fn put_line(out: &mut [u8], n: usize, numbers: &[u64], file: &[u8], toleranc
 
 // The header of the tries.
 pub fn put_tries_header(out: &mut [u8], n: usize) -> usize
-    requires { ⌜ n + 320 ≤ length (now out) ⌝ }
+    requires { ⌜ n + headerRoom ≤ length (now out) ⌝ }
     ensures { λ r. ⌜ Wrote (now (out .entry)) n (triesHeader ++ crlf) (now (out .exit)) r ⌝ }
 {
     let a = put_bytes(
         out,
         n,
-        b"job,file,checksum,try,tolerance,closed,blocks,rows,marked,refusal,refusal_line,warning_1,warning_2,warning_3,warning_4,warning_5,warning_6,warning_7,warning_8,warning_9,warning_10,warning_11,warning_12,warning_13,warning_14,warning_15,curved,passed",
+        b"job,file,checksum,try,tolerance,closed,blocks,rows,marked,refusal,refusal_line,warning_1,warning_2,warning_3,warning_4,\
+        warning_5,warning_6,warning_7,warning_8,warning_9,warning_10,warning_11,warning_12,warning_13,warning_14,warning_15,curved,passed",
     );
     put_crlf(out, a)
 }
 
 // The header of the blocks that stay curved.
 pub fn put_curved_header(out: &mut [u8], n: usize) -> usize
-    requires { ⌜ n + 320 ≤ length (now out) ⌝ }
+    requires { ⌜ n + headerRoom ≤ length (now out) ⌝ }
     ensures { λ r. ⌜ Wrote (now (out .entry)) n (curvedHeader ++ crlf) (now (out .exit)) r ⌝ }
 {
     let a = put_bytes(out, n, b"job,try,line,motion,warning");
     put_crlf(out, a)
 }
 
-// Whether a field has as many bytes as a whole number may.
-fn is_short(field: &[u8]) -> bool
-    ensures { λ r. ⌜ r ≡ isShort (now (field .entry)) ⌝ }
-{
-    if field.len() == 0 {
-        return false;
-    }
-    field.len() <= DIGITS
-}
-
 // The whole number that a field is, of at most ten digits.
 pub fn read_whole(field: &[u8]) -> Whole
     ensures { λ r. ⌜ r ≡ wholeOf (now (field .entry)) ⌝ }
 {
-    if is_short(field) {
-        return read_digits(field);
+    let a = scan(field, DIGITS, 0);
+    let count = a.count;
+    if count == 0 {
+        return Whole::Bad;
+    }
+    if count == field.len() {
+        return Whole::Is(a.n);
     }
     Whole::Bad
-}
-
-fn read_digits(field: &[u8]) -> Whole
-    requires { ⌜ length (now field) ≤ mostDigits ⌝ }
-    ensures { λ r. ⌜ r ≡ digitsOf (now (field .entry)) ⌝ }
-{
-    let mut n: u64 = 0;
-    let mut i: usize = 0;
-    while i < field.len() {
-        let b = field[i];
-        if b < 48 {
-            return Whole::Bad;
-        }
-        if b >= 58 {
-            return Whole::Bad;
-        }
-        n = n * 10 + wide(b - 48);
-        i += 1;
-    }
-    Whole::Is(n)
 }
 
 // Whether a column has a text and no number.

@@ -1,9 +1,9 @@
 -- LAWS. From what the parts of a turn promise to what the turn does, and turn after turn. Assumes nothing.
 use Prim.Native.Nat.{ℕ, _*_, _-_, _≤_, _<_, zero-le}
 use mathlib.Core.Logic.{_⊎_, inl, inr, ⊎-elim}
-use mathlib.Core.Path.{_≡_, refl, sym, subst}
+use mathlib.Core.Path.{_≡_, refl, sym, _∙_, subst}
 use mathlib.Core.Bool.{Bool}
-use mathlib.Core.List.{List}
+use mathlib.Core.List.{List, []}
 use native.Mathlib.Omega.{arith}
 use lib.Dec.{eqb}
 use lib.ListN.{length}
@@ -22,12 +22,11 @@ use Rattle.night_told.specs.Telling.{kStart, fresh, firstCourse}
 use Rattle.night_told.specs.Tellings.{StartTold}
 use Rattle.night_reading.specs.declared.Next.{Next}
 use Rattle.night_reading.specs.declared.Reading.{Reading}
-use Rattle.night_reading.specs.declared.Tried.{Tried}
-use Rattle.night_reading.specs.Reading.{kept, firstReading, fromOf}
-use Rattle.night_reading.specs.Readings.{emptyRun, Ready, BehindIs, LastIs}
+use Rattle.night_reading.specs.Reading.{kept, firstReading, fromOf, cameBy}
+use Rattle.night_reading.specs.Readings.{emptyRun, Ready, BehindIs}
 use Rattle.night_spec.specs.Try.{nightRows}
-use Rattle.night_calls.specs.Steps.{Slices, slices, Room}
-use Rattle.night_try.specs.Turns.{outRoom, listedsRoom, Within, DoneBy, TurnIs, none, then, AllTurns, Ran}
+use Rattle.night_calls.specs.Steps.{Slices, Room}
+use Rattle.night_try.specs.Turns.{outRoom, listedsRoom, Within, DoneBy, TurnIs, none, then, AllTurns}
 
 pub deed-as : {f g : Found} {t : Turn} {run r : TryRun} {b : List ℕ} {m m′ : Slices} → g ≡ f → DoneBy f t run b m r m′ → DoneBy g t run b m r m′
 deed-as {f} {g} {t} {run} {r} {b} {m} {m′} e w = subst (λ (x : Found). DoneBy x t run b m r m′) (sym e) w
@@ -64,8 +63,9 @@ turn-did {s} {b} {b′} {m} {m′} {next} {then} {r} w g done k n p q =
     let same : r .run ≡ then = k .try in
     record {
       next = next;
+      came = cameBy s (next .turn) b′;
       ready = w;
-      deed = inl (record { going = g; then = then; deed = done; reading = k });
+      deed = inl (record { going = g; long = turned .same ∙ n; bytes = refl; then = then; deed = done; reading = k });
       within =
           record {
             window = omega (arith, k .from, k .upto, lower);
@@ -81,8 +81,9 @@ pub turn-stopped : {s : Reading} {b b′ : List ℕ} {m : Slices} {next : Next} 
 turn-stopped {s} {b} {b′} {m} {next} w g h =
     record {
       next = next;
+      came = [];
       ready = w;
-      deed = inr (record { over = g; reading = refl; memory = refl });
+      deed = inr (record { over = g; nothing = refl; reading = refl; memory = refl });
       within =
           record {
             window = h .window;
@@ -99,13 +100,13 @@ pub record Stands (s₀ : Reading) (b₀ : List ℕ) (m₀ : Slices) (s : Readin
   pub going : 0 < turns → s .over ≡ goesOn
 
 pub first-stands : (s₀ : Reading) (turns : ℕ) (b₀ : List ℕ) (m₀ : Slices) → Within s₀ × (s₀ .over ≡ goesOn) → Stands s₀ b₀ m₀ s₀ turns b₀ m₀
-first-stands s₀ turns b₀ m₀ w = record { all = record { turns = none; within = w .0 }; going = λ h. w .1 }
+first-stands s₀ turns b₀ m₀ w = record { all = record { got = []; outs = []; lists = []; turns = none; within = w .0 }; going = λ h. w .1 }
 
 pub stands-on : {s₀ s r : Reading} {b₀ b b′ : List ℕ} {m₀ m m′ : Slices} {turns left : ℕ} → Stands s₀ b₀ m₀ s turns b m → 0 < turns
     → TurnIs s b m r b′ m′ → (r .over ≡ goesOn) ⊎ (left ≡ 0) → Stands s₀ b₀ m₀ r left b′ m′
 stands-on {r = r} {left = left} w h t o =
     record {
-      all = record { turns = then (w .all .turns) (w .going h) t; within = t .within };
+      all = record { got = _; outs = _; lists = _; turns = then (w .all .turns) (w .going h) t; within = t .within };
       going = λ (l : 0 < left). ⊎-elim (λ (e : r .over ≡ goesOn). e) (λ (e : left ≡ 0). absurd (omega arith)) o;
     }
 
@@ -131,17 +132,3 @@ first-within {t} {st} {st′} {w} {w′} {tolerance} {c} {s} b e = subst (λ (x 
           lists = zero-le;
           sound = subst (λ (x : Course). Sound (firstReading t x .run)) (sym (b .course)) (first-sound t _ _);
         }
-
-pub try-ran : {t : Ticket} {tolerance : ℕ} {b b′ : List ℕ} {m m′ : Slices} {st w : List ℕ} {c : Course} {s₀ s : Reading} {r : Tried}
-    → StartTold t (m .state) (m .tally) tolerance st w c → s₀ ≡ firstReading t c
-    → AllTurns s₀ b (slices st (m .store) (m .rows) w (m .out) (m .listed)) s b′ m′ → LastIs s r → Ran t tolerance b m r b′ m′
-try-ran {t} {tolerance} {b} {b′} {m} {m′} {st} {w} {c} {s₀} {s} {r} g e a l =
-    record {
-      course = c;
-      state = st;
-      tally = w;
-      began = g;
-      reading = s;
-      turned = subst (λ (x : Reading). AllTurns x b (slices st (m .store) (m .rows) w (m .out) (m .listed)) s b′ m′) e a;
-      last = l;
-    }

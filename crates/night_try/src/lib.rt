@@ -10,6 +10,7 @@ use layout::STATE_WORDS;
 use night_answer::GOES;
 use night_answer::Ticket;
 use night_answer::TryRun;
+use night_line::input_ends;
 use night_line::night_end;
 use night_line::night_line;
 use night_reading::Files;
@@ -25,10 +26,11 @@ use tally_words::TALLY_WORDS;
 use text_lines::Found;
 use text_lines::Turn;
 ghost use mathlib.Core.Path.{_≡_};
-ghost use Prim.Native.Nat.{_≤_};
+ghost use Prim.Native.Nat.{_-_, _≤_};
 ghost use lib.ListN.{length};
 ghost use Rattle.csv_status.specs.Status.{goesOn};
 ghost use Rattle.night_calls.specs.Steps.{slices, Stepped, Room};
+ghost use Rattle.night_line.specs.Lines.{EndTold};
 ghost use Rattle.night_try.specs.Turns.{Within, FoundIn, lineDeed, endDeed, DoneBy, TurnIs, AllTurns, Ran};
 
 // How many rows a call is lent room for, and the bytes that a row's text and a block's line are never more than.
@@ -96,7 +98,16 @@ fn finish(
     night_end(run, behind, state, store, rows, tally, out, listed)
 }
 
-// What a turn found is done. A line that fills the buffer is one without its end.
+// A line that fills the buffer is one without its end.
+fn too_long(t: Turn, run: TryRun, tally: &mut [u64]) -> TryRun
+    requires { ⌜ t .at ≤ t .end ⌝ }
+    ensures { λ r. ⌜ EndTold run (t .end - t .at) (now (tally .entry)) r (now (tally .exit)) ⌝ }
+{
+    let behind = t.end - t.at;
+    input_ends(run, behind, tally)
+}
+
+// What a turn found is done.
 fn done(
     t: Turn,
     run: TryRun,
@@ -119,7 +130,7 @@ fn done(
         Found::Line => take_line(t, run, buf, state, store, rows, tally, out, listed),
         Found::More => run,
         Found::Ended => finish(t, run, state, store, rows, tally, out, listed),
-        Found::Full => finish(t, run, state, store, rows, tally, out, listed),
+        Found::Full => too_long(t, run, tally),
         Found::Failed => run,
     }
 }

@@ -6,7 +6,7 @@ use Rattle.picture_fit.specs.declared.Span.{Span}
 use Rattle.picture_fit.specs.declared.Scale.{Scale}
 use Rattle.picture_fit.specs.declared.Fit.{Fit}
 
--- the picture's width in its own units, and the area of the path in it: how wide and high, and where its middle and its lower edge are
+-- the picture's width in its own units, and the area of the path in it: how wide and high, and how far down its middle is
 abbrev pub wide : ℕ
 wide = 1000
 
@@ -18,9 +18,6 @@ areaHigh = 820
 
 abbrev pub middle : ℕ
 middle = 440
-
-abbrev pub lowerEdge : ℕ
-lowerEdge = 850
 
 -- the widest box, in millionths of a millimetre
 abbrev pub widest : ℕ
@@ -73,15 +70,12 @@ scaleBy units w =
 unfoldable pub drawn : ℕ → ℕ → ℕ → ℕ
 drawn units v w = lowerOf (units * v / atLeast w) areaWide
 
--- the fit of a box of w by h: as high as the area, or as wide, in its middle
-abbrev pub tallFit : ℕ → ℕ → Fit
-tallFit w h = record { scale = scaleBy areaHigh h; left = (wide - drawn areaHigh w h) / 2; base = lowerEdge }
-
-abbrev pub wideFit : ℕ → ℕ → Fit
-wideFit w h = record { scale = scaleBy areaWide w; left = (wide - drawn areaWide w w) / 2; base = middle + drawn areaWide h w / 2 }
+-- 12.5: a box of w by h is drawn as high as the area, or as wide, in its middle; a side below the least one is drawn shorter
+unfoldable pub fitBy : ℕ → ℕ → ℕ → ℕ → Fit
+fitBy units side w h = record { scale = scaleBy units side; left = (wide - drawn units w side) / 2; base = middle + drawn units h side / 2 }
 
 unfoldable pub fitOf : ℕ → ℕ → Fit
-fitOf w h = cond (ltb (w * areaHigh) (h * areaWide)) (tallFit w h) (wideFit w h)
+fitOf w h = cond (ltb (w * areaHigh) (h * areaWide)) (fitBy areaHigh h w h) (fitBy areaWide w w h)
 
 -- ---- numbers that have a text
 abbrev pub mostScale : ℕ

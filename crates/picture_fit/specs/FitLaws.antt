@@ -8,7 +8,7 @@ use lib.Dec.{ltb}
 use borrow.Author.Tests.{ltb-true, ltb-false}
 use Rattle.picture_fit.specs.declared.Scale.{Scale}
 use Rattle.picture_fit.specs.Fit.{areaWide, areaHigh, widest, millimetre, unit, fineUnit, lowerOf, least, atLeast}
-use Rattle.picture_fit.specs.Fit.{scaleBy, tallFit, wideFit, fitOf, mostScale}
+use Rattle.picture_fit.specs.Fit.{scaleBy, fitBy, fitOf, mostScale}
 
 pub lower-second : (a b : ℕ) → lowerOf a b ≤ b
 unfolding lowerOf
@@ -74,10 +74,10 @@ abbrev fitIn : ℕ → ℕ → Bool → Scale
 fitIn w h b = cond b (scaleBy areaHigh h) (scaleBy areaWide w)
 
 fit-scale : (w h : ℕ) → fitOf w h .scale ≡ fitIn w h (ltb (w * areaHigh) (h * areaWide))
-unfolding fitOf
+unfolding fitOf fitBy
 fit-scale w h = go (ltb (w * areaHigh) (h * areaWide))
   where
-    go : (b : Bool) → cond b (tallFit w h) (wideFit w h) .scale ≡ fitIn w h b
+    go : (b : Bool) → cond b (fitBy areaHigh h w h) (fitBy areaWide w w h) .scale ≡ fitIn w h b
     go true = refl
     go false = refl
 

@@ -1,11 +1,11 @@
-// The box of a picture's points, one span for each of its two axes, and how the box is fitted into the area of the picture.
+// What a picture is of, its axes and its counts; the box of its points, one span for each axis, and how the box is fitted into
+// the area of the picture.
 ghost use mathlib.Core.Path.{_≡_};
 ghost use Prim.Native.Nat.{_≤_, _<_};
 ghost use Rattle.picture_fit.specs.Fit.{widest, areaWide, lowerOf, higherOf, noSpan, widened, isEmpty, extent, least};
-ghost use Rattle.picture_fit.specs.Fit.{atLeast, scaleBy, drawn, fitOf, mostScale, Small};
+ghost use Rattle.picture_fit.specs.Fit.{atLeast, scaleBy, drawn, fitBy, fitOf, mostScale, Small};
 
-// The picture's width in its own units, and the area of the path in it: how wide and high, and where its middle and its
-// lower edge are.
+// The picture's width in its own units, and the area of the path in it: how wide and high, and how far down its middle is.
 const WIDE: u64 = 1000;
 
 const AREA_WIDE: u64 = 940;
@@ -13,8 +13,6 @@ const AREA_WIDE: u64 = 940;
 const AREA_HIGH: u64 = 820;
 
 const MIDDLE: u64 = 440;
-
-const LOWER: u64 = 850;
 
 // The widest box, in millionths of a millimetre.
 const WIDEST: u64 = 2000000000000000;
@@ -29,10 +27,30 @@ const UNIT: u64 = 1000000000000;
 
 const FINE_UNIT: u64 = 10000000000000000;
 
+// Rows of each class of a picture.
+pub struct Counts {
+    pub rapid: u64,
+    pub feed: u64,
+    pub sample: u64,
+    pub curved: u64,
+}
+
+// The codes of the axes of a picture: what goes to the right, and what goes up.
+pub struct Plane {
+    pub across: usize,
+    pub up: usize,
+}
+
 // The places between which points lie: none where `to` is below `from`.
 pub struct Span {
     pub from: u64,
     pub to: u64,
+}
+
+// The box of a picture's points.
+pub struct Frame {
+    pub across: Span,
+    pub up: Span,
 }
 
 // The span of a box with no point.
@@ -129,25 +147,28 @@ pub struct Fit {
     pub base: u64,
 }
 
+// The fit of a box of w by h whose side is drawn over `units`, in the middle of the area.
+fn fit_by(units: u64, side: u64, w: u64, h: u64) -> Fit
+    requires { ⌜ (units ≤ areaWide) × ((w ≤ widest) × (h ≤ widest)) ⌝ }
+    ensures { λ r. ⌜ (r ≡ fitBy units side w h) × Small r ⌝ }
+{
+    let scale = scale_by(units, side);
+    Fit {
+        scale,
+        left: (WIDE - drawn(units, w, side)) / 2,
+        base: MIDDLE + drawn(units, h, side) / 2,
+    }
+}
+
 // The fit of a box of w by h.
 fn fitted(w: u64, h: u64) -> Fit
     requires { ⌜ (w ≤ widest) × (h ≤ widest) ⌝ }
     ensures { λ r. ⌜ (r ≡ fitOf w h) × Small r ⌝ }
 {
     if w * AREA_HIGH < h * AREA_WIDE {
-        let scale = scale_by(AREA_HIGH, h);
-        return Fit {
-            scale,
-            left: (WIDE - drawn(AREA_HIGH, w, h)) / 2,
-            base: LOWER,
-        };
+        return fit_by(AREA_HIGH, h, w, h);
     }
-    let scale = scale_by(AREA_WIDE, w);
-    Fit {
-        scale,
-        left: (WIDE - drawn(AREA_WIDE, w, w)) / 2,
-        base: MIDDLE + drawn(AREA_WIDE, h, w) / 2,
-    }
+    fit_by(AREA_WIDE, w, w, h)
 }
 
 // The fit of the box of two spans.

@@ -10,9 +10,9 @@ use Rattle.picture_class.specs.Class.{classOf, letterOf}
 use Rattle.picture_path.specs.declared.Path.{Path}
 use Rattle.picture_path.specs.declared.Point.{Point}
 use Rattle.picture_path.specs.PathText.{moveText}
-use Rattle.picture_text.specs.declared.Counts.{Counts}
-use Rattle.picture_text.specs.declared.Frame.{Frame}
-use Rattle.picture_text.specs.declared.Plane.{Plane}
+use Rattle.picture_fit.specs.declared.Counts.{Counts}
+use Rattle.picture_fit.specs.declared.Frame.{Frame}
+use Rattle.picture_fit.specs.declared.Plane.{Plane}
 use Rattle.picture_pen.specs.declared.Spot.{Spot}
 use Rattle.picture_pen.specs.declared.Pen.{Pen}
 use Rattle.picture_pen.specs.Pen.{countedOf, spotAfter, frameAfter, movesIn, pathBehind, penAfter, pointOf, rowDrawn}

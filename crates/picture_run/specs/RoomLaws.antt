@@ -18,7 +18,7 @@ use Rattle.csv_io.specs.Flush.{Emptied}
 use Rattle.csv_io.specs.declared.Left.{Left}
 use Rattle.csv_reading.specs.declared.Reading.{Reading}
 use Rattle.csv_reading.specs.Reading.{firstReading, behind}
-use Rattle.picture_text.specs.Grew.{startRoom}
+use Rattle.picture_text.specs.Rooms.{startRoom}
 use Rattle.picture_run.specs.Room.{Room, Kept, Behind, Within}
 
 pub kept-same : (run : Run) → Kept run run

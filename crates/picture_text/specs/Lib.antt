@@ -1,2 +1,1 @@
-pub mod Grew
-pub mod GrewLaws
+pub mod Rooms

@@ -9,7 +9,7 @@ use Rattle.csv_fields.specs.Readers.{tail-is}
 use Rattle.csv_words.specs.Text.{bytes}
 use Rattle.csv_words.specs.Words.{same}
 use Rattle.night_args.specs.Names.{endsCsv, ending}
-use Rattle.night_args.proofs.Reading.{is-same}
+use Rattle.night_args.specs.Comparing.{is-same}
 use borrow.Author.Needs.{needs}
 use Rattle.night_args.proofs.ends_csv.Statement.{statement}
 use Rattle.night_args.proofs.ends_csv.Tie as tie

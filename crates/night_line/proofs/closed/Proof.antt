@@ -10,7 +10,11 @@ is-open-requires : tie.Need-is-open-requires
 is-open-requires c κs = search needs
 
 close-told-requires : tie.Need-close-told-requires
-close-told-requires c κs = search needs
+close-told-requires c κs =
+    let at-if1 = c .before .before .before .before .before in
+    let at-is-open = at-if1 .before in
+    let start = at-is-open .before .before .before .before .before .before .before in
+    start .pre .room (sym (at-is-open .is-open .ensures) ∙ (at-if1 .if1 .taken))
 
 same-length : tie.Need-same-length
 same-length c = search needs

@@ -8,8 +8,8 @@ use Rattle.night_line.proofs.night_end.Tie as tie
 input-ends-requires : tie.Need-input-ends-requires
 input-ends-requires c κs = search needs
 
-closed-requires : tie.Need-closed-requires
-closed-requires c κs =
+shut-requires : tie.Need-shut-requires
+shut-requires c κs =
     let at-input-ends = c .before .before .before .before .before .before .before in
     let start = at-input-ends .before .before .before .before .before .before .before .before in
     let end = at-input-ends .input-ends .ensures in
@@ -32,17 +32,17 @@ same-length-5 c = search needs
 
 returns : tie.Need-returns
 returns c =
-    let at-closed = c .before .before .before .before .before .before .before .before .before .before in
-    let at-input-ends = at-closed .before .before .before .before .before .before .before .before in
+    let at-shut = c .before .before .before .before .before .before .before .before .before .before in
+    let at-input-ends = at-shut .before .before .before .before .before .before .before .before in
     let start = at-input-ends .before .before .before .before .before .before .before .before in
-    end-step _ ((at-input-ends .input-ends .ensures .step) _ _ _ _ _ (start .pre .sound)) (at-closed .closed .ensures)
+    end-step _ ((at-input-ends .input-ends .ensures .step) _ _ _ _ _ (start .pre .sound)) (at-shut .shut .ensures)
 
 pub night-end-spec : {M : Type 1} → statement M
 night-end-spec =
     tie.close
     (tie.spec
     input-ends-requires
-    closed-requires
+    shut-requires
     same-length
     same-length-2
     same-length-3

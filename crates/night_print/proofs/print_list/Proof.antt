@@ -5,10 +5,10 @@ use Rattle.night_print.proofs.print_list.Statement.{statement}
 use Rattle.night_print.proofs.print_list.Tie as tie
 
 abbrev Inv-loop : tie.InvT-loop
-Inv-loop file from list marks tries at₀ left₀ at left = 0 ≤ left
+Inv-loop file from lot tolerances marks tries at₀ left₀ at left = 0 ≤ left
 
 abbrev μ-loop : tie.MeasureT-loop
-μ-loop file from list marks tries at₀ left₀ at left = left
+μ-loop file from lot tolerances marks tries at₀ left₀ at left = left
 
 loop-holds : tie.Need-loop-holds Inv-loop μ-loop
 loop-holds c = search needs
@@ -18,6 +18,9 @@ print-at-requires c κs = search needs
 
 returns : tie.Need-returns Inv-loop μ-loop
 returns c = search needs
+
+is-torn-requires : tie.Need-is-torn-requires Inv-loop μ-loop
+is-torn-requires c κs = search needs
 
 returns-2 : tie.Need-returns-2 Inv-loop μ-loop
 returns-2 c = search needs
@@ -46,6 +49,7 @@ print-list-spec =
     loop-holds
     print-at-requires
     returns
+    is-torn-requires
     returns-2
     wrapping-add-u64-requires
     sub-left

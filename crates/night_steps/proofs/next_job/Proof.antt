@@ -16,20 +16,20 @@ loop-holds c = search needs
 returns : tie.Need-returns Inv-loop μ-loop
 returns c = search needs
 
-mul-is-over : tie.Need-mul-is-over Inv-loop μ-loop
-mul-is-over c = search needs
+mul-done-with : tie.Need-mul-done-with Inv-loop μ-loop
+mul-done-with c = search needs
 
-element-copy-out-is-over : tie.Need-element-copy-out-is-over Inv-loop μ-loop
-element-copy-out-is-over c = search needs
+element-copy-out-done-with : tie.Need-element-copy-out-done-with Inv-loop μ-loop
+element-copy-out-done-with c = search needs
 
-mul-is-over-2 : tie.Need-mul-is-over-2 Inv-loop μ-loop
-mul-is-over-2 c = search needs
+mul-done-with-2 : tie.Need-mul-done-with-2 Inv-loop μ-loop
+mul-done-with-2 c = search needs
 
-element-copy-out-is-over-2 : tie.Need-element-copy-out-is-over-2 Inv-loop μ-loop
-element-copy-out-is-over-2 c = search needs
+element-copy-out-done-with-2 : tie.Need-element-copy-out-done-with-2 Inv-loop μ-loop
+element-copy-out-done-with-2 c = search needs
 
-is-over-requires : tie.Need-is-over-requires Inv-loop μ-loop
-is-over-requires c κs = search needs
+done-with-requires : tie.Need-done-with-requires Inv-loop μ-loop
+done-with-requires c κs = search needs
 
 returns-2 : tie.Need-returns-2 Inv-loop μ-loop
 returns-2 c = search needs
@@ -54,11 +54,11 @@ next-job-spec =
     μ-loop
     loop-holds
     returns
-    mul-is-over
-    element-copy-out-is-over
-    mul-is-over-2
-    element-copy-out-is-over-2
-    is-over-requires
+    mul-done-with
+    element-copy-out-done-with
+    mul-done-with-2
+    element-copy-out-done-with-2
+    done-with-requires
     returns-2
     add-i
     loop-less

@@ -3,7 +3,7 @@ use Prim.Native.Nat.{_+_, _*_, _-_, _≤_}
 use native.Mathlib.Omega.{arith}
 use lib.ListN.{length}
 use Rattle.csv_figures.specs.OutLaws.{wrote-length}
-use Rattle.night_table.specs.Lines.{PutNumbers}
+use Rattle.night_table.specs.Lines.{fieldRoom, PutNumbers}
 use Rattle.night_table.proofs.Writing.{numbers-none, numbers-more, numbers-done}
 use borrow.Author.Needs.{needs}
 use Rattle.night_table.proofs.put_numbers.Statement.{statement}
@@ -11,7 +11,7 @@ use Rattle.night_table.proofs.put_numbers.Tie as tie
 
 abbrev Inv-loop : tie.InvT-loop
 Inv-loop out₀ n numbers from count at₀ k₀ out at k =
-    PutNumbers numbers from k out₀ n out at × ((k ≤ count) × ((from + count ≤ length numbers) × (n + 11 * count ≤ length out₀)))
+    PutNumbers numbers from k out₀ n out at × ((k ≤ count) × ((from + count ≤ length numbers) × (n + fieldRoom * count ≤ length out₀)))
 
 abbrev μ-loop : tie.MeasureT-loop
 μ-loop out₀ n numbers from count at₀ k₀ out at k = count - k

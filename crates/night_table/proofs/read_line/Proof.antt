@@ -1,5 +1,5 @@
 -- `night_table::read_line` meets its contract. Assumes nothing.
-use mathlib.Core.Path.{_≡_}
+use mathlib.Core.Path.{_≡_, sym, _∙_}
 use Prim.Native.Nat.{_-_}
 use native.Mathlib.Omega.{arith}
 use lib.ListN.{length}
@@ -62,7 +62,7 @@ returns-2 c =
     let b5 = b4 .before in
     let b6 = b5 .before in
     let b7 = b6 .before in
-    reads-bad ((b7 .loop .inv) .0) (b6 .loop-test .taken) (b5 .if1 .left) (b4 .field-end .ensures) (cc ((c .enum-told .given .1), (b2 .read-column .ensures)))
+    reads-bad ((b7 .loop .inv) .0) (b6 .loop-test .taken) (b5 .if1 .left) (b4 .field-end .ensures) (sym (c .enum-told .given .1) ∙ b2 .read-column .ensures)
 
 mul-numbers : tie.Need-mul-numbers Inv-loop μ-loop
 mul-numbers c = search needs
@@ -92,7 +92,7 @@ loop-again c =
     let b7 = b6 .before in
     let b8 = b7 .before in (
       reads-more ((b8 .loop .inv) .0) ((b8 .loop .inv) .1) (b7 .loop-test .taken) (b6 .if1 .left) (b5 .field-end .ensures)
-          (cc ((c .before .v .given .1), (b3 .read-column .ensures))),
+          (sym (c .before .v .given .1) ∙ b3 .read-column .ensures),
       (b8 .loop .inv) .1,
     )
 

@@ -1,21 +1,20 @@
 -- `night_table::read_whole` meets its contract. Assumes nothing.
-use mathlib.Core.Path.{sym, _∙_}
-use Rattle.night_table.proofs.Taking.{short-few, whole-short, whole-long}
+use Rattle.night_table.proofs.Taking.{whole-none, whole-all, whole-more}
 use borrow.Author.Needs.{needs}
 use Rattle.night_table.proofs.read_whole.Statement.{statement}
 use Rattle.night_table.proofs.read_whole.Tie as tie
 
-is-short-requires : tie.Need-is-short-requires
-is-short-requires c κs = search needs
-
-read-digits-requires : tie.Need-read-digits-requires
-read-digits-requires c κs = short-few _ (sym (c .before .is-short .ensures) ∙ (c .if1 .taken))
+scan-requires : tie.Need-scan-requires
+scan-requires c κs = search needs
 
 returns : tie.Need-returns
-returns c = whole-short _ _ (sym (c .before .before .is-short .ensures) ∙ (c .before .if1 .taken)) (c .read-digits .ensures)
+returns c = whole-none _ _ _ (c .before .scan .ensures .0) (c .before .scan .ensures .1) (c .if1 .taken)
 
 returns-2 : tie.Need-returns-2
-returns-2 c = whole-long _ (sym (c .before .is-short .ensures) ∙ (c .if1 .left))
+returns-2 c = whole-all _ _ _ (c .before .before .scan .ensures .0) (c .before .before .scan .ensures .1) (c .before .if1 .left) (c .if2 .taken)
+
+returns-3 : tie.Need-returns-3
+returns-3 c = whole-more _ _ _ (c .before .before .scan .ensures .0) (c .before .before .scan .ensures .1) (c .before .if1 .left) (c .if2 .left)
 
 pub read-whole-spec : {M : Type 1} → statement M
-read-whole-spec = tie.close (tie.spec is-short-requires read-digits-requires returns returns-2)
+read-whole-spec = tie.close (tie.spec scan-requires returns returns-2 returns-3)

@@ -23,8 +23,8 @@ finish-requires c κs = search needs
 enum-told-4 : tie.Need-enum-told-4
 enum-told-4 c = search needs
 
-finish-requires-2 : tie.Need-finish-requires-2
-finish-requires-2 c κs = search needs
+too-long-requires : tie.Need-too-long-requires
+too-long-requires c κs = search needs
 
 enum-told-5 : tie.Need-enum-told-5
 enum-told-5 c = search needs
@@ -85,26 +85,12 @@ returns-3 c =
 same-length-13 : tie.Need-same-length-13
 same-length-13 c = search needs
 
-same-length-14 : tie.Need-same-length-14
-same-length-14 c = search needs
-
-same-length-15 : tie.Need-same-length-15
-same-length-15 c = search needs
-
-same-length-16 : tie.Need-same-length-16
-same-length-16 c = search needs
-
-same-length-17 : tie.Need-same-length-17
-same-length-17 c = search needs
-
-same-length-18 : tie.Need-same-length-18
-same-length-18 c = search needs
-
 returns-4 : tie.Need-returns-4
 returns-4 c =
-    let at-finish2 = c .before .before .before .before .before .before .before .before .before .before in
-    let at-enum-told4 = at-finish2 .before .before .before .before .before .before .before in
-    deed-as (at-enum-told4 .enum-told4 .given .1) (record { step = (at-finish2 .finish2 .ensures) })
+    let at-too-long = c .before .before in
+    let at-enum-told4 = at-too-long .before .before in
+    let start = at-enum-told4 .before .before .before .before .before .before .before .before .before in
+    deed-as (at-enum-told4 .enum-told4 .given .1) (record { step = (at-too-long .too-long .ensures .step) _ _ _ _ _ (start .pre .1 .sound) })
 
 returns-5 : tie.Need-returns-5
 returns-5 c =
@@ -121,7 +107,7 @@ done-spec =
     enum-told-3
     finish-requires
     enum-told-4
-    finish-requires-2
+    too-long-requires
     enum-told-5
     same-length
     same-length-2
@@ -139,10 +125,5 @@ done-spec =
     same-length-12
     returns-3
     same-length-13
-    same-length-14
-    same-length-15
-    same-length-16
-    same-length-17
-    same-length-18
     returns-4
     returns-5)

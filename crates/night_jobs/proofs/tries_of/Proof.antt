@@ -1,0 +1,12 @@
+-- `night_jobs::tries_of` meets its contract. Assumes nothing.
+use mathlib.Core.Path.{refl}
+use Rattle.night_jobs.specs.Jobs.{triesOf}
+use Rattle.night_jobs.proofs.tries_of.Statement.{statement}
+use Rattle.night_jobs.proofs.tries_of.Tie as tie
+
+returns : tie.Need-returns
+unfolding triesOf
+returns c = refl
+
+pub tries-of-spec : {M : Type 1} → statement M
+tries-of-spec = tie.close (tie.spec returns)

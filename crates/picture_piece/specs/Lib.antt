@@ -1,0 +1,2 @@
+pub mod Grew
+pub mod GrewLaws
