@@ -18,13 +18,16 @@ ghost use Rattle.bspline_raise.specs.Climb.{Width, Put, Raised, Level, Climbed,
 // Numbers of a row at most: every axis and the weights, in whole fours. Rows are written out for three fours.
 pub const MOST_WIDE: usize = (AXIS_CODES + 4) / 4 * 4;
 
+// Numbers of a row at least.
+pub const LEAST_WIDE: usize = 4;
+
 // The numbers of a row that has ch channels and the weights: whole fours.
 pub fn row_width(ch: usize) -> usize
     requires { ⌜ ch ≤ axisCodes ⌝ }
     ensures { λ r. ⌜ Width r × (ch < r) ⌝ }
 {
-    if ch < 4 {
-        return 4;
+    if ch < LEAST_WIDE {
+        return LEAST_WIDE;
     }
     if ch < 8 {
         return 8;

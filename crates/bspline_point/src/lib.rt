@@ -1,4 +1,5 @@
 // The point of a B-spline at a parameter.
+use bspline_boor::LEAST_WIDE;
 use bspline_boor::MOST_WIDE;
 use bspline_boor::climb_up;
 use bspline_boor::load_rows;
@@ -63,12 +64,13 @@ fn eval_low(ks: &[f64], cw: &[f64], n: usize, p: usize, ch: usize, t: f64) -> [f
     project_tops(s, p, cw, n, k - p, ch)
 }
 
-// Work memory of three sizes and for the highest degree: small where the rows are few, since it is cleared at each call.
+// Work memory of four sizes: small where the rows are few, since it is cleared at each call; the third has room for the
+// highest degree where rows are of four numbers, the last for any.
 const FEW: usize = 64;
 
 const SOME: usize = 256;
 
-const MANY: usize = 1024;
+const MANY: usize = MOST_POINTS * LEAST_WIDE;
 
 const MOST: usize = MOST_POINTS * MOST_WIDE;
 
@@ -143,12 +145,23 @@ fn eval_most(
     eval_in(ks, cw, n, p, ch, t, wide, &mut d)
 }
 
-fn eval_high(ks: &[f64], cw: &[f64], n: usize, p: usize, ch: usize, t: f64) -> [f64; WIDEST]
+// The point at t in work memory for so many cells. It calls itself so that each memory has a frame of its own (crate
+// spline_emit).
+fn eval_for(
+    cells: usize,
+    ks: &[f64],
+    cw: &[f64],
+    n: usize,
+    p: usize,
+    ch: usize,
+    t: f64,
+    wide: usize,
+) -> [f64; WIDEST]
     requires { ⌜ Curve (now ks) (now cw) n p ch ⌝ }
+    requires { ⌜ Width wide × (ch < wide) ⌝ }
+    requires { ⌜ (p + 1) * wide ≤ cells ⌝ }
     ensures { λ r. ⌜ r ≡ filled (curveAt (now (ks .entry)) (now (cw .entry)) n p ch t) ch (replicate widest f0) ⌝ }
 {
-    let wide = row_width(ch);
-    let cells = (p + 1) * wide;
     if cells <= FEW {
         return eval_few(ks, cw, n, p, ch, t, wide);
     }
@@ -158,7 +171,19 @@ fn eval_high(ks: &[f64], cw: &[f64], n: usize, p: usize, ch: usize, t: f64) -> [
     if cells <= MANY {
         return eval_many(ks, cw, n, p, ch, t, wide);
     }
-    eval_most(ks, cw, n, p, ch, t, wide)
+    if cells <= MOST {
+        return eval_most(ks, cw, n, p, ch, t, wide);
+    }
+    eval_for(cells - 1, ks, cw, n, p, ch, t, wide)
+}
+
+fn eval_high(ks: &[f64], cw: &[f64], n: usize, p: usize, ch: usize, t: f64) -> [f64; WIDEST]
+    requires { ⌜ Curve (now ks) (now cw) n p ch ⌝ }
+    ensures { λ r. ⌜ r ≡ filled (curveAt (now (ks .entry)) (now (cw .entry)) n p ch t) ch (replicate widest f0) ⌝ }
+{
+    let wide = row_width(ch);
+    let cells = (p + 1) * wide;
+    eval_for(cells, ks, cw, n, p, ch, t, wide)
 }
 
 // The point at t.

@@ -1,14 +1,12 @@
 -- The degree, and the knots as they are filled. Assumes nothing.
 use mathlib.Core.Path.{_≡_, sym, ap, _∙_}
 use mathlib.Core.List.{List}
-use Prim.Native.Nat.{ℕ, _+_, _-_, _*_, _<_, _≤_, min}
-use native.Mathlib.Nat.{mul-le-mul-right}
+use Prim.Native.Nat.{ℕ, _+_, _-_, _<_, _≤_, min}
 use native.Mathlib.Omega.{arith}
 use lib.Ieee.{Float, nan}
 use Rattle.floats.specs.Numbers.{ofNat, at}
 use Rattle.floats.specs.Lists.{filled, Agrees}
 use Rattle.floats.specs.Fill.{at-filled, at-upto}
-use Rattle.layout.specs.Layout.{axisCodes}
 use Rattle.bspline_tables.specs.Basis.{degreeOf, knots}
 
 pub knots-are : (n p : ℕ) (l : List Float) {ks : List Float} → ks ≡ filled (λ i. ofNat (min (i - p) (n - p))) (n + p + 1) l
@@ -24,8 +22,3 @@ knot-top n p l e =
 pub degree-in : (degree n : ℕ) {p : ℕ} → 2 ≤ n → p ≡ degreeOf n degree → (1 ≤ p) × (p < n)
 unfolding degreeOf
 degree-in degree n h e = omega arith
-
-pub product-in : (ch n len : ℕ) → ch ≤ axisCodes → (axisCodes + 1) * n ≤ len → (ch + 1) * n ≤ len
-product-in ch n len h l =
-    let a : (ch + 1) * n ≤ (axisCodes + 1) * n = mul-le-mul-right n (omega arith) in
-    omega arith

@@ -19,7 +19,7 @@ pub fn prepare_basis(
 ) -> usize
     requires { ⌜ (2 ≤ n) × ((n ≤ mostPoints) × (ch ≤ axisCodes)) ⌝ }
     requires { ⌜ (n * ch ≤ length (now pts)) × (n ≤ length (now ws)) ⌝ }
-    requires { ⌜ (2 * n ≤ length (now ks)) × ((axisCodes + 1) * n ≤ length (now cw)) ⌝ }
+    requires { ⌜ (2 * n ≤ length (now ks)) × ((ch + 1) * n ≤ length (now cw)) ⌝ }
     ensures { λ r. ⌜ BasisIs degree n ch (now (pts .entry)) (now (ws .entry)) r (now (ks .exit)) (now (cw .exit)) ⌝ }
 {
     let p = degree_of(degree, n);

@@ -6,11 +6,15 @@ use lib.ListN.{length}
 use lib.Ieee.{Float}
 use Rattle.floats.specs.Numbers.{at}
 use Rattle.floats.specs.Lists.{upto}
-use Rattle.layout.specs.Layout.{axisCodes}
+use Rattle.layout.specs.Layout.{axisCodes, mostPoints}
 use Rattle.bspline_tables.specs.Basis.{levels}
 use Rattle.bspline_low.specs.Low.{mixOf}
 
--- work memory of three sizes that are chosen; the highest degree has its own
+-- numbers of a row at least
+abbrev pub leastWide : ℕ
+leastWide = 4
+
+-- work memory of three sizes that are chosen, the third for the highest degree in rows of four; the widest rows have their own
 abbrev pub fewCells : ℕ
 fewCells = 64
 
@@ -18,7 +22,7 @@ abbrev pub someCells : ℕ
 someCells = 256
 
 abbrev pub manyCells : ℕ
-manyCells = 1024
+manyCells = mostPoints * leastWide
 
 -- numbers of a row at most: every axis and the weights, in whole fours
 abbrev pub mostWide : ℕ
@@ -26,7 +30,7 @@ mostWide = (axisCodes + 4) / 4 * 4
 
 -- whole fours, of which there are three at most
 pub record Width (wide : ℕ) : Type 0 where
-  pub some : 4 ≤ wide
+  pub some : leastWide ≤ wide
   pub few : wide ≤ mostWide
   pub one : wide < 8 → wide ≤ 4
   pub two : wide < mostWide → wide ≤ 8

@@ -2,7 +2,7 @@
 use mathlib.Core.Path.{_≡_}
 use mathlib.Core.Bool.{true, false}
 use mathlib.Core.List.{List}
-use Prim.Native.Nat.{ℕ, _*_, _≤_}
+use Prim.Native.Nat.{ℕ, _+_, _*_, _≤_}
 use lib.ListN.{length}
 use lib.Ieee.{Float}
 use Rattle.layout.specs.Layout.{axisCodes, mostPoints}
@@ -30,6 +30,11 @@ pub record LaidFit (k : Kept) (d : Drawing) (ms : List ℕ) (pts ks cs : List Fl
 abbrev pub Laid : Form → Drawing → List ℕ → List Float → List Float → List Float → List Float → Type 0
 Laid (Basis p) d ms pts ws ks cs = LaidBasis p d pts ws ks cs
 Laid (Fit k) d ms pts ws ks cs = LaidFit k d ms pts ks cs
+
+-- room for the table of n points of ch numbers: of a fit these and as many slopes, of a B-spline these and the weights
+pub record Controls (n ch : ℕ) (cs : List Float) : Type 0 where
+  pub fit : 2 * (n * ch) ≤ length cs
+  pub basis : (ch + 1) * n ≤ length cs
 
 -- what a curve's preparation leaves, for the counting and the writing of its runs
 pub record Ready (d : Drawing) (f : Form) (ms : List ℕ) (pts ws ks cs : List Float) : Type 0 where

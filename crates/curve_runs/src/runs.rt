@@ -19,7 +19,7 @@ ghost use Rattle.layout.specs.Layout.{axisCodes, mostPoints};
 ghost use Rattle.curve_metric.specs.Below.{Below};
 ghost use Rattle.curve_walk.specs.Walks.{encode};
 ghost use Rattle.curve_drawing.specs.Runs.{shapeOf, drawnRuns};
-ghost use Rattle.curve_runs.specs.Asks.{Ready, Remembers};
+ghost use Rattle.curve_runs.specs.Asks.{Controls, Ready, Remembers};
 
 // Fills the tables of the points that the curve runs through or is drawn to.
 pub fn prepare(
@@ -32,7 +32,7 @@ pub fn prepare(
 ) -> Form
     requires { ⌜ (2 ≤ d .n) × ((d .n ≤ mostPoints) × (d .ch ≤ axisCodes)) ⌝ }
     requires { ⌜ Below (now ms) (d .ch) × ((d .n * d .ch ≤ length (now pts)) × (d .n ≤ length (now ws))) ⌝ }
-    requires { ⌜ (2 * d .n ≤ length (now ks)) × (2 * axisCodes * d .n ≤ length (now cs)) ⌝ }
+    requires { ⌜ (2 * d .n ≤ length (now ks)) × Controls (d .n) (d .ch) (now cs) ⌝ }
     ensures { λ r. ⌜ Ready d r (now (ms .entry)) (now (pts .entry)) (now (ws .entry)) (now (ks .exit)) (now (cs .exit)) ⌝ }
 {
     let kind = d.kind;

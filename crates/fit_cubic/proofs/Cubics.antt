@@ -1,12 +1,24 @@
 -- LAWS. One more row of each recurrence of `specs/Fit.antt`. j is i + 1. Assumes nothing.
-use mathlib.Core.Path.{_≡_, refl}
+use mathlib.Core.Path.{_≡_, refl, _∙_}
 use mathlib.Core.List.{List}
 use Prim.Native.Nat.{ℕ, zero, suc, _+_, _-_, _<_, _≤_}
 use native.Mathlib.Omega.{arith}
-use lib.Ieee.{Float}
+use lib.ListN.{set}
+use lib.Seq.{getD-set-other}
+use native.Mathlib.Nat.{ne-of-lt}
+use lib.Ieee.{Float, nan}
 use borrow.Author.Tests.{lt-ltb, le-ltb}
-use Rattle.floats.specs.Numbers.{_⊕_, _⊖_, _⊗_, _⊘_, f0, f2, f6}
+use Rattle.floats.specs.Numbers.{_⊕_, _⊖_, _⊗_, _⊘_, f0, f2, f6, at}
 use Rattle.fit_slopes.specs.Slopes.{step, secant, sup, diag, rhs, bendBack, bend, bent}
+
+-- the right sides below i are not spent yet
+pub record Unspent (ts ys r : List Float) (i : ℕ) : Type 0 where
+  pub is : (k : ℕ) → k < i → at r k ≡ rhs ts ys k
+
+pub unspent-below : {ts ys r : List Float} {i n : ℕ} (j : ℕ) (v : Float) → Unspent ts ys r i → n ≤ i → n ≤ j → Unspent ts ys (set r j v) n
+unspent-below {r = r} j v u low below = record {
+  is = λ k h. getD-set-other r j k v nan (ne-of-lt (omega arith)) ∙ u .is k (omega arith);
+}
 
 module _ (ts : List Float) where
   sup-pos : (j : ℕ) → 0 < j → sup ts j ≡ step ts j

@@ -1,13 +1,31 @@
--- LAWS. Two knots, or more, for `natural_cubic_slopes`. Assumes nothing.
-use mathlib.Core.Path.{_≡_, sym}
+-- LAWS. Two knots, or more, for `natural_cubic_slopes`; a list filled over what was filled before. Assumes nothing.
+use mathlib.Core.Path.{_≡_, sym, _∙_, ap}
 use mathlib.Core.List.{List}
-use Prim.Native.Nat.{ℕ, _+_, _-_, _<_}
+use mathlib.Core.Logic.{⊎-elim}
+use Prim.Native.Nat.{ℕ, _+_, _-_, _<_, _≤_}
 use native.Mathlib.Omega.{arith}
-use lib.Ieee.{Float}
+use lib.ListN.{length, getD}
+use lib.Seq.{ext-getD}
+use lib.Ieee.{Float, nan}
 use borrow.Author.Tests.{eq-eqb, ne-eqb}
 use Rattle.floats.specs.Lists.{filled}
+use Rattle.floats.specs.Fill.{length-filled, at-filled, past-filled, lt-or-le}
 use Rattle.fit_slopes.specs.Slopes.{secant, bent, cubicSlope}
 use Rattle.fit_slopes.specs.Filled.{filled-same-as}
+
+module _ (f g : ℕ → Float) (m n : ℕ) (l : List Float) (few : m ≤ n) (room : n ≤ length l) where
+  short : length (filled g m l) ≡ length l
+  short = length-filled g l m (omega arith)
+
+  over : (k : ℕ) → getD (filled f n (filled g m l)) k nan ≡ getD (filled f n l) k nan
+  over k = ⊎-elim
+      (λ (lt : k < n). at-filled f (filled g m l) n k nan lt ∙ sym (at-filled f l n k nan lt))
+      (λ (ge : n ≤ k). past-filled f (filled g m l) n k nan ge ∙ past-filled g l m k nan (omega arith) ∙ sym (past-filled f l n k nan ge))
+      (lt-or-le k n)
+
+  pub filled-over : {us xs : List Float} → us ≡ filled g m l → xs ≡ filled f n us → xs ≡ filled f n l
+  filled-over eu ex = ex ∙ ap (filled f n) eu ∙ ext-getD nan (filled f n (filled g m l)) (filled f n l)
+      (length-filled f (filled g m l) n (omega (arith, short)) ∙ short ∙ sym (length-filled f l n room)) (λ k h. over k)
 
 module _ (ts ys : List Float) (n : ℕ) (l : List Float) where
   cubic-two : n ≡ 2 → (k : ℕ) → secant ts ys 0 ≡ cubicSlope ts ys n k

@@ -13,24 +13,23 @@ ghost use Rattle.layout.specs.Layout.{mostPoints};
 ghost use Rattle.fit_slopes.specs.Sizes.{smallPoints};
 ghost use Rattle.fit_slopes.specs.Slopes.{diag, rhs, bend, bent, cubicSlope};
 
-// The second derivatives at the m + 1 knots, from the last to the first.
-fn backward(ts: &[f64], ys: &[f64], m: usize, d: &[f64], r: &[f64], s: &mut [f64])
-    requires { ⌜ (0 < m) × ((m < length (now ts)) × (m < length (now s))) ⌝ }
-    requires { ⌜ (m ≤ length (now d)) × (m ≤ length (now r)) ⌝ }
+// The second derivatives at the m + 1 knots, from the last to the first, each over the right side that it spends.
+fn backward(ts: &[f64], ys: &[f64], m: usize, d: &[f64], r: &mut [f64])
+    requires { ⌜ (0 < m) × ((m < length (now ts)) × ((m ≤ length (now d)) × (m < length (now r)))) ⌝ }
     requires { ⌜ Agrees (now d) (diag (now ts)) m ⌝ }
     requires { ⌜ Agrees (now r) (rhs (now ts) (now ys)) m ⌝ }
-    ensures { λ _. ⌜ now (s .exit) ≡ filled (bend (now (ts .entry)) (now (ys .entry)) m) (m + 1) (now (s .entry)) ⌝ }
+    ensures { λ _. ⌜ now (r .exit) ≡ filled (bend (now (ts .entry)) (now (ys .entry)) m) (m + 1) (now (r .entry)) ⌝ }
 {
     let mut b = 0.0;
     let mut i = m;
-    s[i] = b;
+    r[i] = b;
     while 1 < i {
         let j = i - 1;
         b = (r[j] - step_at(ts, j) * b) / d[j];
-        s[j] = b;
+        r[j] = b;
         i = j;
     }
-    s[0] = 0.0;
+    r[0] = 0.0;
 }
 
 // The slopes at the m + 1 knots.
@@ -48,23 +47,15 @@ fn slopes(ts: &[f64], ys: &[f64], m: usize, s: &[f64], out: &mut [f64])
     out[m] = secant_at(ts, ys, j) + step_at(ts, j) * (s[j] + 2.0 * s[m]) / 6.0;
 }
 
-// The slopes at the m + 1 knots, with room for what is found on the way.
-fn bent_in(
-    ts: &[f64],
-    ys: &[f64],
-    m: usize,
-    d: &mut [f64],
-    r: &mut [f64],
-    s: &mut [f64],
-    out: &mut [f64],
-)
-    requires { ⌜ (0 < m) × ((m < length (now ts)) × ((m < length (now ys)) × (m < length (now out)))) ⌝ }
-    requires { ⌜ (m < length (now d)) × ((m < length (now r)) × (m < length (now s))) ⌝ }
+// The slopes at the m + 1 knots, in two lists: out has the diagonal until the slopes go over it, r the right sides and
+// then the second derivatives.
+fn bent_in(ts: &[f64], ys: &[f64], m: usize, r: &mut [f64], out: &mut [f64])
+    requires { ⌜ (0 < m) × ((m < length (now ts)) × ((m < length (now ys)) × ((m < length (now r)) × (m < length (now out))))) ⌝ }
     ensures { λ _. ⌜ now (out .exit) ≡ filled (bent (now (ts .entry)) (now (ys .entry)) m) (m + 1) (now (out .entry)) ⌝ }
 {
-    forward(ts, ys, m, d, r);
-    backward(ts, ys, m, d, r, s);
-    slopes(ts, ys, m, s, out);
+    forward(ts, ys, m, out, r);
+    backward(ts, ys, m, out, r);
+    slopes(ts, ys, m, r, out);
 }
 
 // Few knots: less room to clear.
@@ -73,10 +64,8 @@ fn bent_small(ts: &[f64], ys: &[f64], m: usize, out: &mut [f64])
     requires { ⌜ (m < length (now ts)) × ((m < length (now ys)) × (m < length (now out))) ⌝ }
     ensures { λ _. ⌜ now (out .exit) ≡ filled (bent (now (ts .entry)) (now (ys .entry)) m) (m + 1) (now (out .entry)) ⌝ }
 {
-    let mut d = [0.0f64; SMALL_POINTS];
     let mut r = [0.0f64; SMALL_POINTS];
-    let mut s = [0.0f64; SMALL_POINTS];
-    bent_in(ts, ys, m, &mut d, &mut r, &mut s, out);
+    bent_in(ts, ys, m, &mut r, out);
 }
 
 fn bent_large(ts: &[f64], ys: &[f64], m: usize, out: &mut [f64])
@@ -84,10 +73,8 @@ fn bent_large(ts: &[f64], ys: &[f64], m: usize, out: &mut [f64])
     requires { ⌜ (m < length (now ts)) × ((m < length (now ys)) × (m < length (now out))) ⌝ }
     ensures { λ _. ⌜ now (out .exit) ≡ filled (bent (now (ts .entry)) (now (ys .entry)) m) (m + 1) (now (out .entry)) ⌝ }
 {
-    let mut d = [0.0f64; MOST_POINTS];
     let mut r = [0.0f64; MOST_POINTS];
-    let mut s = [0.0f64; MOST_POINTS];
-    bent_in(ts, ys, m, &mut d, &mut r, &mut s, out);
+    bent_in(ts, ys, m, &mut r, out);
 }
 
 // The slopes at n knots, two or more.

@@ -19,7 +19,6 @@ use Rattle.fit_knots.specs.Prepare.{FitReady, FitRoom}
 use Rattle.bspline_tables.specs.RowLaws.{copied, put, put-here, put-before}
 use Rattle.fit_knots.specs.Memory.{fitTimes, fitPoints, fitSlopes}
 use Rattle.fit_tables.specs.Asks.{Fitted}
-use Rattle.fit_tables.specs.Cells.{cells-in}
 
 -- the front of a list that stayed as long as it was
 pub sums-long : (n : ℕ) (xs ys : List Float) → length ys ≡ length xs → n ≤ length xs → length (take n ys) ≡ n
@@ -27,10 +26,9 @@ sums-long n xs ys e h = length-take-le n ys (omega arith)
 
 -- room for the fit
 pub fit-room : {pts ts : List Float} (n ch : ℕ) (ks cs slopes : List Float) → 2 ≤ n → n ≤ mostPoints → ch ≤ axisCodes → n * ch ≤ length pts
-    → length ts ≡ n → 2 * n ≤ length ks → 2 * axisCodes * n ≤ length cs → n * ch ≤ length slopes
+    → length ts ≡ n → 2 * n ≤ length ks → 2 * (n * ch) ≤ length cs → n * ch ≤ length slopes
     → FitRoom pts ts (take (n + n - n) (drop n ks)) (take (n * ch) cs) (take (n * ch) slopes) n ch
 fit-room n ch ks cs slopes two few narrow given sums kr cr sr =
-    let w = cells-in n ch narrow in
     let e : ch * n ≡ n * ch = mul-comm ch n in
     let a : length (take (n + n - n) (drop n ks)) ≡ n + n - n = length-take-le (n + n - n) (drop n ks) (rw length-drop (omega arith)) in
     let b : length (take (n * ch) cs) ≡ n * ch = length-take-le (n * ch) cs (omega arith) in

@@ -10,6 +10,10 @@ use Rattle.curve_metric.specs.Metric.{chords}
 use Rattle.fit_knots.specs.Prepare.{FitReady}
 use Rattle.fit_knots.specs.Memory.{fitTimes, fitPoints, fitSlopes}
 
+-- channels of a long spline with few of them at most
+abbrev pub fewChannels : ℕ
+fewChannels = 4
+
 -- the tables of a fit: the chord sums of the n points first, then the fit
 pub record Fitted (cubic : Bool) (n ch : ℕ) (ms : List ℕ) (pts : List Float) (m : ℕ) (ks cs : List Float) : Type 0 where
   pub sums : (i : ℕ) → i < n → at ks i ≡ at (chords (rowsOf pts ch n) ms) i

@@ -6,15 +6,16 @@ use mathlib.Core.Option.{Option}
 use lib.ListN.{length, take}
 use lib.Ieee.{Float}
 use Rattle.floats.specs.Numbers.{f1}
-use Rattle.floats.specs.Lists.{keep, rowsOf}
+use Rattle.floats.specs.Lists.{upto, keep, rowsOf}
 use Rattle.layout.specs.Layout.{rowWords, axisCodes, mostHeld, mostPoints}
+use Rattle.row_cells.specs.Codes.{geometricOf}
 use Rattle.row_cells.specs.Row.{hasPoint}
 use Rattle.curve_metric.specs.Below.{Below}
 use Rattle.curve_walk.specs.declared.Form.{Form}
 use Rattle.curve_drawing.specs.declared.Drawing.{Drawing}
 use Rattle.curve_drawing.specs.Runs.{shapeOf}
 use Rattle.curve_runs.specs.Asks.{Ready, Remembers}
-use Rattle.spline_channels.specs.Channels.{Spline, channelsFrom, splineOf}
+use Rattle.spline_channels.specs.Channels.{Spline, channelsFrom, blockAt, splineOf}
 use Rattle.spline_points.specs.Points.{startValue, pointsFrom, weightOf}
 use Rattle.spline_metric.specs.Metric.{metricOf}
 use Rattle.spline_channels.specs.Gathers.{Once}
@@ -27,6 +28,10 @@ pub record Holds (axes words store : List ℕ) (held : ℕ) : Type 0 where
   pub start : axisCodes ≤ length words
   pub lent : held * rowWords ≤ length store
   pub many : held ≤ mostHeld
+
+-- how many channels the held blocks have
+abbrev pub channelCount : List ℕ → List ℕ → ℕ → ℕ
+channelCount axes store held = length (channelsFrom (geometricOf axes) [] (upto (blockAt store) held))
 
 -- the spline that is asked for
 abbrev pub splineIn : Job → List ℕ → List ℕ → List ℕ → Spline

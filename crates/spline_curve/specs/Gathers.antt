@@ -4,7 +4,7 @@ use mathlib.Core.Path.{_≡_, _∙_, ap}
 use mathlib.Core.Bool.{Bool, true, false, cond}
 use mathlib.Core.List.{List, [], _∷_, _++_}
 use mathlib.Core.Option.{Option}
-use native.Mathlib.Nat.{mul-le-mul, le-trans}
+use native.Mathlib.Nat.{mul-le-mul-left, mul-le-mul-right, le-trans}
 use native.Mathlib.Omega.{arith}
 use lib.Dec.{leb, eqb, ltb}
 use lib.ListN.{length, getD, take}
@@ -15,6 +15,7 @@ use Rattle.layout.specs.Layout.{axisCodes, mostHeld}
 use Rattle.row_cells.specs.Codes.{geometricOf}
 use Rattle.row_cells.specs.Row.{hasPoint}
 use Rattle.curve_metric.specs.Below.{Below}
+use Rattle.curve_runs.specs.Asks.{Controls}
 use Rattle.spline_channels.specs.Channels.{channelsFrom}
 use Rattle.spline_metric.specs.Metric.{metricOf}
 use Rattle.spline_channels.specs.Gathers.{Appended, Once, Codes}
@@ -137,7 +138,20 @@ module _ (gs : List ℕ) (start : ℕ → Option ℕ) (f : ℕ → List ℕ) (he
   pub draws-few : d .n ≤ held + 1
   draws-few = rw ed (curve-few gs start f held g chans ms pts ws h)
 
-  pub curved-is : held ≤ mostHeld → (held + 1) * axisCodes ≤ length pts → held + 1 ≤ length ws → Curved d (take (g .metric) ms) pts ws
+  -- the numbers of its points
+  cells-few : g .n ≤ held + 1 → g .n * g .ch ≤ (held + 1) * length (channelsFrom gs [] (upto f held))
+  cells-few n = rw (h .ch) (mul-le-mul-right (length (channelsFrom gs [] (upto f held))) n)
+
+  -- room for the tables of as many points as may be is room for those there are
+  pub draws-within : (cs : List Float) → Controls (held + 1) (length (channelsFrom gs [] (upto f held))) cs → Controls (d .n) (d .ch) cs
+  draws-within cs r =
+      let n : g .n ≤ held + 1 = curve-few gs start f held g chans ms pts ws h in
+      let few = cells-few n in
+      let wide : (g .ch + 1) * g .n ≤ (g .ch + 1) * (held + 1) = mul-le-mul-left (g .ch + 1) n in
+      rw ed (record { fit = omega (arith, few, r .fit); basis = le-trans wide (rw (h .ch) (r .basis)) })
+
+  pub curved-is : held ≤ mostHeld → (held + 1) * length (channelsFrom gs [] (upto f held)) ≤ length pts → held + 1 ≤ length ws
+      → Curved d (take (g .metric) ms) pts ws
   curved-is many lp lw =
       let n : g .n ≤ held + 1 = curve-few gs start f held g chans ms pts ws h in
       rw ed (record {
@@ -145,11 +159,12 @@ module _ (gs : List ℕ) (start : ℕ → Option ℕ) (f : ℕ → List ℕ) (he
         few = omega arith;
         narrow = h .narrow;
         metric = rw (h .metric, h .ch) (metric-below (channelsFrom gs [] (upto f held)));
-        points = le-trans (mul-le-mul {n₁ = g .n} {m₁ = g .ch} {n₂ = held + 1} {m₂ = axisCodes} n (h .narrow)) lp;
+        points = le-trans (cells-few n) lp;
         weights = omega arith;
       })
 
   -- in lists that stayed as long as they were
-  pub curved-kept : (ps qs : List Float) → held ≤ mostHeld → length pts ≡ length ps → (held + 1) * axisCodes ≤ length ps
+  pub curved-kept : (ps qs : List Float) → held ≤ mostHeld
+      → length pts ≡ length ps → (held + 1) * length (channelsFrom gs [] (upto f held)) ≤ length ps
       → length ws ≡ length qs → held + 1 ≤ length qs → Curved d (take (g .metric) ms) pts ws
   curved-kept ps qs many ep lp eq lq = curved-is many (omega (arith, ep, lp)) (omega (arith, eq, lq))

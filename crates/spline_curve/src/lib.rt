@@ -21,7 +21,8 @@ ghost use Rattle.row_cells.specs.Row.{shown};
 ghost use Rattle.spline_channels.specs.Channels.{blockAt};
 ghost use Rattle.curve_walk.specs.Walks.{encode};
 ghost use Rattle.curve_drawing.specs.Runs.{drawnRuns};
-ghost use Rattle.spline_curve.specs.Asks.{Holds, Gathered, Curved, Drawn, Recalled};
+ghost use Rattle.spline_curve.specs.Asks.{Holds, channelCount, Gathered, Curved, Drawn, Recalled};
+ghost use Rattle.curve_runs.specs.Asks.{Controls};
 
 // Gathers the channels, the metric's places, the points and the weights of the held blocks.
 pub fn gather_curve(
@@ -36,7 +37,7 @@ pub fn gather_curve(
 ) -> Curve
     requires { ⌜ Holds (now axes) (now words) (now store) (job .held) ⌝ }
     requires { ⌜ (axisCodes ≤ length (now chans)) × (axisCodes ≤ length (now ms)) ⌝ }
-    requires { ⌜ ((job .held + 1) * axisCodes ≤ length (now pts)) × (job .held + 1 ≤ length (now ws)) ⌝ }
+    requires { ⌜ ((job .held + 1) * channelCount (now axes) (now store) (job .held) ≤ length (now pts)) × (job .held + 1 ≤ length (now ws)) ⌝ }
     ensures { λ r. ⌜ Gathered
         (geometricOf (now (axes .entry))) (shown (job .start) (now (words .entry))) (upto (blockAt (now (store .entry))) (job .held))
         r (now (chans .exit)) (now (ms .exit)) (now (pts .exit)) (now (ws .exit)) ⌝ }
@@ -58,7 +59,7 @@ pub fn prepare_curve(
     cs: &mut [f64],
 ) -> Form
     requires { ⌜ Curved d (now ms) (now pts) (now ws) ⌝ }
-    requires { ⌜ (2 * d .n ≤ length (now ks)) × (2 * axisCodes * d .n ≤ length (now cs)) ⌝ }
+    requires { ⌜ (2 * d .n ≤ length (now ks)) × Controls (d .n) (d .ch) (now cs) ⌝ }
     ensures { λ r. ⌜ Drawn d r (now (ms .entry)) (now (pts .entry)) (now (ws .entry)) (now (ks .exit)) (now (cs .exit)) ⌝ }
 {
     let n = d.n;

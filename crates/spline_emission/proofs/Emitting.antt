@@ -1,5 +1,8 @@
--- LAWS. What is planned and written is emitted. Assumes nothing.
-use Prim.Native.Nat.{ℕ, _≤_}
+-- LAWS. What is planned and written is emitted; work memory for so many points and channels. Assumes nothing.
+use Prim.Native.Nat.{ℕ, _+_, _*_, _≤_}
+use native.Mathlib.Nat.{mul-le-mul, mul-le-mul-left}
+use native.Mathlib.Omega.{arith}
+use lib.ListN.{length}
 use mathlib.Core.Path.{subst, _≡_}
 use mathlib.Core.List.{List}
 use lib.Ieee.{Float}
@@ -7,6 +10,7 @@ use Rattle.spline_plan.specs.declared.Emission.{Emission}
 use Rattle.spline_job.specs.declared.Job.{Job}
 use Rattle.spline_write.specs.Emits.{mostOwn, Plans, Emitted, EmittedAs}
 use Rattle.spline_plan.specs.Plans.{Planned}
+use Rattle.spline_emission.specs.Sizes.{Numbers}
 
 -- ---- what is planned and written is emitted
 module _ {axes words store : List ℕ} {e : Emission} {pts ws ks cs : List Float} {counts lefts : List ℕ} (job : Job) (ej : e .job ≡ job)
@@ -18,3 +22,14 @@ module _ {axes words store : List ℕ} {e : Emission} {pts ws ks cs : List Float
   pub emitted-by : {rows out : List ℕ} {r : ℕ} → EmittedAs axes store e pts ws ks cs counts lefts rows r out → Emitted job axes words store rows r out
   unfolding plans-of
   emitted-by {rows} {out} {r} a = subst (λ (j : Job). Emitted j axes words store rows r out) ej (a .from plans-of)
+
+-- ---- arrays for p points of w channels have room for no more of either
+pub numbers-in : {pts cs : List Float} (held ch p w : ℕ) → held + 1 ≤ p → ch ≤ w → 1 ≤ w → p * w ≤ length pts → 2 * (p * w) ≤ length cs
+    → Numbers held ch pts cs
+numbers-in held ch p w few narrow some lp lc =
+    let cells : (held + 1) * ch ≤ p * w = mul-le-mul {n₁ = held + 1} {m₁ = ch} {n₂ = p} {m₂ = w} few narrow in
+    let long : p * 1 ≤ p * w = mul-le-mul-left p some in
+    record {
+      points = omega arith;
+      controls = record { fit = omega arith; basis = omega arith };
+    }

@@ -1,4 +1,4 @@
-// An emission in work memory by the spline's points.
+// An emission in work memory by the spline's points and channels.
 use crate::sizes::CONTROLS;
 use crate::sizes::KNOTS;
 use crate::sizes::MIDDLE_LEFTS;
@@ -6,6 +6,7 @@ use crate::sizes::MIDDLE_POINTS;
 use crate::sizes::MOST_LEFTS;
 use crate::sizes::SMALL_LEFTS;
 use fit_slopes::sizes::SMALL_POINTS;
+use fit_tables::FEW_CHANNELS;
 use layout::AXIS_CODES;
 use layout::MOST_POINTS;
 use spline_job::Job;
@@ -13,9 +14,10 @@ use spline_plan::plan_emission;
 use spline_write::write_emission;
 ghost use Prim.Native.Nat.{_*_, _≤_, _<_};
 ghost use Rattle.fit_slopes.specs.Sizes.{smallPoints};
-ghost use Rattle.spline_emission.specs.Sizes.{middlePoints, Tables};
+ghost use Rattle.fit_tables.specs.Asks.{fewChannels};
+ghost use Rattle.spline_emission.specs.Sizes.{middlePoints, Tables, Numbers};
 ghost use Rattle.spline_write.specs.Emits.{mostOwn, Emitted};
-ghost use Rattle.spline_curve.specs.Asks.{Holds};
+ghost use Rattle.spline_curve.specs.Asks.{Holds, channelCount};
 
 // An emission of a small or middling spline, in work memory that has room for it: planned, then written.
 fn emit_few(
@@ -32,7 +34,7 @@ fn emit_few(
 ) -> u64
     requires { ⌜ Holds (now axes) (now words) (now store) (job .held) × (job .own ≤ mostOwn) ⌝ }
     requires { ⌜ job .held < middlePoints ⌝ }
-    requires { ⌜ Tables (job .held) (now pts) (now ws) (now ks) (now cs) ⌝ }
+    requires { ⌜ Tables (job .held) (channelCount (now axes) (now store) (job .held)) (now pts) (now ws) (now ks) (now cs) ⌝ }
     ensures { λ r. ⌜ Emitted job (now (axes .entry)) (now (words .entry)) (now (store .entry)) (now (rows .entry)) r (now (rows .exit)) ⌝ }
 {
     let mut counts = [0usize; MIDDLE_POINTS];
@@ -49,7 +51,7 @@ pub fn emit_small(job: Job, axes: &[u64], words: &[u64], store: &[u64], rows: &m
     let mut pts = [0.0f64; AXIS_CODES * SMALL_POINTS];
     let mut ws = [0.0f64; SMALL_POINTS];
     let mut ks = [0.0f64; KNOTS * SMALL_POINTS];
-    let mut cs = [0.0f64; CONTROLS * SMALL_POINTS];
+    let mut cs = [0.0f64; CONTROLS * AXIS_CODES * SMALL_POINTS];
     let mut lefts = [0u8; SMALL_LEFTS];
     emit_few(
         job,
@@ -74,7 +76,7 @@ pub fn emit_middle(job: Job, axes: &[u64], words: &[u64], store: &[u64], rows: &
     let mut pts = [0.0f64; AXIS_CODES * MIDDLE_POINTS];
     let mut ws = [0.0f64; MIDDLE_POINTS];
     let mut ks = [0.0f64; KNOTS * MIDDLE_POINTS];
-    let mut cs = [0.0f64; CONTROLS * MIDDLE_POINTS];
+    let mut cs = [0.0f64; CONTROLS * AXIS_CODES * MIDDLE_POINTS];
     let mut lefts = [0u8; MIDDLE_LEFTS];
     emit_few(
         job,
@@ -90,15 +92,22 @@ pub fn emit_middle(job: Job, axes: &[u64], words: &[u64], store: &[u64], rows: &
     )
 }
 
-// An emission in the work memory of any spline.
-pub fn emit_large(job: Job, axes: &[u64], words: &[u64], store: &[u64], rows: &mut [u64]) -> u64
+// An emission of a spline of any points, in work memory that has room for their numbers: planned, then written.
+fn emit_many(
+    job: Job,
+    axes: &[u64],
+    words: &[u64],
+    store: &[u64],
+    rows: &mut [u64],
+    pts: &mut [f64],
+    cs: &mut [f64],
+) -> u64
     requires { ⌜ Holds (now axes) (now words) (now store) (job .held) × (job .own ≤ mostOwn) ⌝ }
+    requires { ⌜ Numbers (job .held) (channelCount (now axes) (now store) (job .held)) (now pts) (now cs) ⌝ }
     ensures { λ r. ⌜ Emitted job (now (axes .entry)) (now (words .entry)) (now (store .entry)) (now (rows .entry)) r (now (rows .exit)) ⌝ }
 {
-    let mut pts = [0.0f64; AXIS_CODES * MOST_POINTS];
     let mut ws = [0.0f64; MOST_POINTS];
     let mut ks = [0.0f64; KNOTS * MOST_POINTS];
-    let mut cs = [0.0f64; CONTROLS * MOST_POINTS];
     let mut counts = [0usize; MOST_POINTS];
     let mut lefts = [0u8; MOST_LEFTS];
     let e = plan_emission(
@@ -106,12 +115,33 @@ pub fn emit_large(job: Job, axes: &[u64], words: &[u64], store: &[u64], rows: &m
         axes,
         words,
         store,
-        &mut pts,
+        pts,
         &mut ws,
         &mut ks,
-        &mut cs,
+        cs,
         &mut counts,
         &mut lefts,
     );
-    write_emission(e, axes, store, rows, &pts, &ws, &ks, &cs, &counts, &lefts)
+    write_emission(e, axes, store, rows, pts, &ws, &ks, cs, &counts, &lefts)
+}
+
+// An emission in the work memory of a spline with few channels.
+pub fn emit_large(job: Job, axes: &[u64], words: &[u64], store: &[u64], rows: &mut [u64]) -> u64
+    requires { ⌜ Holds (now axes) (now words) (now store) (job .held) × (job .own ≤ mostOwn) ⌝ }
+    requires { ⌜ channelCount (now axes) (now store) (job .held) ≤ fewChannels ⌝ }
+    ensures { λ r. ⌜ Emitted job (now (axes .entry)) (now (words .entry)) (now (store .entry)) (now (rows .entry)) r (now (rows .exit)) ⌝ }
+{
+    let mut pts = [0.0f64; FEW_CHANNELS * MOST_POINTS];
+    let mut cs = [0.0f64; CONTROLS * FEW_CHANNELS * MOST_POINTS];
+    emit_many(job, axes, words, store, rows, &mut pts, &mut cs)
+}
+
+// An emission in the work memory of any spline.
+pub fn emit_most(job: Job, axes: &[u64], words: &[u64], store: &[u64], rows: &mut [u64]) -> u64
+    requires { ⌜ Holds (now axes) (now words) (now store) (job .held) × (job .own ≤ mostOwn) ⌝ }
+    ensures { λ r. ⌜ Emitted job (now (axes .entry)) (now (words .entry)) (now (store .entry)) (now (rows .entry)) r (now (rows .exit)) ⌝ }
+{
+    let mut pts = [0.0f64; AXIS_CODES * MOST_POINTS];
+    let mut cs = [0.0f64; CONTROLS * AXIS_CODES * MOST_POINTS];
+    emit_many(job, axes, words, store, rows, &mut pts, &mut cs)
 }

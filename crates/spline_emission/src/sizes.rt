@@ -1,13 +1,13 @@
-// The work memory of an emission, by the spline's points.
-use layout::AXIS_CODES;
+// The work memory of an emission, by the spline's points and channels.
 
 // The points of a middling spline at most, the curve's start among them.
 pub const MIDDLE_POINTS: usize = 64;
 
-// What the tables take for each point: a knot and one more, or a chord sum and a time; its numbers and their slopes.
+// What the tables take for each point: a knot and one more, or a chord sum and a time; for each of its numbers that number
+// and its slope.
 pub const KNOTS: usize = 2;
 
-pub const CONTROLS: usize = 2 * AXIS_CODES;
+pub const CONTROLS: usize = 2;
 
 // Samples whose halvings are remembered; beyond them the writing tests again.
 pub const SMALL_LEFTS: usize = 2048;

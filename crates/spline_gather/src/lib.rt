@@ -95,7 +95,7 @@ fn add_points(
     ws: &mut [f64],
 ) -> usize
     requires { ⌜ (held * rowWords ≤ length (now store)) × ((held ≤ mostHeld) × (Codes (now chans))) ⌝ }
-    requires { ⌜ (length (now chans) ≤ axisCodes) × (((held + 1) * axisCodes ≤ length (now pts)) × (held + 1 ≤ length (now ws))) ⌝ }
+    requires { ⌜ (length (now chans) ≤ axisCodes) × (((held + 1) * length (now chans) ≤ length (now pts)) × (held + 1 ≤ length (now ws))) ⌝ }
     ensures { λ r. ⌜ PointsPut (now (axes .entry)) (now (store .entry)) held (now (chans .entry)) (now (pts .entry)) (now (pts .exit)) r ⌝ }
     ensures { λ r. ⌜ WeightsPut (now (axes .entry)) (now (store .entry)) held (now (ws .entry)) (now (ws .exit)) r ⌝ }
 {
@@ -120,7 +120,7 @@ pub fn points_of(
     ws: &mut [f64],
 ) -> usize
     requires { ⌜ (held * rowWords ≤ length (now store)) × ((held ≤ mostHeld) × (Codes (now chans))) ⌝ }
-    requires { ⌜ (length (now chans) ≤ axisCodes) × (((held + 1) * axisCodes ≤ length (now pts)) × (held + 1 ≤ length (now ws))) ⌝ }
+    requires { ⌜ (length (now chans) ≤ axisCodes) × (((held + 1) * length (now chans) ≤ length (now pts)) × (held + 1 ≤ length (now ws))) ⌝ }
     requires { ⌜ axisCodes ≤ length (now words) ⌝ }
     ensures { λ r. ⌜ Path (now (axes .entry)) start (now (words .entry)) (now (store .entry)) held (now (chans .entry)) (now (pts .exit)) (now (ws .exit)) r ⌝ }
 {

@@ -18,6 +18,7 @@ use Rattle.spline_places.specs.Sizes.{placeTo}
 use Rattle.spline_plan.specs.declared.Emission.{Emission}
 use Rattle.spline_answer.specs.Runs.{runsOf}
 use Rattle.spline_answer.specs.Emission.{splineGroups}
+use Rattle.curve_runs.specs.Asks.{Controls}
 use Rattle.spline_curve.specs.Asks.{Recalled, Drawn, splineIn, Holds, Gathered}
 use Rattle.spline_job.specs.Jobs.{drawingOf}
 
@@ -45,12 +46,12 @@ pub record Counted (s : Spline) (f : ℕ → List ℕ) (held : ℕ) (counts : Li
   pub place : total ≡ placeTo (s .axes) counts f held
   pub rows : total .rows ≡ length (flatten (splineGroups s))
 
--- the arrays that an emission of so many held blocks works in
-pub record Rooms (held : ℕ) (pts ws ks cs : List Float) (counts : List ℕ) : Type 0 where
-  pub points : (held + 1) * axisCodes ≤ length pts
+-- the arrays that an emission of so many held blocks, with so many channels, works in
+pub record Rooms (held ch : ℕ) (pts ws ks cs : List Float) (counts : List ℕ) : Type 0 where
+  pub points : (held + 1) * ch ≤ length pts
   pub weights : held + 1 ≤ length ws
   pub knots : 2 * (held + 1) ≤ length ks
-  pub controls : 2 * axisCodes * (held + 1) ≤ length cs
+  pub controls : Controls (held + 1) ch cs
   pub blocks : held ≤ length counts
   pub few : Few counts
 

@@ -15,9 +15,9 @@ ghost use mathlib.Core.List.{[]};
 ghost use Prim.Native.Nat.{ℕ, _*_, _-_, _≤_};
 ghost use lib.ListN.{length, getD};
 ghost use Rattle.floats.specs.Lists.{filled};
-ghost use Rattle.layout.specs.Layout.{axisCodes};
 ghost use Rattle.curve_drawing.specs.Runs.{drawnRuns};
-ghost use Rattle.spline_curve.specs.Asks.{Holds, Curved, Drawn, Recalled};
+ghost use Rattle.spline_curve.specs.Asks.{Holds, channelCount, Curved, Drawn, Recalled};
+ghost use Rattle.curve_runs.specs.Asks.{Controls};
 ghost use Rattle.spline_plan.specs.Plans.{Rooms, Planned};
 
 // What is known of an emission before its first row is written: the curve, what its tables hold, and all rows.
@@ -43,7 +43,7 @@ fn tabulate(
     lefts: &mut [u8],
 ) -> Form
     requires { ⌜ Curved d (now ms) (now pts) (now ws) ⌝ }
-    requires { ⌜ (2 * d .n ≤ length (now ks)) × (2 * axisCodes * d .n ≤ length (now cs)) ⌝ }
+    requires { ⌜ (2 * d .n ≤ length (now ks)) × Controls (d .n) (d .ch) (now cs) ⌝ }
     requires { ⌜ d .n - 1 ≤ length (now counts) ⌝ }
     ensures { λ r. ⌜ Drawn d r (now (ms .entry)) (now (pts .entry)) (now (ws .entry)) (now (ks .exit)) (now (cs .exit)) ⌝ }
     ensures { λ _. ⌜ now (counts .exit)
@@ -69,7 +69,7 @@ pub fn plan_emission(
     lefts: &mut [u8],
 ) -> Emission
     requires { ⌜ Holds (now axes) (now words) (now store) (job .held) ⌝ }
-    requires { ⌜ Rooms (job .held) (now pts) (now ws) (now ks) (now cs) (now counts) ⌝ }
+    requires { ⌜ Rooms (job .held) (channelCount (now axes) (now store) (job .held)) (now pts) (now ws) (now ks) (now cs) (now counts) ⌝ }
     ensures { λ r. ⌜ (r .job ≡ job) × Planned (now (axes .entry)) (now (words .entry)) (now (store .entry)) r
         (now (pts .exit)) (now (ws .exit)) (now (ks .exit)) (now (cs .exit)) (now (counts .exit)) (now (lefts .exit)) ⌝ }
 {

@@ -4,7 +4,7 @@ use mathlib.Core.Path.{_≡_, refl, sym, _∙_, ap}
 use mathlib.Core.Bool.{true, false}
 use mathlib.Core.List.{List, [], _∷_, _++_, map, map-append, append-assoc, append-nil}
 use mathlib.Core.Option.{Option, none, some, Option·getD}
-use native.Mathlib.Nat.{suc-mul, mul-le-mul, mul-le-mul-right, one-mul, add-comm, le-trans}
+use native.Mathlib.Nat.{suc-mul, mul-le-mul-right, one-mul, add-comm, le-trans}
 use native.Mathlib.Numerals.{add-one}
 use native.Mathlib.Omega.{arith}
 use lib.ListN.{length, getD, take, drop, set, length-append, length-map}
@@ -14,7 +14,7 @@ use Rattle.floats.specs.Numbers.{num, f0, f1, 1e-4, at}
 use Rattle.floats.specs.Lists.{upto, keep, flatten, opt}
 use Rattle.floats.specs.Fill.{length-upto}
 use Rattle.floats.specs.Joins.{flatten-append}
-use Rattle.layout.specs.Layout.{axisCodes, rCells, cPW}
+use Rattle.layout.specs.Layout.{rCells, cPW}
 use Rattle.row_cells.specs.Codes.{geometricOf}
 use Rattle.row_cells.specs.Bits.{has}
 use Rattle.row_cells.specs.Row.{presentOf, cell, number, shown, hasPoint}
@@ -158,12 +158,12 @@ weights-few axes store i xs ys n a =
 
 -- of `held` rows whose points and weights have room
 module _ (axes store cs : List ℕ) (held : ℕ) (xs vs : List Float)
-    (few : length cs ≤ axisCodes) (wide : (held + 1) * axisCodes ≤ length xs) (long : held + 1 ≤ length vs) where
+    (wide : (held + 1) * length cs ≤ length xs) (long : held + 1 ≤ length vs) where
   pub points-room : (i : ℕ) (ys us : List Float) (n : ℕ) → i < held → PointsPut axes store i cs xs ys n → WeightsPut axes store i vs us n
       → (1 ≤ n) × (((n + 1) * length cs ≤ length ys) × (n < length us))
   points-room i ys us n h a b =
       let l : n ≤ i + 1 = weights-few axes store i vs us n b in
-      let m : (n + 1) * length cs ≤ (held + 1) * axisCodes = mul-le-mul {n₁ = n + 1} {m₁ = length cs} {n₂ = held + 1} {m₂ = axisCodes} (omega arith) few in
+      let m : (n + 1) * length cs ≤ (held + 1) * length cs = mul-le-mul-right (length cs) (omega arith) in
       (omega (arith, b .count), (le-trans m (omega (arith, a .same)), omega (arith, b .same)))
 
   pub points-step : (i : ℕ) (row : List ℕ) (ys zs us : List Float) (n r : ℕ) → i < held → row ≡ blockAt store i

@@ -16,42 +16,11 @@ mul-cells c =
     let start = c .before .before .before in
     omega (arith, cells-in (start .args .p) (c .row-width .result) (omega (arith, start .pre .under, start .pre .few)) (c .row-width .ensures .0 .few))
 
-eval-few-requires : tie.Need-eval-few-requires
-eval-few-requires c κs = search needs
+eval-for-requires : tie.Need-eval-for-requires
+eval-for-requires c κs = search needs
 
 returns : tie.Need-returns
 returns c = search needs
 
-eval-some-requires : tie.Need-eval-some-requires
-eval-some-requires c κs = search needs
-
-returns-2 : tie.Need-returns-2
-returns-2 c = search needs
-
-eval-many-requires : tie.Need-eval-many-requires
-eval-many-requires c κs = search needs
-
-returns-3 : tie.Need-returns-3
-returns-3 c = search needs
-
-eval-most-requires : tie.Need-eval-most-requires
-eval-most-requires c κs = search needs
-
-returns-4 : tie.Need-returns-4
-returns-4 c = search needs
-
 pub eval-high-spec : {M : Type 1} → statement M
-eval-high-spec =
-    tie.close
-    (tie.spec
-    row-width-requires
-    add-cells
-    mul-cells
-    eval-few-requires
-    returns
-    eval-some-requires
-    returns-2
-    eval-many-requires
-    returns-3
-    eval-most-requires
-    returns-4)
+eval-high-spec = tie.close (tie.spec row-width-requires add-cells mul-cells eval-for-requires returns)

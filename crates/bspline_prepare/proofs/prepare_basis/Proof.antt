@@ -1,6 +1,6 @@
 -- `bspline_prepare::prepare_basis` meets its contract. Assumes nothing.
 use native.Mathlib.Omega.{arith}
-use Rattle.bspline_prepare.proofs.Prepared.{degree-in, product-in, knots-are, knot-top}
+use Rattle.bspline_prepare.proofs.Prepared.{degree-in, knots-are, knot-top}
 use borrow.Author.Needs.{needs}
 use Rattle.bspline_prepare.proofs.prepare_basis.Statement.{statement}
 use Rattle.bspline_prepare.proofs.prepare_basis.Tie as tie
@@ -25,7 +25,7 @@ fill-knots-requires c κs =
 fill-controls-requires : tie.Need-fill-controls-requires
 fill-controls-requires c κs =
     let pre = c .before .before .before .before .before .before .before .before .before .before .pre in
-    ((pre .0 .1 .1, pre .0 .1 .0), (pre .1 .0 .0, (pre .1 .0 .1, product-in _ _ _ (pre .0 .1 .1) (pre .1 .1 .1))))
+    ((pre .0 .1 .1, pre .0 .1 .0), (pre .1 .0 .0, (pre .1 .0 .1, pre .1 .1 .1)))
 
 same-length : tie.Need-same-length
 same-length c = search needs
@@ -49,7 +49,7 @@ returns c =
         few = pre .0 .1 .0;
         narrow = pre .0 .1 .1;
         knots = omega (arith, i, k, pre .1 .1 .0, pre .0 .1 .0);
-        controls = product-in _ _ _ (pre .0 .1 .1) (omega (arith, w, pre .1 .1 .1));
+        controls = omega (arith, w, pre .1 .1 .1);
         top = knot-top _ _ _ (fill-knots .ensures);
       };
       power = (degree-of .ensures);

@@ -2,6 +2,7 @@
 use native.Mathlib.Omega.{arith}
 use Rattle.floats.specs.Fill.{filled-agrees}
 use borrow.Author.Needs.{needs}
+use Rattle.fit_cubic.proofs.Knots.{filled-over}
 use Rattle.fit_cubic.proofs.bent_in.Statement.{statement}
 use Rattle.fit_cubic.proofs.bent_in.Tie as tie
 
@@ -10,11 +11,11 @@ forward-requires c κs = search needs
 
 backward-requires : tie.Need-backward-requires
 backward-requires c κs =
-    let forward = c .before .before .before .before .before .before .before .forward in
-    (omega arith, (omega arith, (filled-agrees _ _ _ (forward .ensures .0), filled-agrees _ _ _ (forward .ensures .1))))
+    let forward = c .before .before .before .before .before .before .forward in
+    (search needs, (filled-agrees _ _ _ (forward .ensures .0), filled-agrees _ _ _ (forward .ensures .1)))
 
 slopes-requires : tie.Need-slopes-requires
-slopes-requires c κs = (omega arith, filled-agrees _ _ _ (c .before .before .before .before .backward .ensures))
+slopes-requires c κs = (search needs, filled-agrees _ _ _ (c .before .before .before .before .backward .ensures))
 
 same-length : tie.Need-same-length
 same-length c = search needs
@@ -22,24 +23,14 @@ same-length c = search needs
 same-length-2 : tie.Need-same-length-2
 same-length-2 c = search needs
 
-same-length-3 : tie.Need-same-length-3
-same-length-3 c = search needs
-
-same-length-4 : tie.Need-same-length-4
-same-length-4 c = search needs
-
 returns : tie.Need-returns
-returns c = search needs
+returns c =
+    let slopes = c .before .before .slopes in
+    let at-forward = c .before .before .before .before .before .before .before .before .before .before .before .before .before .before in
+    let pre = at-forward .before .before .before .before .before .before .before .pre in
+    filled-over _ _ _ _ _ (omega arith) (omega (arith, pre)) (at-forward .forward .ensures .0) (slopes .ensures)
 
 pub bent-in-spec : {M : Type 1} → statement M
 bent-in-spec =
     tie.close
-    (tie.spec
-    forward-requires
-    backward-requires
-    slopes-requires
-    same-length
-    same-length-2
-    same-length-3
-    same-length-4
-    returns)
+    (tie.spec forward-requires backward-requires slopes-requires same-length same-length-2 returns)

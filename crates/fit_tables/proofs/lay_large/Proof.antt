@@ -1,6 +1,6 @@
 -- `fit_tables::lay_large` meets its contract. Assumes nothing.
 use native.Mathlib.Omega.{arith}
-use Rattle.fit_tables.specs.Cells.{cells-in}
+use Rattle.fit_tables.specs.Cells.{cells-few}
 use borrow.Author.Needs.{needs}
 use Rattle.fit_tables.proofs.lay_large.Statement.{statement}
 use Rattle.fit_tables.proofs.lay_large.Tie as tie
@@ -15,8 +15,8 @@ lay-in-requires : tie.Need-lay-in-requires
 lay-in-requires c κs =
     let start = c .before .before .before .before .before .before .before .before in
     let pre = (start .pre) in
-    let cells = cells-in (start .args .n) (start .args .ch) (pre .0 .1 .1) in
-    ((pre .0 .0, (omega (arith, pre .0 .1 .0), pre .0 .1 .1)), (pre .1 .0, (pre .1 .1, (pre .0 .1 .0, omega (arith, cells, pre .0 .1 .0)))))
+    let cells = cells-few (start .args .n) (start .args .ch) (pre .0 .1 .1) in
+    ((pre .0 .0, (pre .0 .1 .0, omega (arith, pre .0 .1 .1))), (pre .1 .0, (pre .1 .1, (pre .0 .1 .0, omega (arith, cells, pre .0 .1 .0)))))
 
 same-length : tie.Need-same-length
 same-length c = search needs

@@ -1,6 +1,7 @@
 -- `spline_curve::gather_curve` meets its contract. Assumes nothing.
-use mathlib.Core.Path.{sym}
+use mathlib.Core.Path.{sym, ap}
 use native.Mathlib.Omega.{arith}
+use lib.ListN.{length}
 use lib.Seq.{length-take-le}
 use Rattle.spline_curve.specs.Gathers.{chan-long, chan-short, chan-codes, gathered-is}
 use borrow.Author.Needs.{needs}
@@ -52,7 +53,8 @@ points-of-requires c κs =
     let listed = (at-channels-of .channels-of .ensures) in
     let short = chan-short _ _ _ _ _ (pre .0 .once) listed in
     let codes = chan-codes _ _ (pre .0 .once) _ (listed .is) in
-    ((pre .0 .lent, (pre .0 .many, codes)), ((short, pre .1 .1), pre .0 .start))
+    let long = ap length (listed .is) in
+    ((pre .0 .lent, (pre .0 .many, codes)), ((short, (rw long (pre .1 .1 .0), pre .1 .1 .1)), pre .0 .start))
 
 same-length : tie.Need-same-length
 same-length c = search needs

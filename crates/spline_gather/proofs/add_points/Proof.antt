@@ -27,7 +27,7 @@ add-point-requires c κs =
     let inv = c .before .before .before .before .loop .inv in
     let pre = c .before .before .before .before .before .before .before .before .before .before .pre in
     let long = ap length (c .before .before .block .ensures) ∙ block-length _ _ (omega arith) in
-    ((long, pre .0 .1 .1), points-room _ _ _ _ _ _ (pre .1 .0) (pre .1 .1 .0) (pre .1 .1 .1) _ _ _ _ (omega arith) (inv .1 .0) (inv .1 .1))
+    ((long, pre .0 .1 .1), points-room _ _ _ _ _ _ (pre .1 .1 .0) (pre .1 .1 .1) _ _ _ _ (omega arith) (inv .1 .0) (inv .1 .1))
 
 add-i : tie.Need-add-i Inv-loop μ-loop
 add-i c = search needs
@@ -42,7 +42,7 @@ loop-again c =
     let pre = d .before .before .before .before .before .before .before .before .pre in
     let put = c .before .before .before .before .add-point .ensures in
     let row = d .block .ensures in
-    let step = points-step _ _ _ _ _ _ (pre .1 .0) (pre .1 .1 .0) (pre .1 .1 .1) _ _ _ _ _ _ _ (omega arith) row (inv .1 .0) (inv .1 .1) (put .0) in
+    let step = points-step _ _ _ _ _ _ (pre .1 .1 .0) (pre .1 .1 .1) _ _ _ _ _ _ _ (omega arith) row (inv .1 .0) (inv .1 .1) (put .0) in
     (omega arith, (step, weights-step _ _ _ _ _ _ _ _ _ row (inv .1 .1) (put .1)))
 
 same-length : tie.Need-same-length Inv-loop μ-loop

@@ -2,7 +2,7 @@
 use mathlib.Core.Path.{refl, sym}
 use native.Mathlib.Omega.{arith}
 use lib.Seq.{length-take-le}
-use Rattle.spline_curve.specs.Gathers.{draws-few, curved-kept}
+use Rattle.spline_curve.specs.Gathers.{draws-few, draws-within, curved-kept}
 use Rattle.spline_curve.specs.Curves.{few-runs}
 use borrow.Author.Needs.{needs}
 use Rattle.spline_plan.proofs.plan_emission.Statement.{statement}
@@ -47,7 +47,8 @@ tabulate-requires c κs =
     let a = (start .args) in
     let asked = curved-kept _ _ _ _ (a .job) _ _ _ _ _ _ (at-drawing-of .drawing-of .ensures) gathered (a .pts .now) (a .ws .now) in
     let curved = asked (pre .0 .many) (made .0) (room .points) (made .1 .0) (room .weights) in
-    (curved, ((omega (arith, few, room .knots), omega (arith, few, room .controls)), omega (arith, few, room .blocks)))
+    let controls = draws-within _ _ _ _ (a .job) _ _ _ _ _ _ (at-drawing-of .drawing-of .ensures) gathered _ (room .controls) in
+    (curved, ((omega (arith, few, room .knots), controls), omega (arith, few, room .blocks)))
 
 total-requires : tie.Need-total-requires
 total-requires c κs =

@@ -1,7 +1,6 @@
 -- `curve_runs::runs::prepare` meets its contract. Assumes nothing.
 use mathlib.Core.Path.{sym, _∙_}
 use native.Mathlib.Omega.{arith}
-use Rattle.fit_tables.specs.Cells.{cells-in}
 use Rattle.curve_runs.proofs.Running.{fitted-as}
 use borrow.Author.Needs.{needs}
 use Rattle.curve_runs.proofs.runs.prepare.Statement.{statement}
@@ -26,7 +25,6 @@ returns c =
     let at-is-basis = at-if1 .before in
     let start = at-is-basis .before .before .before .before .before .before in
     let pre = (start .pre) in
-    let cells = cells-in (start .args .d .n) (start .args .d .ch) (pre .0 .1 .1) in
     let kept = (at-prepare-basis .prepare-basis .kept) in
     record {
       two = pre .0 .0;
@@ -35,7 +33,7 @@ returns c =
       metric = pre .1 .0 .0;
       points = pre .1 .0 .1 .0;
       knots = omega (arith, pre .1 .1 .0, kept .1 .1 .1 .1 .1 .0);
-      controls = omega (arith, pre .1 .1 .1, cells, kept .1 .1 .1 .1 .1 .1 .0);
+      controls = omega (arith, pre .1 .1 .1 .fit, kept .1 .1 .1 .1 .1 .1 .0);
       laid = record { kind = sym (at-is-basis .is-basis .ensures) ∙ (at-if1 .if1 .taken); tables = (at-prepare-basis .prepare-basis .ensures) };
     }
 
@@ -59,8 +57,6 @@ returns-2 c =
     let at-is-basis = at-if1 .before in
     let start = at-is-basis .before .before .before .before .before .before in
     let pre = (start .pre) in
-    let d = (start .args .d) in
-    let cells = cells-in (d .n) (d .ch) (pre .0 .1 .1) in
     let kept = (at-lay-fit .lay-fit .kept) in
     let fit = (at-lay-fit .lay-fit .ensures) in
     record {
@@ -70,7 +66,7 @@ returns-2 c =
       metric = pre .1 .0 .0;
       points = pre .1 .0 .1 .0;
       knots = omega (arith, pre .1 .1 .0, kept .1 .1 .1 .1 .1 .0);
-      controls = omega (arith, pre .1 .1 .1, cells, kept .1 .1 .1 .1 .1 .1 .0);
+      controls = omega (arith, pre .1 .1 .1 .fit, kept .1 .1 .1 .1 .1 .1 .0);
       laid = record {
         kind = sym (at-is-basis .is-basis .ensures) ∙ (at-if1 .if1 .left);
         tables = fitted-as (at-is-cubic .is-cubic .ensures) fit;

@@ -17,10 +17,10 @@ plan-emission-requires c κs =
     let room = pre .1 .1 in (
       pre .0 .0,
       record {
-        points = room .points;
+        points = room .numbers .points;
         weights = room .weights;
         knots = room .knots;
-        controls = room .controls;
+        controls = room .numbers .controls;
         blocks = omega (arith, pre .1 .0);
         few = few-zeros middlePoints;
       },

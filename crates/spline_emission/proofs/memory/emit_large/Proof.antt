@@ -1,99 +1,35 @@
 -- `spline_emission::memory::emit_large` meets its contract. Assumes nothing.
 use native.Mathlib.Omega.{arith}
 use Rattle.layout.specs.Layout.{mostPoints}
-use Rattle.spline_curve.specs.Curves.{few-zeros}
+use Rattle.fit_tables.specs.Asks.{fewChannels}
 use borrow.Author.Needs.{needs}
+use Rattle.spline_emission.proofs.Emitting.{numbers-in}
 use Rattle.spline_emission.proofs.memory.emit_large.Statement.{statement}
 use Rattle.spline_emission.proofs.memory.emit_large.Tie as tie
-use Rattle.spline_emission.proofs.Emitting.{emitted-by, plans-of}
 
-slice-aggregate-plan-emission : tie.Need-slice-aggregate-plan-emission
-slice-aggregate-plan-emission c = search needs
+slice-aggregate-emit-many : tie.Need-slice-aggregate-emit-many
+slice-aggregate-emit-many c = search needs
 
-slice-aggregate-plan-emission-2 : tie.Need-slice-aggregate-plan-emission-2
-slice-aggregate-plan-emission-2 c = search needs
+slice-aggregate-emit-many-2 : tie.Need-slice-aggregate-emit-many-2
+slice-aggregate-emit-many-2 c = search needs
 
-slice-aggregate-plan-emission-3 : tie.Need-slice-aggregate-plan-emission-3
-slice-aggregate-plan-emission-3 c = search needs
-
-slice-aggregate-plan-emission-4 : tie.Need-slice-aggregate-plan-emission-4
-slice-aggregate-plan-emission-4 c = search needs
-
-slice-aggregate-plan-emission-5 : tie.Need-slice-aggregate-plan-emission-5
-slice-aggregate-plan-emission-5 c = search needs
-
-slice-aggregate-plan-emission-6 : tie.Need-slice-aggregate-plan-emission-6
-slice-aggregate-plan-emission-6 c = search needs
-
-plan-emission-requires : tie.Need-plan-emission-requires
-plan-emission-requires c κs =
-    let start = c .before .before .before .before .before .before .before .before .before .before in
-    let pre = (start .pre) in
-    let fits = pre .0 .many in (
-      pre .0,
-      record {
-        points = omega (arith, fits);
-        weights = omega (arith, fits);
-        knots = omega (arith, fits);
-        controls = omega (arith, fits);
-        blocks = omega (arith, fits);
-        few = few-zeros mostPoints;
-      },
-    )
-
-slice-aggregate-write-emission : tie.Need-slice-aggregate-write-emission
-slice-aggregate-write-emission c = search needs
-
-slice-aggregate-write-emission-2 : tie.Need-slice-aggregate-write-emission-2
-slice-aggregate-write-emission-2 c = search needs
-
-slice-aggregate-write-emission-3 : tie.Need-slice-aggregate-write-emission-3
-slice-aggregate-write-emission-3 c = search needs
-
-slice-aggregate-write-emission-4 : tie.Need-slice-aggregate-write-emission-4
-slice-aggregate-write-emission-4 c = search needs
-
-slice-aggregate-write-emission-5 : tie.Need-slice-aggregate-write-emission-5
-slice-aggregate-write-emission-5 c = search needs
-
-slice-aggregate-write-emission-6 : tie.Need-slice-aggregate-write-emission-6
-slice-aggregate-write-emission-6 c = search needs
-
-write-emission-requires : tie.Need-write-emission-requires
-write-emission-requires c κs =
-    let at-plan-emission = c .before .before .before .before .before .before .before .before .before .before .before .before .before in
-    let start = at-plan-emission .before .before .before .before .before .before .before .before .before .before .before in
-    let plan = (at-plan-emission .plan-emission .ensures) in
-    plans-of (start .args .job) (plan .0) ((start .pre) .1) (plan .1)
+emit-many-requires : tie.Need-emit-many-requires
+emit-many-requires c κs =
+    let pre = c .before .before .before .before .before .before .before .pre in
+    (pre .0, numbers-in _ _ mostPoints fewChannels (omega (arith, pre .0 .0 .many)) (pre .1) (omega arith) (omega arith) (omega arith))
 
 same-length : tie.Need-same-length
 same-length c = search needs
 
 returns : tie.Need-returns
-returns c =
-    let at-write-emission = c .before .before in
-    let at-plan-emission = at-write-emission .before .before .before .before .before .before .before .before .before .before .before .before .before .before in
-    let start = at-plan-emission .before .before .before .before .before .before .before .before .before .before .before in
-    let plan = (at-plan-emission .plan-emission .ensures) in
-    emitted-by (start .args .job) (plan .0) ((start .pre) .1) (plan .1) (at-write-emission .write-emission .ensures)
+returns c = search needs
 
 pub emit-large-spec : {M : Type 1} → statement M
 emit-large-spec =
     tie.close
     (tie.spec
-    slice-aggregate-plan-emission
-    slice-aggregate-plan-emission-2
-    slice-aggregate-plan-emission-3
-    slice-aggregate-plan-emission-4
-    slice-aggregate-plan-emission-5
-    slice-aggregate-plan-emission-6
-    plan-emission-requires
-    slice-aggregate-write-emission
-    slice-aggregate-write-emission-2
-    slice-aggregate-write-emission-3
-    slice-aggregate-write-emission-4
-    slice-aggregate-write-emission-5
-    slice-aggregate-write-emission-6
-    write-emission-requires
+    slice-aggregate-emit-many
+    slice-aggregate-emit-many-2
+    emit-many-requires
     same-length
     returns)

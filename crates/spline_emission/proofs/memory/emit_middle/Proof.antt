@@ -1,6 +1,10 @@
 -- `spline_emission::memory::emit_middle` meets its contract. Assumes nothing.
 use native.Mathlib.Omega.{arith}
 use borrow.Author.Needs.{needs}
+use Rattle.layout.specs.Layout.{axisCodes}
+use Rattle.spline_emission.specs.Sizes.{middlePoints}
+use Rattle.spline_channels.specs.ChannelLaws.{channels-few}
+use Rattle.spline_emission.proofs.Emitting.{numbers-in}
 use Rattle.spline_emission.proofs.memory.emit_middle.Statement.{statement}
 use Rattle.spline_emission.proofs.memory.emit_middle.Tie as tie
 
@@ -26,7 +30,11 @@ emit-few-requires c κs =
       pre .0,
       (
         omega (arith, fits),
-        record { points = omega (arith, fits); weights = omega (arith, fits); knots = omega (arith, fits); controls = omega (arith, fits) },
+        record {
+          numbers = numbers-in _ _ middlePoints axisCodes (omega (arith, fits)) (channels-few _ _ (pre .0 .0 .once)) (omega arith) (omega arith) (omega arith);
+          weights = omega (arith, fits);
+          knots = omega (arith, fits);
+        },
       ),
     )
 
