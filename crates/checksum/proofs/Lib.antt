@@ -1,2 +1,1 @@
-mod Linear
-mod Looking
+mod Stepping

@@ -1,3 +1,2 @@
 pub mod Checksum
-pub mod Table
 pub mod Pieces

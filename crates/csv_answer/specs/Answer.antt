@@ -5,7 +5,8 @@ use mathlib.Core.List.{List, []}
 use lib.Dec.{eqb}
 use Rattle.csv_line.specs.Notice.{noticeText}
 use Rattle.csv_write.specs.Writer.{rowsText, rowsWritable}
-use Rattle.csv_out.specs.Say.{Say, badText, refusal}
+use Rattle.csv_count.specs.Count.{badText}
+use Rattle.csv_out.specs.Say.{Say, refusal}
 
 -- 0 is no warning
 unfoldable pub warningText : ℕ → ℕ → List ℕ

@@ -15,7 +15,8 @@ use Rattle.csv_write.specs.Texts.{several-length, row-length}
 use Rattle.csv_write.specs.Trying.{tried-good}
 use Rattle.csv_write.specs.Writer.{rowRoom, rowText, rowAt, rowsText, writable, rowsWritable, Tried}
 use Rattle.csv_out.specs.declared.Run.{Run}
-use Rattle.csv_out.specs.Say.{Say, badText, refusal}
+use Rattle.csv_count.specs.Count.{badText}
+use Rattle.csv_out.specs.Say.{Say, refusal}
 use Rattle.csv_out.specs.Said.{Adds, Noted, Said}
 use Rattle.csv_out.specs.SayLaws.{says, adds-text}
 use Rattle.csv_answer.specs.Answer.{warningText, answer}

@@ -1,6 +1,6 @@
 // What the row text program says to what a call answered: its rows, and its warning or its refusal, behind what waits.
+use csv_count::BAD_TEXT;
 use csv_figures::Placed;
-use csv_out::BAD_TEXT;
 use csv_out::Run;
 use csv_out::refuse;
 ghost use Prim.Native.Nat.{_+_, _≤_};

@@ -54,6 +54,7 @@ use Rattle.csv_cells.specs.Cells as Cells
 use Rattle.csv_read.specs.Reader as Reader
 use Rattle.csv_write.specs.Writer as Writer
 use Rattle.text_cut.specs.Cut as Cut
+use Rattle.csv_count.specs.Count as Count
 use Rattle.csv_out.specs.Say as Say
 use Rattle.csv_answer.specs.Answer as Answered
 use Rattle.csv_spec.specs.Csv as Csv
@@ -87,7 +88,7 @@ unfolding Lists.all Lists.anyOf Lists.flatten Lists.keep Lists.member Lists.spli
     Read.number Read.run Read.unsigned Write.figures Write.millionthsText Write.numberText Words.motionOf Words.planeOf Words.seek LineText.endOf
     LineText.joined LineText.parted LineText.tailed Notice.noticeText Reader.cellIn Cells.cellOk Reader.cellsIn Cells.cellsOk Reader.fromCells
     Cells.given Reader.readRow Writer.cellShown Writer.cellText Writer.cellTexts Writer.headOk Writer.markText Writer.outFields Writer.rowFields
-    Writer.rowText Writer.rowsText Writer.rowsWritable Writer.writable Cut.linesFrom Cut.restFrom Answered.answer Say.heading Say.nextLine Say.refusal
+    Writer.rowText Writer.rowsText Writer.rowsWritable Writer.writable Cut.linesFrom Cut.restFrom Answered.answer Say.heading Count.nextLine Say.refusal
     Answered.warningText Csv.begun Csv.csvFinish Csv.csvLines Csv.csvRest Csv.csvSpec Line.csvClose Line.csvEnd Line.csvLine Line.onRow Line.onText
     Line.unread Ieee.add Ieee.sub Ieee.mul Ieee.div Ieee.rem Ieee.neg Ieee.lt Ieee.le Ieee.eq Ieee.ofBits Ieee.toBits Ieee.ofInt
 says input = Csv.csvSpec input

@@ -5,7 +5,8 @@ use mathlib.Core.Bool.{Bool, true, false, cond, _&&_, not}
 use mathlib.Core.List.{List, [], _∷_}
 use lib.Dec.{T, eqb}
 use lib.ListN.{length}
-use Rattle.csv_line.specs.LineText.{comma, headerOut, parted, joined}
+use Rattle.csv_line.specs.LineText.{comma, parted, joined}
+use Rattle.csv_header.specs.Header.{headerOut}
 use Rattle.csv_write.specs.Writer.{outFields}
 
 -- 7.3: what a field may hold that is not quoted

@@ -15,7 +15,8 @@ use Rattle.csv_words.specs.Table.{short}
 use Rattle.csv_words.specs.Words.{same}
 use Rattle.csv_line.specs.declared.End.{End}
 use Rattle.csv_line.specs.declared.End.the-variants as End
-use Rattle.csv_line.specs.LineText.{header, tailed, joined, endOf}
+use Rattle.csv_line.specs.LineText.{tailed, joined, endOf}
+use Rattle.csv_header.specs.Header.{header}
 use Rattle.floats.specs.Truth.{and-right}
 use Rattle.csv_line.specs.CodeLaws.{plane-low}
 use Rattle.csv_cells.specs.Cells.{given}

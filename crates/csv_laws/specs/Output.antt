@@ -4,7 +4,8 @@ use mathlib.Core.Path.{_≡_}
 use mathlib.Core.List.{List, [], _++_}
 use lib.Dec.{T}
 use lib.ListN.{length}
-use Rattle.csv_line.specs.LineText.{crlf, headerOut, parted, joined}
+use Rattle.csv_line.specs.LineText.{crlf, parted, joined}
+use Rattle.csv_header.specs.Header.{headerOut}
 use Rattle.csv_forms.specs.Clean.{cleanAll}
 use Rattle.text_cut.specs.Cut.{linesFrom}
 use Rattle.csv_spec.specs.Line.{Step}

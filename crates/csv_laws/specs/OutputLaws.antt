@@ -13,13 +13,15 @@ use Rattle.floats.specs.Lists.{upto, flatten}
 use Rattle.csv_words.specs.Words.{same}
 use Rattle.csv_line.specs.declared.End.{End}
 use Rattle.csv_line.specs.declared.End.the-variants as End
-use Rattle.csv_line.specs.LineText.{crlf, header, headerOut, endOf}
+use Rattle.csv_line.specs.LineText.{crlf, endOf}
+use Rattle.csv_header.specs.Header.{header, headerOut}
 use Rattle.floats.specs.Truth.{all-at}
 use Rattle.csv_read.specs.Reader.{readRow}
 use Rattle.csv_write.specs.Writer.{rowAt, rowsText, rowsWritable, writable, rowText, outFields}
 use Rattle.csv_write.specs.Texts.{flatten-more}
 use Rattle.csv_forms.specs.RoundTrip.{written-is-clean}
-use Rattle.csv_out.specs.Say.{Say, badText, lastLine, nextLine, refusal, heading}
+use Rattle.csv_count.specs.Count.{badText, lastLine, nextLine}
+use Rattle.csv_out.specs.Say.{Say, refusal, heading}
 use Rattle.csv_answer.specs.Answer.{answer}
 use Rattle.text_cut.specs.Cut.{linesFrom, restFrom}
 use Rattle.csv_out.specs.SayLaws.{heading-good, heading-bad}

@@ -9,10 +9,12 @@ use lib.ListN.{take}
 use Rattle.csv_words.specs.Words.{same}
 use Rattle.csv_line.specs.declared.End.{End}
 use Rattle.csv_line.specs.declared.End.the-variants as End
-use Rattle.csv_line.specs.LineText.{endOf, header, headerOut, crlf}
+use Rattle.csv_line.specs.LineText.{endOf, crlf}
+use Rattle.csv_header.specs.Header.{header, headerOut}
 use Rattle.csv_read.specs.Reader.{readRow}
 use Rattle.csv_write.specs.Writer.{rowsText, rowsWritable}
-use Rattle.csv_out.specs.Say.{Say, badText, refusal, heading}
+use Rattle.csv_count.specs.Count.{badText}
+use Rattle.csv_out.specs.Say.{Say, refusal, heading}
 use Rattle.csv_answer.specs.Answer.{answer, warningText}
 use Rattle.csv_out.specs.SayLaws.{says}
 use Rattle.csv_spec.specs.Line.{Stand, Step, unread, onRow, onRead, onText, onEnd, csvLine, csvClose, csvEnd}

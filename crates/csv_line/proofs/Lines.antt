@@ -1,17 +1,14 @@
 -- What the functions on lines do. Assumes nothing.
-use Prim.Native.Nat.{ℕ, suc, _+_, _-_, _≤_, _<_}
-use mathlib.Core.Path.{_≡_, refl, sym, ap, _∙_}
-use mathlib.Core.Bool.{Bool, true, false, _&&_}
+use Prim.Native.Nat.{ℕ, _+_, _-_, _≤_, _<_}
+use mathlib.Core.Path.{_≡_, sym, ap, _∙_}
 use mathlib.Core.List.{List, [], _∷_}
 use native.Mathlib.Omega.{arith}
 use native.Mathlib.Numerals.{add-one}
-use lib.Dec.{eqb}
-use lib.ListN.{length, take, drop, getD, set, length-set}
-use lib.Seq.{sets, take-suc, take-length, drop-cons, drop-length, length-take-le}
+use lib.ListN.{length, take, getD, set, length-set}
+use lib.Seq.{sets, take-suc, take-length, length-take-le}
 use borrow.Author.Tests.{lt-ltb, le-ltb, eq-eqb, ne-eqb}
 use Rattle.csv_figures.specs.Out.{Wrote}
 use Rattle.csv_figures.specs.OutLaws.{sets-append}
-use Rattle.csv_words.specs.Words.{same}
 use Rattle.csv_line.specs.declared.End.{End}
 use Rattle.csv_line.specs.declared.End.the-variants as End
 use Rattle.csv_line.specs.LineText.{endOf}
@@ -34,53 +31,6 @@ module _ (s : List ℕ) where
     pub end-found : getD s (length s - 2) 0 ≡ 13 → getD s (length s - 2 + 1) 0 ≡ 10 → End.Upto (length s - 2) ≡ endOf s
     unfolding endOf
     end-found e f = rw (le-ltb (length s) 2 h, eq-eqb (getD s (length s - 2) 0) 13 e, eq-eqb (getD s (length s - 2 + 1) 0) 10 f)
-
--- ---- `is_same`: what is left of both is to be compared
-pub record Comparing (a b : List ℕ) (i : ℕ) : Type 0 where
-  pub within : i ≤ length a
-  pub long : length a ≡ length b
-  pub left : same a b ≡ same (drop i a) (drop i b)
-
-pub same-long : (a b : List ℕ) → (length a ≡ length b → ⊥) → false ≡ same a b
-same-long [] [] n = absurd (n refl)
-same-long [] (d ∷ b) n = refl
-same-long (c ∷ a) [] n = refl
-same-long (c ∷ a) (d ∷ b) n = go (eqb c d) (same-long a b (λ (e : length a ≡ length b). n (ap suc e)))
-  where
-    go : (z : Bool) → false ≡ same a b → false ≡ (z && same a b)
-    go true h = h
-    go false h = refl
-
-module _ {a b : List ℕ} {i : ℕ} (c : Comparing a b i) where
-  parts : i < length a → same a b ≡ (eqb (getD a i 0) (getD b i 0) && same (drop (suc i) a) (drop (suc i) b))
-  parts h =
-      let k : i < length b = omega (arith, c .long) in
-      c .left ∙ ap (λ (l : List ℕ). same l (drop i b)) (drop-cons a i 0 h) ∙ ap (same (getD a i 0 ∷ drop (suc i) a)) (drop-cons b i 0 k)
-
-  pub same-on : i < length a → getD a i 0 ≡ getD b i 0 → Comparing a b (i + 1)
-  same-on h e =
-      record {
-        within = omega arith;
-        long = c .long;
-        left =
-            parts h
-            ∙ ap (λ (z : Bool). z && same (drop (suc i) a) (drop (suc i) b)) (eq-eqb (getD a i 0) (getD b i 0) e)
-            ∙ ap (λ (k : ℕ). same (drop k a) (drop k b)) (sym (add-one i));
-      }
-
-  pub same-not : i < length a → (getD a i 0 ≡ getD b i 0 → ⊥) → false ≡ same a b
-  same-not h n = sym (parts h ∙ ap (λ (z : Bool). z && same (drop (suc i) a) (drop (suc i) b)) (ne-eqb (getD a i 0) (getD b i 0) n))
-
-  pub same-all : length a ≤ i → true ≡ same a b
-  same-all h =
-      let e : i ≡ length a = omega (arith, c .within) in
-      let f : i ≡ length b = omega (arith, c .long) in
-      sym
-      (c .left
-      ∙ ap (λ (k : ℕ). same (drop k a) (drop i b)) e
-      ∙ ap (λ (k : ℕ). same (drop (length a) a) (drop k b)) f
-      ∙ ap (λ (l : List ℕ). same l (drop (length b) b)) (drop-length a)
-      ∙ ap (same []) (drop-length b))
 
 -- ---- `put_bytes`: the first i bytes of s are stored
 pub record Storing (s o : List ℕ) (n i : ℕ) (o′ : List ℕ) : Type 0 where

@@ -1,11 +1,10 @@
--- DEFINITIONS. Lines, fields and headers: rules 7.2 to 7.4. Assumes nothing.
+-- DEFINITIONS. Lines and fields: rules 7.3, 7.4. Assumes nothing.
 use Prim.Native.Nat.{ℕ, _+_, _-_}
 use mathlib.Core.Bool.{cond}
 use mathlib.Core.List.{List, [], _∷_, _++_}
 use lib.Dec.{eqb, ltb}
 use lib.ListN.{length, getD}
 use Rattle.layout.specs.Layout.{axisCodes, cOffset, cCR, cTURN, cPW, cSD}
-use Rattle.csv_words.specs.Text.{bytes}
 use Rattle.csv_line.specs.declared.End.{End}
 use Rattle.csv_line.specs.declared.End.the-variants as End
 
@@ -21,13 +20,6 @@ unfoldable pub endOf : List ℕ → End
 endOf s =
     cond (ltb (length s) 2) End.Bad
     (cond (eqb (getD s (length s - 2) 0) 13) (cond (eqb (getD s (length s - 2 + 1) 0) 10) (End.Upto (length s - 2)) End.Bad) End.Bad)
-
--- 7.2: the header in, and the one out
-abbrev pub header : List ℕ
-header = bytes "line_no,gg01_motion,gg06_plane_select,X,Y,Z,I,J,K,CR,TURN,PW,SD,F"
-
-abbrev pub headerOut : List ℕ
-headerOut = bytes "line_no,gg01_motion,gg06_plane_select,X,Y,Z,I,J,K,CR,TURN,PW,SD,F,flattened"
 
 -- 7.4: the codes of X Y Z I J K CR TURN PW SD F
 abbrev pub columns : List ℕ

@@ -1,12 +1,10 @@
-// Lines: their ends and the headers.
+// Lines: their ends, and bytes behind one another.
 use csv_figures::put_byte;
 ghost use mathlib.Core.Path.{_≡_};
-ghost use mathlib.Core.List.{_++_};
 ghost use Prim.Native.Nat.{_+_, _≤_};
 ghost use lib.ListN.{length};
-ghost use Rattle.csv_words.specs.Words.{same};
 ghost use Rattle.csv_figures.specs.Out.{Wrote};
-ghost use Rattle.csv_line.specs.LineText.{crlf, header, headerOut, endOf};
+ghost use Rattle.csv_line.specs.LineText.{crlf, endOf};
 
 // Where the text of a line ends and its CRLF begins.
 pub enum End {
@@ -30,42 +28,6 @@ pub fn text_end(line: &[u8]) -> End
     End::Upto(end)
 }
 
-fn is_same(a: &[u8], b: &[u8]) -> bool
-    ensures { λ r. ⌜ r ≡ same (now (a .entry)) (now (b .entry)) ⌝ }
-{
-    if a.len() != b.len() {
-        return false;
-    }
-    let mut i: usize = 0;
-    while i < a.len() {
-        if a[i] != b[i] {
-            return false;
-        }
-        i += 1;
-    }
-    true
-}
-
-// Whether the text of a line is the first header.
-pub fn is_header(text: &[u8]) -> bool
-    ensures { λ r. ⌜ r ≡ same header (now (text .entry)) ⌝ }
-{
-    is_same(
-        b"line_no,gg01_motion,gg06_plane_select,X,Y,Z,I,J,K,CR,TURN,PW,SD,F",
-        text,
-    )
-}
-
-// Whether the text of a line is the second header.
-pub fn is_header_out(text: &[u8]) -> bool
-    ensures { λ r. ⌜ r ≡ same headerOut (now (text .entry)) ⌝ }
-{
-    is_same(
-        b"line_no,gg01_motion,gg06_plane_select,X,Y,Z,I,J,K,CR,TURN,PW,SD,F,flattened",
-        text,
-    )
-}
-
 pub fn put_bytes(out: &mut [u8], n: usize, s: &[u8]) -> usize
     requires { ⌜ n + length (now s) ≤ length (now out) ⌝ }
     ensures { λ r. ⌜ Wrote (now (out .entry)) n (now (s .entry)) (now (out .exit)) r ⌝ }
@@ -84,17 +46,4 @@ pub fn put_crlf(out: &mut [u8], n: usize) -> usize
 {
     let a = put_byte(out, n, b'\r');
     put_byte(out, a, b'\n')
-}
-
-// The second header, with the end of its line.
-pub fn put_header(out: &mut [u8], n: usize) -> usize
-    requires { ⌜ n + 80 ≤ length (now out) ⌝ }
-    ensures { λ r. ⌜ Wrote (now (out .entry)) n (headerOut ++ crlf) (now (out .exit)) r ⌝ }
-{
-    let a = put_bytes(
-        out,
-        n,
-        b"line_no,gg01_motion,gg06_plane_select,X,Y,Z,I,J,K,CR,TURN,PW,SD,F,flattened",
-    );
-    put_crlf(out, a)
 }

@@ -4,8 +4,9 @@ use mathlib.Core.Path.{_≡_}
 use mathlib.Core.Bool.{Bool}
 use mathlib.Core.List.{List, _++_}
 use lib.ListN.{length, take}
+use Rattle.csv_count.specs.Count.{nextLine}
 use Rattle.csv_out.specs.declared.Run.{Run}
-use Rattle.csv_out.specs.Say.{Say, nextLine}
+use Rattle.csv_out.specs.Say.{Say}
 
 -- n bytes waited in o, and then r in o′: those n, and behind them t
 pub record Adds (t o : List ℕ) (n : ℕ) (o′ : List ℕ) (r : ℕ) : Type 0 where

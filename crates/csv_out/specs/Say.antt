@@ -1,12 +1,13 @@
 -- DEFINITIONS. What the row text program says to a header and to text that it cannot read. Assumes nothing.
-use Prim.Native.Nat.{ℕ, _+_, _*_}
+use Prim.Native.Nat.{ℕ, _*_}
 use mathlib.Core.Bool.{Bool, true, false, cond}
 use mathlib.Core.List.{List, [], _++_}
-use lib.Dec.{ltb}
 use Rattle.csv_words.specs.Words.{same}
-use Rattle.csv_line.specs.LineText.{crlf, header, headerOut}
+use Rattle.csv_line.specs.LineText.{crlf}
+use Rattle.csv_header.specs.Header.{header, headerOut}
 use Rattle.csv_line.specs.Notice.{noticeText}
 use Rattle.csv_write.specs.Writer.{rowRoom}
+use Rattle.csv_count.specs.Count.{badText}
 
 -- how many bytes the lines are never longer than: one of standard error, the header, a row
 abbrev pub noticeRoom : ℕ
@@ -21,17 +22,6 @@ lentRows = 256
 
 abbrev pub callRoom : ℕ
 callRoom = rowRoom * lentRows
-
--- the refusal of text, and of a row whose numbers have none
-abbrev pub badText : ℕ
-badText = 10
-
--- the lines of the input are counted from 1 up to this one
-abbrev pub lastLine : ℕ
-lastLine = 9999999999
-
-unfoldable pub nextLine : ℕ → ℕ
-nextLine n = cond (ltb n lastLine) (n + 1) n
 
 -- what is said: whether it is a refusal, the bytes for standard output, and those for standard error
 pub record Say : Type 0 where

@@ -13,10 +13,12 @@ use Rattle.csv_decimal.specs.Widths.{width-ten}
 use Rattle.csv_figures.specs.Writers.{whole-length}
 use Rattle.csv_words.specs.Text.{bytes}
 use Rattle.csv_words.specs.Words.{same}
-use Rattle.csv_line.specs.LineText.{crlf, header, headerOut}
+use Rattle.csv_line.specs.LineText.{crlf}
+use Rattle.csv_header.specs.Header.{header, headerOut}
 use Rattle.csv_line.specs.Notice.{noticeText}
+use Rattle.csv_count.specs.Count.{badText}
 use Rattle.csv_out.specs.declared.Run.{Run}
-use Rattle.csv_out.specs.Say.{Say, noticeRoom, headerRoom, badText, refusal, heading}
+use Rattle.csv_out.specs.Say.{Say, noticeRoom, headerRoom, refusal, heading}
 use Rattle.csv_out.specs.Said.{Adds, Noted, Said}
 
 -- ---- how long the lines are

@@ -1,11 +1,12 @@
 // What the row text program says to a header and to text that it cannot read: bytes that are added to what waits for
 // standard output, and bytes that are added to what waits for standard error. Nothing is written to a descriptor here.
-ghost use mathlib.Core.Path.{_≡_};
+use csv_count::BAD_TEXT;
+use csv_count::next_number;
 ghost use mathlib.Core.Bool.{true};
 ghost use Prim.Native.Nat.{_+_, _≤_};
 ghost use lib.ListN.{length};
 ghost use Rattle.csv_line.specs.Notice.{noticeText};
-ghost use Rattle.csv_out.specs.Say.{noticeRoom, headerRoom, heading, nextLine};
+ghost use Rattle.csv_out.specs.Say.{noticeRoom, headerRoom, heading};
 ghost use Rattle.csv_out.specs.Said.{Noted, Said, NextIs};
 
 // How long the lines of standard error and those of rows never are longer than, and how many rows a call is lent room for.
@@ -16,12 +17,6 @@ const ROW_ROOM: usize = 256;
 pub const LENT_ROWS: usize = 256;
 
 pub const CALL_ROOM: usize = ROW_ROOM * LENT_ROWS;
-
-// The refusal of text, and of a row whose numbers have none.
-pub const BAD_TEXT: u64 = 10;
-
-// Physical lines are counted up to this one.
-pub const LAST_LINE: u64 = 9999999999;
 
 // What the lines so far have left: `out` and `err` bytes wait to be written; `physical` is the number of the line read
 // next, and `source` the source line of the last block.
@@ -55,8 +50,8 @@ pub fn headed(run: Run, text: &[u8], out: &mut [u8], err: &mut [u8]) -> Run
         let p = heading (run .physical) (now (text .entry)) in
         ⌜ Said p run (now (out .entry)) (now (err .entry)) r (now (out .exit)) (now (err .exit)) ⌝ }
 {
-    if csv_line::is_header(text) {
-        let n = csv_line::put_header(out, run.out);
+    if csv_header::is_header(text) {
+        let n = csv_header::put_header(out, run.out);
         return Run {
             out: n,
             err: run.err,
@@ -66,16 +61,6 @@ pub fn headed(run: Run, text: &[u8], out: &mut [u8], err: &mut [u8]) -> Run
         };
     }
     refuse(run, err, run.physical, BAD_TEXT)
-}
-
-// The number of the next line: one more, up to the last that is counted.
-pub fn next_number(physical: u64) -> u64
-    ensures { λ r. ⌜ r ≡ nextLine physical ⌝ }
-{
-    if physical < LAST_LINE {
-        return physical + 1;
-    }
-    physical
 }
 
 // The next line.

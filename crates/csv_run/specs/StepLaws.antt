@@ -14,7 +14,8 @@ use Rattle.call_answer.specs.Close.{closeSpec}
 use Rattle.csv_line.specs.LineText.{endOf}
 use Rattle.csv_line.specs.Notice.{noticeText}
 use Rattle.csv_out.specs.declared.Run.{Run}
-use Rattle.csv_out.specs.Say.{Say, badText, lentRows, refusal, nextLine}
+use Rattle.csv_count.specs.Count.{badText, nextLine}
+use Rattle.csv_out.specs.Say.{Say, lentRows, refusal}
 use Rattle.csv_out.specs.Said.{Adds, Noted, Said, NextIs}
 use Rattle.csv_out.specs.SayLaws.{say-noted}
 use Rattle.csv_answer.specs.Answers.{AnswerFits, Answers, said}

@@ -2,13 +2,13 @@
 // after turn, and then what still waits is written. Memory is of a fixed size.
 use call_close::close;
 use call_push::push;
+use csv_count::BAD_TEXT;
 use csv_ending::Ending;
 use csv_ending::last;
 use csv_io::ERR_ROOM;
 use csv_io::OUT_ROOM;
 use csv_line::End;
 use csv_next::next_found;
-use csv_out::BAD_TEXT;
 use csv_out::LENT_ROWS;
 use csv_out::Run;
 use csv_out::headed;

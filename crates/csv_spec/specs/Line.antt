@@ -13,7 +13,8 @@ use Rattle.csv_line.specs.declared.End.{End}
 use Rattle.csv_line.specs.declared.End.the-variants as End
 use Rattle.csv_line.specs.LineText.{endOf}
 use Rattle.csv_read.specs.Reader.{readRow}
-use Rattle.csv_out.specs.Say.{Say, badText, refusal, heading, nextLine}
+use Rattle.csv_count.specs.Count.{badText, nextLine}
+use Rattle.csv_out.specs.Say.{Say, refusal, heading}
 use Rattle.csv_answer.specs.Answer.{answer}
 
 -- what stands before a line: the state and the store, the words of the lent rows, the number of the line, the source line of

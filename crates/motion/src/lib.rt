@@ -42,15 +42,8 @@ pub fn is_spline(kind: Kind) -> bool
     ensures { λ r. ⌜ r ≡ splineKind kind ⌝ }
 {
     match kind {
-        Kind::Same => false,
-        Kind::Linear => false,
-        Kind::Clockwise => false,
-        Kind::Counter => false,
-        Kind::Akima => true,
-        Kind::Basis => true,
-        Kind::Cubic => true,
-        Kind::Other => false,
-        Kind::Refused => false,
+        Kind::Akima | Kind::Basis | Kind::Cubic => true,
+        _ => false,
     }
 }
 
@@ -59,15 +52,8 @@ pub fn is_other(kind: Kind) -> bool
     ensures { λ r. ⌜ r ≡ otherKind kind ⌝ }
 {
     match kind {
-        Kind::Same => false,
-        Kind::Linear => false,
-        Kind::Clockwise => false,
-        Kind::Counter => false,
-        Kind::Akima => false,
-        Kind::Basis => false,
-        Kind::Cubic => false,
         Kind::Other => true,
-        Kind::Refused => false,
+        _ => false,
     }
 }
 
@@ -75,15 +61,8 @@ pub fn is_basis(kind: Kind) -> bool
     ensures { λ r. ⌜ r ≡ basisKind kind ⌝ }
 {
     match kind {
-        Kind::Same => false,
-        Kind::Linear => false,
-        Kind::Clockwise => false,
-        Kind::Counter => false,
-        Kind::Akima => false,
         Kind::Basis => true,
-        Kind::Cubic => false,
-        Kind::Other => false,
-        Kind::Refused => false,
+        _ => false,
     }
 }
 
@@ -91,15 +70,8 @@ pub fn is_cubic(kind: Kind) -> bool
     ensures { λ r. ⌜ r ≡ cubicKind kind ⌝ }
 {
     match kind {
-        Kind::Same => false,
-        Kind::Linear => false,
-        Kind::Clockwise => false,
-        Kind::Counter => false,
-        Kind::Akima => false,
-        Kind::Basis => false,
         Kind::Cubic => true,
-        Kind::Other => false,
-        Kind::Refused => false,
+        _ => false,
     }
 }
 
@@ -108,15 +80,8 @@ pub fn is_curve(kind: Kind) -> bool
     ensures { λ r. ⌜ r ≡ curveKind kind ⌝ }
 {
     match kind {
-        Kind::Same => false,
-        Kind::Linear => false,
-        Kind::Clockwise => true,
-        Kind::Counter => true,
-        Kind::Akima => true,
-        Kind::Basis => true,
-        Kind::Cubic => true,
-        Kind::Other => true,
-        Kind::Refused => true,
+        Kind::Same | Kind::Linear => false,
+        _ => true,
     }
 }
 

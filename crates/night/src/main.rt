@@ -4,18 +4,19 @@ use csv_status::ENDED;
 use csv_status::NO_INPUT;
 use csv_status::report;
 use layout::STATE_WORDS;
-use night_answer::CLOSED;
-use night_answer::Ticket;
-use night_answer::UNTOLD;
 use night_args::MOST_TOLERANCES;
 use night_command::Asked;
 use night_command::Command;
 use night_command::MOST_FILES;
 use night_command::command_of;
+use night_course::CLOSED;
+use night_course::Ticket;
+use night_course::UNTOLD;
+use night_flush::Files;
+use night_flush::Tried;
 use night_print::done_of;
 use night_print::print_report;
-use night_reading::Files;
-use night_reading::Tried;
+use night_start::Began;
 use night_start::begun;
 use night_start::complain_plainly;
 use night_start::explain;
@@ -120,7 +121,7 @@ fn tally_for(job: usize, told: usize, tally: &mut [u64; TALLY_WORDS]) -> usize {
     job
 }
 
-// One try, made, told and written down.
+// One try, made, told and written down; a file that could not be opened is passed over.
 fn one_try(
     due: Due,
     marks: &mut [u64; MOST_FILES],
@@ -135,6 +136,9 @@ fn one_try(
 ) -> Place {
     let night = due.night;
     let next = due.next;
+    if !next.ready {
+        return passed_over(next);
+    }
     let before = kept(tally);
     let tried = whole_try(
         files_of(night, next),
@@ -185,23 +189,19 @@ fn tries_in(
         if !next.found {
             return place;
         }
-        if next.ready {
-            told = tally_for(next.job, told, tally);
-            place = one_try(
-                Due { night, place, next },
-                marks,
-                tries,
-                buf,
-                state,
-                store,
-                rows,
-                tally,
-                out,
-                listed,
-            );
-        } else {
-            place = passed_over(next);
-        }
+        told = tally_for(next.job, told, tally);
+        place = one_try(
+            Due { night, place, next },
+            marks,
+            tries,
+            buf,
+            state,
+            store,
+            rows,
+            tally,
+            out,
+            listed,
+        );
         turns -= 1;
     }
     place
@@ -253,6 +253,28 @@ fn status(ok: bool, all: bool) {
     report(NO_INPUT, false);
 }
 
+// What is shown and printed once no try is left, and the status.
+fn ended(
+    command: Command,
+    began: Began,
+    faults: bool,
+    marks: &[u64; MOST_FILES],
+    tries: &[u64; MOST_FILES],
+) {
+    night_steps::show_end(done_of(command, marks, tries), command.files);
+    let told = print_report(began.night.tries, began.from, command, marks, tries);
+    if !told.ok {
+        complain_plainly(
+            b"night: standard output could not be written, or tries.csv not be read\n",
+        );
+    }
+    if faults {
+        status(false, false);
+        return;
+    }
+    status(told.ok, told.all);
+}
+
 // The night that was asked for.
 fn whole_night(command: Command) {
     let mut marks = [0u64; MOST_FILES];
@@ -269,20 +291,13 @@ fn whole_night(command: Command) {
         status(false, false);
         return;
     }
-    let night = began.night;
-    let place = all_tries(night, &mut marks, &mut tries, rounds_of(command.files));
-    night_steps::show_end(done_of(command, &marks, &tries), command.files);
-    let told = print_report(night.tries, began.from, command, &marks, &tries);
-    if !told.ok {
-        complain_plainly(
-            b"night: standard output could not be written, or tries.csv not be read\n",
-        );
-    }
-    if place.faults {
-        status(false, false);
-        return;
-    }
-    status(told.ok, told.all);
+    let place = all_tries(
+        began.night,
+        &mut marks,
+        &mut tries,
+        rounds_of(command.files),
+    );
+    ended(command, began, place.faults, &marks, &tries);
 }
 
 fn main() {

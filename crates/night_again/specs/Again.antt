@@ -10,7 +10,8 @@ use Rattle.csv_line.specs.declared.End.the-variants as End
 use Rattle.csv_line.specs.LineText.{endOf, parted, joined}
 use Rattle.csv_forms.specs.Clean.{clean}
 use Rattle.night_figures.specs.Figures.{mostFigure}
-use Rattle.night_table.specs.Table.{columns, cFile, cTolerance, cRefusal, cLine, fields, tryLine}
+use Rattle.night_columns.specs.Columns.{columns, cFile, cTolerance, cRefusal, cLine}
+use Rattle.night_table.specs.Table.{fields, tryLine}
 use Rattle.night_table.specs.Back.{isTry, valuesOf}
 
 -- figures as 11.10 counts them, texts with no comma, quote, CR or LF, and no line of a refusal where there is none

@@ -30,11 +30,13 @@ use Rattle.csv_forms.specs.RowForms.{cell-clean}
 use Rattle.csv_forms.specs.RoundTrip.{figures-digits}
 use Rattle.tally_words.specs.Words.{wSlots, jobWords}
 use Rattle.night_figures.specs.Figures.{mostFigure, capped, since, figureOf}
-use Rattle.night_args.specs.Names.{quote, byteStands, mayStand}
-use Rattle.night_args.specs.Tolerances.{aboveZero, isTolerance}
-use Rattle.night_table.specs.declared.Whole.the-variants as Whole
-use Rattle.night_table.specs.Table.{columns, cFile, cTolerance, cRefusal, cLine, isText, mayLack, fieldText, fields, tryLine}
-use Rattle.night_table.specs.Back.{wholeOf, emptyAt, columnOf, isWhole, valueOf, readAt, isTry, valuesOf}
+use Rattle.night_stands.specs.Standing.{quote, byteStands, mayStand}
+use Rattle.night_tolerance.specs.Tolerance.{aboveZero, isTolerance}
+use Rattle.night_columns.specs.declared.Whole.the-variants as Whole
+use Rattle.night_columns.specs.Columns.{columns, cFile, cTolerance, cRefusal, cLine, isText, mayLack}
+use Rattle.night_columns.specs.Read.{wholeOf, emptyAt, columnOf, isWhole, valueOf}
+use Rattle.night_table.specs.Table.{fieldText, fields, tryLine}
+use Rattle.night_table.specs.Back.{readAt, isTry, valuesOf}
 use Rattle.night_again.specs.Again.{Writable, backOf, lineText, ReadsBack}
 
 -- ---- a number reads back

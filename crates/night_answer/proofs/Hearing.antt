@@ -10,44 +10,29 @@ use borrow.Author.Tests.{eq-eqb, ne-eqb, lt-ltb, le-ltb}
 use Rattle.floats.specs.Truth.{cond-t, cond-f}
 use Rattle.call_reply.specs.declared.Reply.{Reply}
 use Rattle.call_reply.specs.Replies.{plain}
-use Rattle.tally_call.specs.Calls.{kClose, tooFewPlaces}
+use Rattle.tally_call.specs.Calls.{kClose}
 use Rattle.csv_figures.specs.declared.Placed.{Placed}
 use Rattle.csv_figures.specs.declared.Placed.the-variants as Placed
 use Rattle.csv_write.specs.Writer.{rowsText, rowsWritable, Tried}
 use Rattle.csv_write.specs.Trying.{tried-good, tried-bad}
-use Rattle.csv_out.specs.Say.{badText, lastLine}
+use Rattle.csv_count.specs.Count.{badText, lastLine}
 use Rattle.csv_out.specs.Said.{Adds}
 use Rattle.csv_out.specs.SayLaws.{adds-none, adds-text, adds-wrote, adds-kept}
 use Rattle.csv_answer.specs.AnswerLaws.{rows-short}
 use Rattle.night_listed.specs.declared.Lines.{Lines}
 use Rattle.night_listed.specs.Listed.{listedText}
-use Rattle.night_listed.specs.Lines.{motionWords, ListFits, ListIs}
-use Rattle.night_answer.specs.declared.Ticket.{Ticket}
-use Rattle.night_answer.specs.declared.Course.{Course}
-use Rattle.night_answer.specs.declared.TryRun.{TryRun}
+use Rattle.night_naming.specs.Pieces.{motionWords}
+use Rattle.night_listed.specs.Lines.{ListFits, ListIs}
+use Rattle.night_course.specs.declared.Ticket.{Ticket}
+use Rattle.night_course.specs.declared.Course.{Course}
+use Rattle.night_course.specs.declared.TryRun.{TryRun}
+use Rattle.night_course.specs.Course.{closed, withCourse}
+use Rattle.night_refusal.specs.Refusal.{turnedDown}
 use Rattle.night_answer.specs.declared.Heard.{Heard}
-use Rattle.night_answer.specs.Answer.{refused, left, closed, untold, Answered}
-use Rattle.night_answer.specs.Answer.{heard, standsThen, turnedDown, counted, standsOn, doneBy, done, answered, ifTold}
-use Rattle.night_answer.specs.Answers.{withCourse, turnedAway, Sound, AnswerFits, Answers}
+use Rattle.night_answer.specs.Answer.{Answered, heard, counted, standsOn, doneBy, done, answered}
+use Rattle.night_answer.specs.Answers.{turnedAway, Sound, AnswerFits, Answers}
 
--- ---- how a try stands
-module _ (kind code : ℕ) where
-  pub left-short : code ≡ tooFewPlaces → left ≡ standsThen kind code
-  unfolding standsThen
-  left-short e = rw (eq-eqb code tooFewPlaces e)
-
-  pub open-text : (code ≡ tooFewPlaces → ⊥) → code ≡ badText → refused ≡ standsThen kind code
-  unfolding standsThen
-  open-text d b = rw (ne-eqb code tooFewPlaces d, eq-eqb code badText b)
-
-  pub left-close : (code ≡ tooFewPlaces → ⊥) → (code ≡ badText → ⊥) → kind ≡ kClose → left ≡ standsThen kind code
-  unfolding standsThen
-  left-close d b e = rw (ne-eqb code tooFewPlaces d, ne-eqb code badText b, eq-eqb kind kClose e)
-
-  pub stays-refused : (code ≡ tooFewPlaces → ⊥) → (code ≡ badText → ⊥) → (kind ≡ kClose → ⊥) → refused ≡ standsThen kind code
-  unfolding standsThen
-  stays-refused d b e = rw (ne-eqb code tooFewPlaces d, ne-eqb code badText b, ne-eqb kind kClose e)
-
+-- ---- a call that is done
 pub ends-closed : (kind stands : ℕ) → kind ≡ kClose → closed ≡ standsOn kind stands
 unfolding standsOn
 ends-closed kind stands e = rw (eq-eqb kind kClose e)
@@ -73,37 +58,24 @@ counted-low n = go (ltb n lastLine) refl
     go true e = omega (arith, borrow.Author.Tests.ltb-true n lastLine e)
     go false e = omega arith
 
--- ---- the numbers of a try
-abbrev course : ℕ → ℕ → ℕ → ℕ → ℕ → ℕ → ℕ → Course
-course physical source motion curved refusal line stands =
-    record { physical = physical; source = source; motion = motion; curved = curved; refusal = refusal; line = line; stands = stands }
-
-module _ (c : Course) {s : ℕ} (kind code line : ℕ) (h : s ≡ standsThen kind code) where
-  pub turned-first : c .refusal ≡ 0 → course (c .physical) (c .source) (c .motion) (c .curved) code line s ≡ turnedDown c kind code line
-  unfolding turnedDown
-  turned-first e = rw (eq-eqb (c .refusal) 0 e) (ap (course (c .physical) (c .source) (c .motion) (c .curved) code line) h)
-
-  pub turned-more : (c .refusal ≡ 0 → ⊥)
-      → course (c .physical) (c .source) (c .motion) (c .curved) (c .refusal) (c .line) s ≡ turnedDown c kind code line
-  unfolding turnedDown
-  turned-more e = rw (ne-eqb (c .refusal) 0 e) (ap (course (c .physical) (c .source) (c .motion) (c .curved) (c .refusal) (c .line)) h)
+abbrev went : Course → ℕ → ℕ → ℕ → Course
+went c motion curved stands =
+    record {
+      physical = c .physical;
+      source = c .source;
+      motion = motion;
+      curved = curved;
+      refusal = c .refusal;
+      line = c .line;
+      stands = stands;
+    }
 
 pub done-is : {n s : ℕ} (c : Course) (kind motion named : ℕ) → n ≡ counted (c .curved + named) → s ≡ standsOn kind (c .stands)
-    → course (c .physical) (c .source) motion n (c .refusal) (c .line) s ≡ doneBy c kind motion named
+    → went c motion n s ≡ doneBy c kind motion named
 unfolding doneBy
-done-is c kind motion named e f = ap₂ (λ (a b : ℕ). course (c .physical) (c .source) motion a (c .refusal) (c .line) b) e f
+done-is c kind motion named e f = ap₂ (went c motion) e f
 
-pub told-kept : (code : ℕ) (run : TryRun) → code ≡ 0 → run ≡ withCourse run (ifTold code (run .course))
-unfolding ifTold
-told-kept code run e = rw (eq-eqb code 0 e)
-
-pub told-not : {r : TryRun} (code : ℕ) (run : TryRun) → (code ≡ 0 → ⊥)
-    → r ≡ withCourse run (course (run .course .physical) (run .course .source) (run .course .motion) (run .course .curved) (run .course .refusal)
-    (run .course .line) untold)
-    → r ≡ withCourse run (ifTold code (run .course))
-unfolding ifTold
-told-not code run e q = q ∙ rw (ne-eqb code 0 e)
-
+-- ---- a call that was refused
 abbrev heardAs : Reply → TryRun → Heard
 heardAs p r = record { run = r; reply = p }
 

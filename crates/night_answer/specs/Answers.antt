@@ -5,18 +5,15 @@ use mathlib.Core.List.{List}
 use Rattle.layout.specs.Layout.{rowWords}
 use Rattle.call_reply.specs.declared.Reply.{Reply}
 use Rattle.csv_write.specs.Writer.{rowRoom}
+use Rattle.csv_count.specs.Count.{lastLine}
 use Rattle.csv_out.specs.Said.{Adds}
-use Rattle.csv_out.specs.Say.{lastLine}
-use Rattle.night_listed.specs.Listed.{listedRoom}
-use Rattle.night_listed.specs.Lines.{motionWords}
-use Rattle.night_answer.specs.declared.Course.{Course}
+use Rattle.night_naming.specs.Naming.{listedRoom}
+use Rattle.night_naming.specs.Pieces.{motionWords}
+use Rattle.night_course.specs.declared.TryRun.{TryRun}
+use Rattle.night_course.specs.Course.{withCourse}
+use Rattle.night_refusal.specs.Refusal.{turnedDown}
 use Rattle.night_answer.specs.declared.Heard.{Heard}
-use Rattle.night_answer.specs.declared.TryRun.{TryRun}
-use Rattle.night_answer.specs.Answer.{heard, turnedDown, answered}
-
--- the try with other numbers
-abbrev pub withCourse : TryRun → Course → TryRun
-withCourse run c = record { ticket = run .ticket; course = c; out = run .out; listed = run .listed }
+use Rattle.night_answer.specs.Answer.{heard, answered}
 
 -- a refused call, at the source line of the last block
 abbrev pub turnedAway : TryRun → ℕ → Reply → Heard

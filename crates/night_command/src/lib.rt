@@ -3,9 +3,9 @@ use csv_digits::wide;
 use night_args::count_of;
 use night_args::end_from;
 use night_args::field_from;
-use night_args::may_stand;
-use night_args::name_of;
 use night_names::is_ours;
+use night_path::name_of;
+use night_stands::may_stand;
 ghost use Prim.Native.Nat.{_+_, _≤_, _<_};
 
 // At most so many files.

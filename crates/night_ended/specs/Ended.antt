@@ -16,15 +16,17 @@ use Rattle.call_reply.specs.declared.Reply.{Reply}
 use Rattle.call_reply.specs.Replies.{After, doneReply, tooFew, untouched}
 use Rattle.call_answer.specs.Close.{closeRows, closeState, closeSpec}
 use Rattle.tally_call.specs.Calls.{kClose, tooFewPlaces}
-use Rattle.csv_out.specs.Say.{badText}
+use Rattle.csv_count.specs.Count.{badText}
 use Rattle.csv_write.specs.Writer.{rowsWritable}
 use Rattle.demand_state.specs.Accepted.{saved}
 use Rattle.demand_state.specs.Refusals.{saved-number}
 use Rattle.demand_close.specs.Again.{close-saved, again-rows}
-use Rattle.night_answer.specs.declared.Ticket.{Ticket}
-use Rattle.night_answer.specs.declared.Course.{Course}
-use Rattle.night_answer.specs.Answer.{heard, answered, ifTold, doneBy, standsOn, turnedDown, standsThen}
-use Rattle.night_spec.specs.Try.{Stand, called, onClose, isOpen, closes, shuts, ends, nightEnd}
+use Rattle.night_course.specs.declared.Ticket.{Ticket}
+use Rattle.night_course.specs.declared.Course.{Course}
+use Rattle.night_course.specs.Course.{isOpen, ifTold}
+use Rattle.night_refusal.specs.Refusal.{turnedDown, standsThen}
+use Rattle.night_answer.specs.Answer.{heard, answered, doneBy, standsOn}
+use Rattle.night_spec.specs.Try.{Stand, called, onClose, closes, shuts, ends, nightEnd}
 
 -- ---- a close that leaves a try open was heard as refused by 10
 open-heard : (t : Ticket) (c : Course) (q : Reply) (rows : List ℕ) (k : ℕ) → isOpen (ifTold k (answered t c kClose q rows .course) .stands) ≡ true

@@ -1,11 +1,10 @@
--- DEFINITIONS. The figures of a try, of its job's tally before and behind it: rules 11.10, 11.11. Assumes nothing.
+-- DEFINITIONS. The figures of a try, of its job's tally before and behind it: rule 11.10. Assumes nothing.
 use Prim.Native.Nat.{ℕ, _+_, _-_}
-use mathlib.Core.Bool.{Bool, false, cond}
+use mathlib.Core.Bool.{cond}
 use mathlib.Core.List.{List}
 use lib.Dec.{ltb}
 use lib.ListN.{getD}
-use Rattle.row_cells.specs.Bits.{has}
-use Rattle.tally_words.specs.Words.{wSlots, wTry, jobWords, bFinal}
+use Rattle.tally_words.specs.Words.{wSlots, jobWords}
 
 -- figures are counted up to this one, the last of ten digits
 abbrev pub mostFigure : ℕ
@@ -20,7 +19,3 @@ since before after = cond (ltb after before) 0 (after - before)
 -- 11.10: what the try added to word k of its job's slot, the first of a tally that has one job
 unfoldable pub figureOf : List ℕ → List ℕ → ℕ → ℕ
 figureOf before after k = cond (ltb k jobWords) (capped (since (getD before (wSlots + k) 0) (getD after (wSlots + k) 0))) 0
-
--- 11.11: a try passed where it was closed and, by its tally, the last try closed passed
-unfoldable pub passedOf : Bool → List ℕ → Bool
-passedOf closed after = cond closed (has (getD after (wSlots + wTry) 0) bFinal) false

@@ -4,7 +4,7 @@ use csv_figures::put_whole;
 use csv_line::put_bytes;
 use libc::SEEK_END;
 use libc::SEEK_SET;
-use night_args::name_of;
+use night_path::name_of;
 ghost use Prim.Native.Nat.{_≤_};
 ghost use lib.ListN.{length};
 ghost use Rattle.io.specs.Counts.{Counts};

@@ -1,38 +1,20 @@
--- LAWS. What is kept of a job's tries comes back; every job is in one lot, so that the lots add up to all jobs. Assumes nothing.
-use Prim.Native.Nat.{ℕ, zero, suc, _+_, _*_, _/_, _%_, _<_}
+-- LAWS. Every job is in one lot, so that the lots add up to all jobs. Assumes nothing.
+use Prim.Native.Nat.{ℕ, zero, suc, _+_, _<_}
 use mathlib.Core.Path.{_≡_, refl, sym, _∙_, ap, ap₂}
 use mathlib.Core.Bool.{Bool, true, false, cond, false≢true}
 use mathlib.Core.List.{List}
 use native.Mathlib.Omega.{arith}
 use lib.Dec.{eqb}
 use lib.ListN.{getD}
-use borrow.Author.Tests.{ne-eqb}
-use Rattle.floats.specs.Truth.{by-bit, or-f, or-t}
+use Rattle.floats.specs.Truth.{by-bit, or-t}
 use Rattle.row_cells.specs.Bits.{has}
 use Rattle.row_cells.specs.Masks.{with-other}
 use Rattle.tally_words.specs.Words.{bit, countIf, bClosed, bFirst, bFinal}
-use Rattle.night_marks.specs.Marks.{markNumber, markAfter, bLeft, isOver, countWith}
-use Rattle.night_jobs.specs.Jobs.{sums, counts, triedWord, triesOf, sameFile, atFirst, whenCoarser, neverPassed, notClosed, notTried}
-use Rattle.night_jobs.specs.Jobs.{lotOf, countLot, Settled}
-
--- ---- the word of a job's tries
-low : (x t : ℕ) → t < counts → (x * counts + t) % counts ≡ t
-low x t h = omega arith
-
-high : (x t : ℕ) → t < counts → (x * counts + t) / counts ≡ x
-high x t h = omega arith
-
-pub tries-kept : (sum tries : ℕ) → tries < counts → triesOf (triedWord sum tries) ≡ tries
-unfolding triedWord triesOf
-tries-kept sum tries h = omega arith
-
-pub file-kept : (sum tries other : ℕ) → sum < sums → 0 < tries → tries < counts → sameFile (triedWord sum tries) other ≡ eqb sum other
-unfolding triedWord sameFile
-file-kept sum tries other s z h =
-    let m : sum % sums ≡ sum = omega arith in
-    let k : tries % counts ≡ tries = omega arith in
-    rw (m, k) (or-f _ (ne-eqb ((sum * counts + tries) % counts) 0 (λ e. absurd (omega (arith, low sum tries h, e))))
-    ∙ ap (λ (v : ℕ). eqb v other) (high sum tries h))
+use Rattle.night_marks.specs.Marks.{markNumber, markAfter, bLeft, isOver}
+use Rattle.night_counts.specs.Counts.{countWith}
+use Rattle.night_tried.specs.Tried.{triesOf}
+use Rattle.night_lots.specs.Lot.{atFirst, whenCoarser, neverPassed, notClosed, notTried, lotOf}
+use Rattle.night_jobs.specs.Jobs.{countLot, Settled}
 
 -- ---- one job, one lot
 abbrev lots : ℕ → ℕ

@@ -6,10 +6,12 @@ use mathlib.Core.List.{List}
 use lib.Dec.{eqb}
 use Rattle.call_reply.specs.declared.Reply.{Reply}
 use Rattle.tally_call.specs.Calls.{kClose, tooFewPlaces, callOf, closes}
-use Rattle.csv_out.specs.Say.{badText}
-use Rattle.night_answer.specs.declared.Ticket.{Ticket}
-use Rattle.night_answer.specs.declared.Course.{Course}
-use Rattle.night_answer.specs.Answer.{refused, left, closed, Answered, standsThen, turnedDown, standsOn, doneBy, answered, ifTold}
+use Rattle.csv_count.specs.Count.{badText}
+use Rattle.night_course.specs.declared.Ticket.{Ticket}
+use Rattle.night_course.specs.declared.Course.{Course}
+use Rattle.night_course.specs.Course.{refused, left, closed, ifTold}
+use Rattle.night_refusal.specs.Refusal.{standsThen, turnedDown}
+use Rattle.night_answer.specs.Answer.{Answered, standsOn, doneBy, answered}
 
 -- a refusal leaves no try closed
 pub refused-open : (c : Course) (kind code line : ℕ) → eqb (turnedDown c kind code line .stands) closed ≡ false

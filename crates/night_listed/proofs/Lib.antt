@@ -1,2 +1,1 @@
-mod Listing
 mod Walking

@@ -7,9 +7,9 @@ use native.Mathlib.Omega.{arith}
 use native.Mathlib.Numerals.{add-one}
 use native.Mathlib.Nat.{mul-suc}
 use lib.Dec.{eqb, ltb}
-use lib.ListN.{length}
+use lib.ListN.{length, take, drop}
 use borrow.Author.Tests.{ltb-true}
-use Rattle.layout.specs.Layout.{lineNumbers}
+use Rattle.layout.specs.Layout.{lineNumbers, rowWords}
 use Rattle.floats.specs.Lists.{upto, flatten, all}
 use Rattle.floats.specs.Truth.{and-left, and-right, all-at}
 use Rattle.row_cells.specs.Codes.{planeOk}
@@ -22,11 +22,20 @@ use Rattle.csv_figures.specs.OutLaws.{wrote-then}
 use Rattle.csv_line.specs.LineText.{columnCount}
 use Rattle.csv_write.specs.Writer.{cellShown, headOk, writable, rowsWritable}
 use Rattle.csv_write.specs.Texts.{flatten-more}
+use Rattle.night_named.specs.Named.{further, warningAt}
+use Rattle.night_naming.specs.Naming.{listedRoom, listedLine}
+use Rattle.night_naming.specs.Pieces.{motionWords, PutIn}
 use Rattle.night_listed.specs.declared.Walk.{Walk}
-use Rattle.night_listed.specs.Listed.{listedRoom, curvedAt, further, namedAt, warningAt, listedLine, listedAt, listedText, listedCount}
-use Rattle.night_listed.specs.Lines.{motionWords, PutIn, RowFits, namedThen, lineThen, RowIs, ListFits, ListIs}
+use Rattle.night_listed.specs.Listed.{curvedAt, namedAt, listedAt, listedText, listedCount}
+use Rattle.night_listed.specs.Lines.{RowFits, namedThen, lineThen, RowIs, ListFits, ListIs}
 
 -- ---- one row
+pub row-seen : {s : Seen} (motion : ℕ) (rows : List ℕ) (i from to : ℕ) → from ≡ i * rowWords → to ≡ from + rowWords
+    → s ≡ seenOf motion (take (to - from) (drop from rows)) → s ≡ seenOf motion (rowAt rows i)
+row-seen motion rows i from to e f s =
+    let k : to - from ≡ rowWords = omega arith in
+    s ∙ ap (λ (z : ℕ). seenOf motion (take z (drop from rows))) k ∙ ap (λ (z : ℕ). seenOf motion (take rowWords (drop z rows))) e
+
 after-word : (m : ℕ) (row : List ℕ) → m < motionWords → motionOf row < motionWords → motionAfter m row < motionWords
 unfolding motionAfter
 after-word m row h k = go (eqb (motionOf row) 0)

@@ -10,27 +10,12 @@ use Rattle.tally_words.specs.Words.{bit}
 use Rattle.still_curved.specs.Curved.{rowAt, motionAfter, motionBehind, stillCurved}
 use Rattle.csv_write.specs.Writer.{rowsWritable}
 use Rattle.csv_figures.specs.Out.{Wrote}
+use Rattle.night_named.specs.Named.{further}
+use Rattle.night_naming.specs.Naming.{listedRoom, listedLine}
+use Rattle.night_naming.specs.Pieces.{motionWords, PutIn}
 use Rattle.night_listed.specs.declared.Lines.{Lines}
 use Rattle.night_listed.specs.declared.Walk.{Walk}
-use Rattle.night_listed.specs.Listed.{listedRoom, further, listedLine, listedText, listedCount}
-
--- motions below this have a word
-abbrev pub motionWords : ℕ
-motionWords = 16
-
--- room for a number and what ends its field, and for a word and its comma; four of the one and one of the other are a line
-abbrev pub numberRoom : ℕ
-numberRoom = 13
-
-abbrev pub wordRoom : ℕ
-wordRoom = 8
-
--- t is stored from n on, and is at most w bytes
-pub record PutIn (w : ℕ) (t o : List ℕ) (n : ℕ) (o′ : List ℕ) (r : ℕ) : Type 0 where
-  pub wrote : Wrote o n t o′ r
-  pub most : r ≤ n + w
-  pub ahead : n ≤ r
-  pub same : length o′ ≡ length o
+use Rattle.night_listed.specs.Listed.{listedText, listedCount}
 
 -- ---- one row: it is lent, both motions have words, and there is room
 pub record RowFits (rows : List ℕ) (i out : ℕ) (was : Walk) : Type 0 where

@@ -1,11 +1,9 @@
--- DEFINITIONS. What a night knows of a job by the lines of its tries: rules 11.12, 11.13. Assumes nothing.
+-- DEFINITIONS. What a night knows of a job by the lines of its tries: rule 11.12. Assumes nothing.
 use Prim.Native.Nat.{ℕ, _+_, _*_, _^_}
 use mathlib.Core.Bool.{Bool, true, cond, _||_}
-use mathlib.Core.List.{List}
 use lib.Dec.{leb}
-use lib.ListN.{getD}
 use Rattle.row_cells.specs.Bits.{has, withBit}
-use Rattle.tally_words.specs.Words.{bClosed, bFirst, bFinal, bit, countIf}
+use Rattle.tally_words.specs.Words.{bClosed, bFirst, bFinal, bit}
 
 -- a mark has the bits of a try word (9.22): a try was closed, the first one closed passed, the last one closed passed
 unfoldable pub markNumber : Bool → Bool → Bool → ℕ
@@ -22,7 +20,3 @@ markAfter m closed passed = cond closed (markNumber true (cond (has m bClosed) (
 -- a job is done with where its last try passed or was left, or there is no tolerance more
 unfoldable pub isOver : ℕ → ℕ → ℕ → Bool
 isOver m tries tolerances = has m bFinal || (has m bLeft || leb tolerances tries)
-
--- 11.13: how many of the first n jobs have bit b in their mark
-unfoldable pub countWith : List ℕ → ℕ → ℕ → ℕ
-countWith marks n b = countIf (λ (i : ℕ). has (getD marks i 0) b) n

@@ -1,4 +1,4 @@
-// What a night knows of each job: the bits of its try word, which a try's line alone gives, and how many have each.
+// What a night knows of each job: the bits of its try word, which a try's line alone gives.
 use row_cells::has_bit;
 use row_cells::set_bit;
 use tally_words::B_CLOSED;
@@ -7,11 +7,9 @@ use tally_words::B_FIRST;
 use tally_words::number_of;
 ghost use mathlib.Core.Path.{_≡_};
 ghost use mathlib.Core.Bool.{cond};
-ghost use Prim.Native.Nat.{_<_, _≤_};
-ghost use lib.ListN.{length};
 ghost use Rattle.row_cells.specs.Bits.{has};
 ghost use Rattle.tally_words.specs.Words.{bClosed, bFirst};
-ghost use Rattle.night_marks.specs.Marks.{markNumber, markAfter, isOver, countWith};
+ghost use Rattle.night_marks.specs.Marks.{markNumber, markAfter, isOver};
 
 // The bit behind those of a try word: a try was left without a close.
 const B_LEFT: u64 = 3;
@@ -60,26 +58,4 @@ pub fn is_over(mark: u64, tries: u64, tolerances: u64) -> bool
         return true;
     }
     tries >= tolerances
-}
-
-// Whether a mark has the bit b: no mark has another than the first 64.
-fn mark_has(mark: u64, b: u64) -> bool
-    requires { ⌜ b < 64 ⌝ }
-    ensures { λ r. ⌜ r ≡ has mark b ⌝ }
-{
-    has_bit(mark, b)
-}
-
-// How many of the first n jobs have bit b in their mark.
-pub fn count_with(marks: &[u64], n: usize, b: u64) -> u64
-    requires { ⌜ (n ≤ length (now marks)) × (b < 64) ⌝ }
-    ensures { λ r. ⌜ (r ≡ countWith (now (marks .entry)) n b) × (r ≤ n) ⌝ }
-{
-    let mut r: u64 = 0;
-    let mut i: usize = 0;
-    while i < n {
-        r += number_of(mark_has(marks[i], b));
-        i += 1;
-    }
-    r
 }

@@ -1,50 +1,16 @@
--- Where the digits at a text's end begin, from the end on, and what a name is by its parts. Assumes nothing.
-use Prim.Native.Nat.{ℕ, zero, suc, _-_, _≤_, _<_}
-use mathlib.Core.Path.{_≡_, refl, sym, ap, _∙_}
+-- What a name is by its parts. Assumes nothing.
+use Prim.Native.Nat.{ℕ}
+use mathlib.Core.Path.{_≡_, sym, ap, _∙_}
 use mathlib.Core.Bool.{Bool, true, false}
 use mathlib.Core.List.{List}
-use native.Mathlib.Omega.{arith}
-use lib.ListN.{length, take, getD}
-use borrow.Author.Tests.{lt-ltb, le-ltb}
-use Rattle.floats.specs.Truth.{and-t, and-f, or-t, or-f, cond-t, cond-f}
+use Rattle.floats.specs.Truth.{or-t, or-f}
 use Rattle.csv_words.specs.Text.{bytes}
 use Rattle.csv_words.specs.Words.{same}
-use Rattle.csv_fields.specs.Read.{isDigit}
-use Rattle.night_args.specs.declared.Name.{Name}
-use Rattle.night_args.specs.Names.{nameOf}
-use Rattle.night_args.specs.Fields.{fieldIs}
-use Rattle.night_names.specs.Ours.{endsIn, digitsUpto, digitsFrom, endsTry, isOurName, isOurs}
+use Rattle.night_path.specs.declared.Name.{Name}
+use Rattle.night_path.specs.Names.{nameOf, nameText}
+use Rattle.night_ends.specs.Ends.{endsIn, endsTry}
+use Rattle.night_names.specs.Ours.{isOurName, isOurs}
 
-pub digits-end : (t : List ℕ) (i : ℕ) → 0 < i → isDigit (getD t (i - 1) 0) ≡ false → digitsUpto t i ≡ i
-unfolding digitsUpto
-digits-end t zero h e = absurd (omega arith)
-digits-end t (suc i) h e = let z : suc i - 1 ≡ i = omega arith in cond-f _ _ (sym (ap (λ (k : ℕ). isDigit (getD t k 0)) z) ∙ e)
-
-pub digits-on : (t : List ℕ) (i : ℕ) → 0 < i → isDigit (getD t (i - 1) 0) ≡ true → digitsUpto t i ≡ digitsUpto t (i - 1)
-unfolding digitsUpto
-digits-on t zero h e = absurd (omega arith)
-digits-on t (suc i) h e =
-    let z : suc i - 1 ≡ i = omega arith in
-    cond-t _ _ (sym (ap (λ (k : ℕ). isDigit (getD t k 0)) z) ∙ e) ∙ ap (digitsUpto t) (sym z)
-
-pub digits-none : (t : List ℕ) (i : ℕ) → i ≤ 0 → digitsUpto t i ≡ 0
-unfolding digitsUpto
-digits-none t zero h = refl
-digits-none t (suc i) h = absurd (omega arith)
-
--- ---- `.try` and digits
-pub try-none : (t : List ℕ) (k : ℕ) → k ≡ digitsFrom t → k ≡ length t → false ≡ endsTry t
-unfolding endsTry
-try-none t k e n = sym (and-f _ (le-ltb (digitsFrom t) (length t) (omega (arith, e, n))))
-
-pub try-some : (t : List ℕ) (k : ℕ) (r : Bool) → k ≡ digitsFrom t → k ≤ length t → (k ≡ length t → ⊥) → r ≡ endsIn (take k t) (bytes ".try")
-    → r ≡ endsTry t
-unfolding endsTry
-try-some t k r e l n h =
-    let below : k < length t = omega (arith, l, n) in
-    h ∙ ap (λ (i : ℕ). endsIn (take i t) (bytes ".try")) e ∙ sym (and-t _ (lt-ltb (digitsFrom t) (length t) (omega (arith, e, below))))
-
--- ---- a name by its parts
 pub is-tries : (t : List ℕ) → same t (bytes "tries") ≡ true → true ≡ isOurName t
 unfolding isOurName
 is-tries t h = sym (or-t _ h)
@@ -61,7 +27,7 @@ pub is-part : (t : List ℕ) → endsIn t (bytes ".part") ≡ true → true ≡ 
 unfolding isOurs
 is-part t h = sym (or-t _ h)
 
-pub is-named : (t : List ℕ) (n : Name) (r : Bool) → endsIn t (bytes ".part") ≡ false → n ≡ nameOf t → r ≡ isOurName (fieldIs t (n .from) (n .upto))
+pub is-named : (t : List ℕ) (n : Name) (r : Bool) → endsIn t (bytes ".part") ≡ false → n ≡ nameOf t → r ≡ isOurName (nameText t n)
     → r ≡ isOurs t
 unfolding isOurs
-is-named t n r p e h = h ∙ ap (λ (x : Name). isOurName (fieldIs t (x .from) (x .upto))) e ∙ sym (or-f _ p)
+is-named t n r p e h = h ∙ ap (λ (x : Name). isOurName (nameText t x)) e ∙ sym (or-f _ p)

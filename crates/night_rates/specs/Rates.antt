@@ -14,7 +14,8 @@ use Rattle.tally_words.specs.Words.{bClosed, bFirst, bFinal, bFailing, countIf}
 use Rattle.tally_call.specs.declared.Call.{Call}
 use Rattle.tally_call.specs.Calls.{fails, closes, tryNumber, tryAfter}
 use Rattle.tally_laws.specs.JobLaws.{bits-of}
-use Rattle.night_marks.specs.Marks.{markNumber, bLeft, markAfter, countWith}
+use Rattle.night_marks.specs.Marks.{markNumber, bLeft, markAfter}
+use Rattle.night_counts.specs.Counts.{countWith}
 use Rattle.night_rates.specs.Tried.{stayOpen, wordBehind, Agrees, AgreeUpto}
 
 -- ---- one call that does not close

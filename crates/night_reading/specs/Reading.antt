@@ -6,13 +6,9 @@ use Rattle.text_lines.specs.declared.Found.the-variants as Found
 use Rattle.text_lines.specs.declared.Turn.{Turn}
 use Rattle.text_cut.specs.Cut.{between}
 use Rattle.csv_status.specs.Status.{goesOn, ended}
-use Rattle.night_answer.specs.declared.Ticket.{Ticket}
-use Rattle.night_answer.specs.declared.Course.{Course}
-use Rattle.night_reading.specs.declared.Reading.{Reading}
-
--- what may wait in each buffer before a line
-abbrev pub kept : ℕ
-kept = 65536
+use Rattle.night_course.specs.declared.Ticket.{Ticket}
+use Rattle.night_course.specs.declared.Course.{Course}
+use Rattle.night_flush.specs.declared.Reading.{Reading}
 
 -- before the first line
 abbrev pub firstReading : Ticket → Course → Reading

@@ -1,13 +1,13 @@
 // The lines that a night prints at its end, as bytes.
 use csv_figures::put_whole;
 use csv_line::put_bytes;
-use night_table::C_LINE;
-use night_table::C_REFUSAL;
-use night_table::C_WARNINGS;
+use night_columns::C_LINE;
+use night_columns::C_REFUSAL;
+use night_columns::C_WARNINGS;
 ghost use mathlib.Core.Path.{_≡_};
 ghost use Prim.Native.Nat.{_+_, _≤_, _<_};
 ghost use lib.ListN.{length};
-ghost use Rattle.night_table.specs.Table.{columns};
+ghost use Rattle.night_columns.specs.Columns.{columns};
 
 // The refusal and the warning that depend on the tolerance, and the warnings.
 const TOO_FEW_PLACES: u64 = 7;

@@ -1,6 +1,6 @@
 -- DEFINITIONS. A try of a night, from the bytes of its file to what it leaves: rules 11.1 to 11.3. Assumes nothing.
 use Prim.Native.Nat.{ℕ, zero, suc}
-use mathlib.Core.Bool.{Bool, cond, _&&_, _||_, not}
+use mathlib.Core.Bool.{cond, _&&_, _||_, not}
 use mathlib.Core.List.{List, [], _∷_, _++_}
 use mathlib.Core.Option.{Option, none, some}
 use lib.Dec.{eqb}
@@ -14,15 +14,19 @@ use Rattle.tally_call.specs.Calls.{kPush, kClose}
 use Rattle.text_cut.specs.Cut.{lf, linesFrom, restFrom}
 use Rattle.csv_line.specs.declared.End.{End}
 use Rattle.csv_line.specs.declared.End.the-variants as End
-use Rattle.csv_line.specs.LineText.{crlf, header, headerOut, endOf}
+use Rattle.csv_line.specs.LineText.{crlf, endOf}
+use Rattle.csv_header.specs.Header.{header, headerOut}
 use Rattle.csv_words.specs.Words.{same}
 use Rattle.night_block.specs.Block.{readBlock}
 use Rattle.csv_start.specs.Given.{axes}
-use Rattle.csv_out.specs.Say.{badText}
-use Rattle.night_answer.specs.declared.Ticket.{Ticket}
-use Rattle.night_answer.specs.declared.Course.{Course}
-use Rattle.night_answer.specs.Answer.{goes, refused, heard, turnedDown, answered, ifTold, atSource}
-use Rattle.night_told.specs.Telling.{kStart, toldBy, firstCourse, nextCourse}
+use Rattle.csv_count.specs.Count.{badText}
+use Rattle.night_course.specs.declared.Ticket.{Ticket}
+use Rattle.night_course.specs.declared.Course.{Course}
+use Rattle.night_course.specs.Course.{goes, isOpen, ifTold, atSource, nextCourse}
+use Rattle.night_refusal.specs.Refusal.{turnedDown}
+use Rattle.night_answer.specs.Answer.{heard, answered}
+use Rattle.night_note.specs.Note.{toldBy}
+use Rattle.night_begin.specs.Begin.{kStart, firstCourse}
 
 -- how many rows a call is lent room for
 abbrev pub nightRows : ℕ
@@ -119,10 +123,7 @@ nightLines t s (l ∷ ls) =
 unfoldable pub ends : Ticket → Stand → ℕ → Step
 ends t s behind = cond (eqb (s .course .stands) goes && (not (eqb behind 0) || eqb (s .course .physical) 1)) (unread t s) (still s)
 
--- a try that goes on, or met a refusal, is open, and is closed
-abbrev pub isOpen : ℕ → Bool
-isOpen stands = eqb stands goes || eqb stands refused
-
+-- a try that is open is closed
 unfoldable pub closes : Ticket → Stand → Step
 closes t s = cond (isOpen (s .course .stands)) (onClose t s) (still s)
 

@@ -13,10 +13,11 @@ use Rattle.call_reply.specs.Replies.{plain}
 use Rattle.tally_call.specs.Calls.{kPush}
 use Rattle.text_cut.specs.Cut.{lf, cut, linesFrom, restFrom}
 use Rattle.text_cut.specs.CutLaws.{lines-pieces, rest-pieces, first-line, first-rest, no-line}
-use Rattle.csv_out.specs.Say.{badText}
-use Rattle.night_answer.specs.declared.Ticket.{Ticket}
-use Rattle.night_answer.specs.Answer.{goes, turnedDown, standsThen, ifTold}
-use Rattle.night_told.specs.Telling.{toldBy}
+use Rattle.csv_count.specs.Count.{badText}
+use Rattle.night_course.specs.declared.Ticket.{Ticket}
+use Rattle.night_course.specs.Course.{goes, ifTold}
+use Rattle.night_refusal.specs.Refusal.{turnedDown, standsThen}
+use Rattle.night_note.specs.Note.{toldBy}
 use Rattle.night_spec.specs.Try.{Stand, Step, still, andThen, unread, nightLine, nightLines, ends, shuts, nightEnd, lineRoom, taken, nightRest}
 
 -- ---- one step after another

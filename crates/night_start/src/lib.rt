@@ -1,5 +1,7 @@
 // The start of a night: whether its stack is large enough, its two tables, what stands in them already, and why it cannot start.
 use libc::STDERR_FILENO;
+use night_columns::Whole;
+use night_columns::read_whole;
 use night_command::BAD_DIR;
 use night_command::BAD_NAME;
 use night_command::BAD_TOLERANCES;
@@ -17,14 +19,12 @@ use night_files::is_torn;
 use night_files::make_dir;
 use night_files::open_in;
 use night_files::within;
+use night_header::put_curved_header;
+use night_header::put_tries_header;
 use night_lines::cut_curved;
 use night_lines::take_lines;
 use night_steps::Night;
 use night_steps::complain;
-use night_table::Whole;
-use night_table::put_curved_header;
-use night_table::put_tries_header;
-use night_table::read_whole;
 ghost use Prim.Native.Nat.{_≤_};
 ghost use lib.ListN.{length};
 

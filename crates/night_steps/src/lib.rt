@@ -1,9 +1,14 @@
 // The steps of a night around its tries: the next try, and what a try leaves.
 use libc::SEEK_CUR;
 use libc::STDERR_FILENO;
-use night_args::bits_of;
 use night_args::end_from;
 use night_args::field_from;
+use night_columns::C_CLOSED;
+use night_columns::C_CURVED;
+use night_columns::C_JOB;
+use night_columns::C_PASSED;
+use night_columns::C_TRY;
+use night_columns::COLUMNS;
 use night_command::Command;
 use night_command::LIST_ROOM;
 use night_command::MOST_FILES;
@@ -16,23 +21,18 @@ use night_files::put_rows_name;
 use night_files::remove_in;
 use night_files::rename_in;
 use night_files::within;
-use night_jobs::same_file;
-use night_jobs::tried_word;
-use night_jobs::tries_of;
 use night_lines::TRY_ROOM;
 use night_marks::is_over;
 use night_marks::mark_after;
 use night_report::put_done;
-use night_table::C_CLOSED;
-use night_table::C_CURVED;
-use night_table::C_JOB;
-use night_table::C_PASSED;
-use night_table::C_TRY;
-use night_table::COLUMNS;
 use night_table::put_line;
+use night_tolerance::bits_of;
+use night_tried::same_file;
+use night_tried::tried_word;
+use night_tried::tries_of;
 ghost use mathlib.Core.Path.{_≡_};
 ghost use lib.ListN.{length};
-ghost use Rattle.night_table.specs.Table.{columns};
+ghost use Rattle.night_columns.specs.Columns.{columns};
 
 // A line on standard error about the FILE that is argument i.
 pub fn complain(i: usize, what: &[u8]) {
@@ -293,19 +293,27 @@ fn numbers_of(
 ) -> [u64; COLUMNS] {
     let mut numbers = [0u64; COLUMNS];
     numbers[C_JOB] = std::num::wrapping_add_u64(next.job as u64, 1);
-    numbers[night_table::C_CHECKSUM] = facts.checksum;
+    numbers[night_columns::C_CHECKSUM] = facts.checksum;
     numbers[C_TRY] = next.number;
     numbers[C_CLOSED] = tally_words::number_of(facts.closed);
-    numbers[night_table::C_BLOCKS] = night_figures::figure_of(before, after, tally_words::W_BLOCKS);
-    numbers[night_table::C_ROWS] = night_figures::figure_of(before, after, tally_words::W_ROWS);
-    numbers[night_table::C_MARKED] = night_figures::figure_of(before, after, tally_words::W_MARKED);
-    numbers[night_table::C_REFUSAL] = facts.refusal;
-    numbers[night_table::C_LINE] = facts.line;
+    numbers[night_columns::C_BLOCKS] = night_figures::figure_of(
+        before,
+        after,
+        tally_words::W_BLOCKS,
+    );
+    numbers[night_columns::C_ROWS] = night_figures::figure_of(before, after, tally_words::W_ROWS);
+    numbers[night_columns::C_MARKED] = night_figures::figure_of(
+        before,
+        after,
+        tally_words::W_MARKED,
+    );
+    numbers[night_columns::C_REFUSAL] = facts.refusal;
+    numbers[night_columns::C_LINE] = facts.line;
     numbers[C_CURVED] = facts.curved;
     numbers[C_PASSED] = tally_words::number_of(passed);
     let mut w: usize = 0;
     while w < tally_words::MOST_WARNING {
-        numbers[night_table::C_WARNINGS + w] = night_figures::figure_of(
+        numbers[night_columns::C_WARNINGS + w] = night_figures::figure_of(
             before,
             after,
             tally_words::W_MARKED + 1 + w,
@@ -404,7 +412,7 @@ pub fn settle(
         say_failed(std::num::wrapping_add_usize(command.first, job), failed);
         return skipped(night, next);
     }
-    let passed = night_figures::has_passed(facts.closed, after);
+    let passed = night_passed::has_passed(facts.closed, after);
     let numbers = numbers_of(next, facts, passed, before, after);
     if !kept(night, next, &numbers) {
         skipped(night, next);

@@ -5,57 +5,22 @@ use mathlib.Core.Bool.{Bool, true, false, _&&_, false≢true}
 use mathlib.Core.List.{List}
 use native.Mathlib.Omega.{arith}
 use lib.Dec.{eqb}
-use lib.ListN.{length, take, drop, set}
+use lib.ListN.{length, drop, set}
 use borrow.Author.Tests.{eq-eqb, ne-eqb}
 use Rattle.floats.specs.Lists.{upto, all}
 use Rattle.floats.specs.Fill.{Filling, filling-none, filling-more, filled-all}
 use Rattle.floats.specs.Truth.{and-f, and-i, all-more, all-fails}
-use Rattle.csv_fields.specs.Read.{run, num}
 use Rattle.csv_line.specs.LineText.{parted}
 use Rattle.csv_cells.specs.Taking.{reach}
 use Rattle.csv_cells.specs.Parts.{rest-behind, rest-none}
 use Rattle.night_args.specs.Fields.{FieldFrom, fieldIs}
 use Rattle.night_args.specs.FieldLaws.{rest-next, from-none, from-more, field-is}
-use Rattle.night_table.specs.declared.Whole.{Whole}
-use Rattle.night_table.specs.declared.Whole.the-variants as Whole
-use Rattle.night_table.specs.Table.{columns, isText, mayLack}
-use Rattle.night_table.specs.Back.{mostDigits, wholeOf, emptyAt, columnOf, isWhole, valueOf, readAt, isTry, valuesOf}
+use Rattle.night_columns.specs.declared.Whole.{Whole}
+use Rattle.night_columns.specs.declared.Whole.the-variants as Whole
+use Rattle.night_columns.specs.Columns.{columns}
+use Rattle.night_columns.specs.Read.{columnOf, isWhole, valueOf}
+use Rattle.night_table.specs.Back.{readAt, isTry, valuesOf}
 use Rattle.night_table.specs.Lines.{Taken}
-
--- ---- a whole number: k digits were scanned, and they make v
-module _ (t : List ℕ) (k v : ℕ) (e : k ≡ run mostDigits t) (w : v ≡ num 0 (take k t)) where
-  pub whole-none : k ≡ 0 → Whole.Bad ≡ wholeOf t
-  unfolding wholeOf
-  whole-none z = rw (← e, eq-eqb k 0 z)
-
-  pub whole-all : (k ≡ 0 → ⊥) → k ≡ length t → Whole.Is v ≡ wholeOf t
-  unfolding wholeOf
-  whole-all z l = rw (← e, ne-eqb k 0 z, eq-eqb k (length t) l, ← w)
-
-  pub whole-more : (k ≡ 0 → ⊥) → (k ≡ length t → ⊥) → Whole.Bad ≡ wholeOf t
-  unfolding wholeOf
-  whole-more z l = rw (← e, ne-eqb k 0 z, ne-eqb k (length t) l)
-
--- ---- a column
-pub empty-lacks : (k : ℕ) → mayLack k ≡ true → Whole.Is 0 ≡ emptyAt k
-unfolding emptyAt
-empty-lacks k h = rw h
-
-pub empty-bad : (k : ℕ) → mayLack k ≡ false → Whole.Bad ≡ emptyAt k
-unfolding emptyAt
-empty-bad k h = rw h
-
-pub column-text : (t : List ℕ) (k : ℕ) → isText k ≡ true → Whole.Is (length t) ≡ columnOf t k
-unfolding columnOf
-column-text t k h = rw h
-
-pub column-empty : (t : List ℕ) (k : ℕ) (r : Whole) → isText k ≡ false → length t ≡ 0 → r ≡ emptyAt k → r ≡ columnOf t k
-unfolding columnOf
-column-empty t k r h z e = e ∙ sym (rw (h, eq-eqb (length t) 0 z))
-
-pub column-whole : (t : List ℕ) (k : ℕ) (r : Whole) → isText k ≡ false → (length t ≡ 0 → ⊥) → r ≡ wholeOf t → r ≡ columnOf t k
-unfolding columnOf
-column-whole t k r h z e = e ∙ sym (rw (h, ne-eqb (length t) 0 z))
 
 -- ---- a line: the first k columns were read
 abbrev good : List ℕ → ℕ → Bool

@@ -1,36 +1,18 @@
 -- From what the calls and the tally promise to what is told. Assumes nothing.
 use Prim.Native.Nat.{ℕ}
-use mathlib.Core.Path.{_≡_, refl, sym, ap, _∙_, subst}
-use mathlib.Core.List.{List, []}
-use borrow.Author.Tests.{ne-eqb}
-use Rattle.floats.specs.Truth.{cond-f}
+use mathlib.Core.Path.{_≡_, sym, ap, _∙_, subst}
+use mathlib.Core.List.{List}
 use Rattle.call_reply.specs.declared.Reply.{Reply}
-use Rattle.call_reply.specs.Replies.{plain, StateIs}
-use Rattle.call_start.specs.Start.{startSpec}
-use Rattle.tally_call.specs.Calls.{kPush}
-use Rattle.csv_out.specs.Say.{badText, nextLine}
 use Rattle.csv_out.specs.Said.{Adds}
-use Rattle.csv_start.specs.Given.{axes}
-use Rattle.night_answer.specs.declared.Ticket.{Ticket}
-use Rattle.night_answer.specs.declared.Course.{Course}
+use Rattle.night_course.specs.declared.Ticket.{Ticket}
+use Rattle.night_course.specs.declared.TryRun.{TryRun}
+use Rattle.night_course.specs.Course.{withCourse, ifTold, atSource}
+use Rattle.night_note.specs.Note.{toldBy}
+use Rattle.night_note.specs.NoteLaws.{same-told}
+use Rattle.night_note.specs.Notes.{NoteIs}
 use Rattle.night_answer.specs.declared.Heard.{Heard}
-use Rattle.night_answer.specs.declared.TryRun.{TryRun}
-use Rattle.night_answer.specs.Answer.{ifTold, atSource, turnedDown}
-use Rattle.night_answer.specs.Answers.{Sound, AnswerFits, Answers, withCourse}
-use Rattle.night_told.specs.Telling.{kStart, toldBy, fresh, firstCourse, nextCourse}
-use Rattle.night_told.specs.Tellings.{NoteIs, saidBy, CallTold, UnreadTold, StartTold}
-
-pub note-is : {kind : ℕ} {p q : Reply} {rows w w′ : List ℕ} {run r : TryRun} → StateIs (toldBy (run .ticket) w kind p rows) q w′
-    → r ≡ withCourse run (ifTold (q .code) (run .course)) → NoteIs kind p rows w run r w′
-note-is {run = run} s e = record { tally = s .state; is = e ∙ ap (λ (x : Reply). withCourse run (ifTold (x .code) (run .course))) (s .reply) }
-
--- the same numbers are told, and the same course ends or goes on
-same-told : (w : List ℕ) (kind : ℕ) (rows : List ℕ) {t t′ : Ticket} {q q′ : Reply} {c c′ : Course} → t ≡ t′ → q ≡ q′ → c ≡ c′
-    → ifTold (toldBy t w kind q rows .reply .code) c ≡ ifTold (toldBy t′ w kind q′ rows .reply .code) c′
-same-told w kind rows {t} {t′} {q} {q′} {c} {c′} x y z =
-    ap (λ (i : Ticket). ifTold (toldBy i w kind q rows .reply .code) c) x
-    ∙ ap (λ (i : Reply). ifTold (toldBy t′ w kind i rows .reply .code) c) y
-    ∙ ap (λ (i : Course). ifTold (toldBy t′ w kind q′ rows .reply .code) i) z
+use Rattle.night_answer.specs.Answers.{Sound, AnswerFits, Answers}
+use Rattle.night_told.specs.Tellings.{saidBy, CallTold}
 
 sound-told : (x : TryRun) (k : ℕ) → Sound x → Sound (withCourse x (ifTold k (x .course)))
 unfolding ifTold
@@ -63,48 +45,3 @@ pub fits-at : {reply : Reply} {rows out listed : ℕ} {run mid : TryRun} (source
 fits-at {reply} {rows} {out} {listed} {run} {mid} source e f =
     subst (AnswerFits reply rows out listed) (sym e)
     (record { lent = f .lent; outs = f .outs; lists = f .lists; sound = record { word = f .sound .word; most = f .sound .most } })
-
-pub unread-told : {run mid r : TryRun} {c : Course} {p : Reply} {w w′ : List ℕ} → c ≡ turnedDown (run .course) kPush badText (run .course .physical)
-    → mid ≡ withCourse run c → p ≡ plain badText → NoteIs kPush p [] w mid r w′ → UnreadTold run w r w′
-unread-told {run} {mid} {r} {c} {p} {w} {w′} d e q n = go (subst (λ (x : TryRun). NoteIs kPush p [] w x r w′) e n)
-  where
-    go : NoteIs kPush p [] w (withCourse run c) r w′ → UnreadTold run w r w′
-    go m =
-        record {
-          tally = m .tally ∙ ap (λ (x : Reply). toldBy (run .ticket) w kPush x [] .state) q;
-          is = m .is ∙ ap (withCourse run) (same-told w kPush [] {t = run .ticket} refl q d);
-        }
-
-pub start-told : {t : Ticket} {st st′ w w′ : List ℕ} {tolerance : ℕ} {p : Reply} {run r : TryRun} → StateIs (startSpec st tolerance axes) p st′
-    → run .ticket ≡ t → run .course ≡ firstCourse (p .code) → NoteIs kStart p [] w run r w′ → StartTold t st w tolerance st′ w′ (r .course)
-start-told {t} {st} {st′} {w} {w′} {tolerance} {p} {run} {r} s a b n =
-    record {
-      state = s .state;
-      tally =
-          n .tally
-          ∙ ap (λ (i : Ticket). toldBy i w kStart p [] .state) a
-          ∙ ap (λ (i : Reply). toldBy t w kStart i [] .state) (s .reply);
-      course =
-          ap (λ (x : TryRun). x .course) (n .is)
-          ∙ same-told w kStart [] a (s .reply) (b ∙ ap (λ (i : Reply). firstCourse (i .code)) (s .reply));
-    }
-
-abbrev numbered : Course → ℕ → Course
-numbered c n =
-    record {
-      physical = n;
-      source = c .source;
-      motion = c .motion;
-      curved = c .curved;
-      refusal = c .refusal;
-      line = c .line;
-      stands = c .stands;
-    }
-
-pub counted-is : (run : TryRun) {r : TryRun} {n : ℕ} → n ≡ nextLine (run .course .physical)
-    → r ≡ withCourse run (numbered (run .course) n) → r ≡ withCourse run (nextCourse (run .course))
-counted-is run {r} {n} e f = f ∙ ap (λ (k : ℕ). withCourse run (numbered (run .course) k)) e
-
-pub first-bad : {code : ℕ} {c d : Course} → (code ≡ 0 → ⊥) → d ≡ fresh → c ≡ turnedDown d kStart code 0 → c ≡ firstCourse code
-unfolding firstCourse
-first-bad {code} {c} {d} n e f = f ∙ ap (λ (x : Course). turnedDown x kStart code 0) e ∙ sym (cond-f _ _ (ne-eqb code 0 n))

@@ -1,5 +1,9 @@
 // A whole try of a night: the flattener is started, and the file is read turn after turn; lines are done as long as the try goes
 // on, and the rest is read for the checksum. Memory is of a fixed size and is lent.
+use call_close::close;
+use call_push::push;
+use call_reply::Reply;
+use call_reply::plain_reply;
 use csv_out::CALL_ROOM;
 use csv_out::LENT_ROWS;
 use csv_status::GOES_ON;
@@ -7,31 +11,29 @@ use csv_status::turns_left;
 use layout::MOST_HELD;
 use layout::ROW_WORDS;
 use layout::STATE_WORDS;
-use night_answer::GOES;
-use night_answer::Ticket;
-use night_answer::TryRun;
-use night_line::input_ends;
-use night_line::night_end;
-use night_line::night_line;
-use night_reading::Files;
-use night_reading::KEPT;
-use night_reading::Reading;
-use night_reading::Tried;
+use night_begin::start_told;
+use night_course::Ticket;
+use night_course::TryRun;
+use night_deed::heard;
+use night_deed::turn_asks;
+use night_due::Call;
+use night_due::again_due;
+use night_flush::Files;
+use night_flush::KEPT;
+use night_flush::Reading;
+use night_flush::Tried;
+use night_flush::last;
+use night_found::next_found;
 use night_reading::behind;
 use night_reading::first;
-use night_reading::last;
-use night_reading::next_found;
-use night_told::start_told;
 use tally_words::TALLY_WORDS;
-use text_lines::Found;
 use text_lines::Turn;
 ghost use mathlib.Core.Path.{_≡_};
-ghost use Prim.Native.Nat.{_-_, _≤_};
 ghost use lib.ListN.{length};
 ghost use Rattle.csv_status.specs.Status.{goesOn};
-ghost use Rattle.night_calls.specs.Steps.{slices, Stepped, Room};
-ghost use Rattle.night_line.specs.Lines.{EndTold};
-ghost use Rattle.night_try.specs.Turns.{Within, FoundIn, lineDeed, endDeed, DoneBy, TurnIs, AllTurns, Ran};
+ghost use Rattle.night_turns.specs.Steps.{slices};
+ghost use Rattle.night_turns.specs.Turns.{Within, FoundIn, Light, DoneBy, TurnIs, AllTurns, Ran};
+ghost use Rattle.night_deed.specs.Deeds.{Replied};
 
 // How many rows a call is lent room for, and the bytes that a row's text and a block's line are never more than.
 const NIGHT_ROWS: usize = 131072;
@@ -51,88 +53,51 @@ pub const OUT_ROOM: usize = ROW_ROOM * NIGHT_ROWS + KEPT;
 
 pub const LISTED_ROOM: usize = LINE_ROOM * NIGHT_ROWS + KEPT;
 
-// The line that a turn found is done, as long as the try goes on.
-fn take_line(
-    t: Turn,
-    run: TryRun,
-    buf: &[u8],
-    state: &mut [u64],
-    store: &mut [u64],
-    rows: &mut [u64],
-    tally: &mut [u64],
-    out: &mut [u8],
-    listed: &mut [u8],
-) -> TryRun
-    requires { ⌜ FoundIn t (length (now buf)) × Room run (length (now rows)) (length (now out)) (length (now listed)) ⌝ }
+// The call that is due is made; where none is, nothing is touched.
+fn replied(
+    call: Call,
+    row: &[u64; ROW_WORDS],
+    state: &mut [u64; STATE_WORDS],
+    store: &mut [u64; STORE],
+    rows: &mut [u64; ROWS],
+) -> Reply
     ensures { λ r.
-        let was = slices (now (state .entry)) (now (store .entry)) (now (rows .entry)) (now (tally .entry)) (now (out .entry)) (now (listed .entry)) in
-        let is = slices (now (state .exit)) (now (store .exit)) (now (rows .exit)) (now (tally .exit)) (now (out .exit)) (now (listed .exit)) in
-        ⌜ Stepped (lineDeed t run (now (buf .entry)) was) run was r is ⌝ }
+        ⌜ Replied call (now (state .entry)) (now (store .entry)) (now (rows .entry)) (now (row .entry))
+        r (now (state .exit)) (now (store .exit)) (now (rows .exit)) ⌝ }
 {
-    if run.course.stands == GOES {
-        let from = t.from;
-        let at = t.at;
-        return night_line(run, &buf[from..at], state, store, rows, tally, out, listed);
+    match call {
+        Call::Push => push(state, store, rows, row),
+        Call::Close => close(state, store, rows),
+        Call::Nothing => plain_reply(0),
     }
-    run
 }
 
-// The end of the input.
-fn finish(
-    t: Turn,
-    run: TryRun,
-    state: &mut [u64],
-    store: &[u64],
-    rows: &mut [u64],
-    tally: &mut [u64],
-    out: &mut [u8],
-    listed: &mut [u8],
-) -> TryRun
-    requires { ⌜ (t .at ≤ t .end) × Room run (length (now rows)) (length (now out)) (length (now listed)) ⌝ }
-    ensures { λ r.
-        let was = slices (now (state .entry)) (now (store .entry)) (now (rows .entry)) (now (tally .entry)) (now (out .entry)) (now (listed .entry)) in
-        let is = slices (now (state .exit)) (now (store .entry)) (now (rows .exit)) (now (tally .exit)) (now (out .exit)) (now (listed .exit)) in
-        ⌜ Stepped (endDeed t run was) run was r is ⌝ }
-{
-    let behind = t.end - t.at;
-    night_end(run, behind, state, store, rows, tally, out, listed)
-}
-
-// A line that fills the buffer is one without its end.
-fn too_long(t: Turn, run: TryRun, tally: &mut [u64]) -> TryRun
-    requires { ⌜ t .at ≤ t .end ⌝ }
-    ensures { λ r. ⌜ EndTold run (t .end - t .at) (now (tally .entry)) r (now (tally .exit)) ⌝ }
-{
-    let behind = t.end - t.at;
-    input_ends(run, behind, tally)
-}
-
-// What a turn found is done.
+// What a turn found is done: what it asks for is called and told, and so is what is due behind that call.
 fn done(
     t: Turn,
     run: TryRun,
-    buf: &[u8],
-    state: &mut [u64],
-    store: &mut [u64],
-    rows: &mut [u64],
-    tally: &mut [u64],
-    out: &mut [u8],
-    listed: &mut [u8],
+    buf: &[u8; INPUT],
+    state: &mut [u64; STATE_WORDS],
+    store: &mut [u64; STORE],
+    rows: &mut [u64; ROWS],
+    tally: &mut [u64; TALLY_WORDS],
+    out: &mut [u8; OUT_ROOM],
+    listed: &mut [u8; LISTED_ROOM],
 ) -> TryRun
-    requires { ⌜ FoundIn t (length (now buf)) × Room run (length (now rows)) (length (now out)) (length (now listed)) ⌝ }
+    requires { ⌜ FoundIn t (length (now buf)) × Light run ⌝ }
     ensures { λ r.
         let was = slices (now (state .entry)) (now (store .entry)) (now (rows .entry)) (now (tally .entry)) (now (out .entry)) (now (listed .entry)) in
         let is = slices (now (state .exit)) (now (store .exit)) (now (rows .exit)) (now (tally .exit)) (now (out .exit)) (now (listed .exit)) in
         ⌜ DoneBy (t .found) t run (now (buf .entry)) was r is ⌝ }
 {
-    let found = t.found;
-    match found {
-        Found::Line => take_line(t, run, buf, state, store, rows, tally, out, listed),
-        Found::More => run,
-        Found::Ended => finish(t, run, state, store, rows, tally, out, listed),
-        Found::Full => too_long(t, run, tally),
-        Found::Failed => run,
-    }
+    let mut row = [0u64; ROW_WORDS];
+    let asked = turn_asks(t, run, buf, &mut row, tally, out);
+    let call = asked.call;
+    let reply = replied(call, &row, state, store, rows);
+    let once = heard(call, asked.run, &row, reply, rows, tally, out, listed);
+    let again = again_due(call, once.course.stands);
+    let answer = replied(again, &row, state, store, rows);
+    heard(again, once, &row, answer, rows, tally, out, listed)
 }
 
 // One turn: room is made, and then a line is done or more is read.

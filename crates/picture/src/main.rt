@@ -4,9 +4,9 @@ use csv_io::ERR_ROOM;
 use csv_io::OUT_ROOM;
 use csv_status::report;
 use csv_status::tell;
-use picture_fit::Plane;
 use picture_run::INPUT;
 use picture_run::whole_run;
+use picture_span::Plane;
 ghost use Rattle.picture_pen.specs.Drawing.{PlaneOk};
 
 // The codes of the axes.

@@ -1,8 +1,8 @@
--- DEFINITIONS. The box of a picture's points, and how it is fitted into the area of the picture. Assumes nothing.
+-- DEFINITIONS. How the box of a picture's points is fitted into the area of the picture. Assumes nothing.
 use Prim.Native.Nat.{ℕ, _+_, _-_, _*_, _/_, _≤_, _<_}
-use mathlib.Core.Bool.{Bool, true, false, cond}
+use mathlib.Core.Bool.{true, false, cond}
 use lib.Dec.{ltb}
-use Rattle.picture_fit.specs.declared.Span.{Span}
+use Rattle.picture_span.specs.Span.{lowerOf}
 use Rattle.picture_fit.specs.declared.Scale.{Scale}
 use Rattle.picture_fit.specs.declared.Fit.{Fit}
 
@@ -19,10 +19,6 @@ areaHigh = 820
 abbrev pub middle : ℕ
 middle = 440
 
--- the widest box, in millionths of a millimetre
-abbrev pub widest : ℕ
-widest = 2000000000000000
-
 -- a millimetre in millionths, a unit in their millionths, and that in parts 10^-4
 abbrev pub millimetre : ℕ
 millimetre = 1000000
@@ -32,25 +28,6 @@ unit = 1000000000000
 
 abbrev pub fineUnit : ℕ
 fineUnit = 10000000000000000
-
--- ---- a span of places: it has none where `to` is below `from`
-unfoldable pub lowerOf : ℕ → ℕ → ℕ
-lowerOf a b = cond (ltb b a) b a
-
-unfoldable pub higherOf : ℕ → ℕ → ℕ
-higherOf a b = cond (ltb a b) b a
-
-abbrev pub noSpan : Span
-noSpan = record { from = widest; to = 0 }
-
-abbrev pub widened : Span → ℕ → Span
-widened s p = record { from = lowerOf (s .from) p; to = higherOf (s .to) p }
-
-abbrev pub isEmpty : Span → Bool
-isEmpty s = ltb (s .to) (s .from)
-
-unfoldable pub extent : Span → ℕ
-extent s = cond (isEmpty s) 0 (lowerOf (s .to - s .from) widest)
 
 -- ---- a smaller box is not made larger than this one would be: what draws a picture has its limits
 abbrev pub least : ℕ

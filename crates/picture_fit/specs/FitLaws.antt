@@ -6,17 +6,10 @@ use native.Mathlib.Omega.{arith}
 use native.Mathlib.Nat.{div-mul-le-self, mul-le-mul-left, mul-le-mul-right, mul-assoc, le-trans}
 use lib.Dec.{ltb}
 use borrow.Author.Tests.{ltb-true, ltb-false}
+use Rattle.picture_span.specs.Span.{widest}
 use Rattle.picture_fit.specs.declared.Scale.{Scale}
-use Rattle.picture_fit.specs.Fit.{areaWide, areaHigh, widest, millimetre, unit, fineUnit, lowerOf, least, atLeast}
+use Rattle.picture_fit.specs.Fit.{areaWide, areaHigh, millimetre, unit, fineUnit, least, atLeast}
 use Rattle.picture_fit.specs.Fit.{scaleBy, fitBy, fitOf, mostScale}
-
-pub lower-second : (a b : ℕ) → lowerOf a b ≤ b
-unfolding lowerOf
-lower-second a b = go (ltb b a) refl
-  where
-    go : (t : Bool) → ltb b a ≡ t → cond t b a ≤ b
-    go true e = omega arith
-    go false e = omega (arith, ltb-false b a e)
 
 -- ---- numbers that stay in their width
 pub product-small : (a b : ℕ) → a ≤ areaWide → b ≤ widest → a * b ≤ 1880000000000000000

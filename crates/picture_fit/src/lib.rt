@@ -1,9 +1,11 @@
-// What a picture is of, its axes and its counts; the box of its points, one span for each axis, and how the box is fitted into
-// the area of the picture.
+// How the box of a picture's points is fitted into the area of the picture.
+use picture_span::Span;
+use picture_span::extent;
+use picture_span::lower;
 ghost use mathlib.Core.Path.{_≡_};
 ghost use Prim.Native.Nat.{_≤_, _<_};
-ghost use Rattle.picture_fit.specs.Fit.{widest, areaWide, lowerOf, higherOf, noSpan, widened, isEmpty, extent, least};
-ghost use Rattle.picture_fit.specs.Fit.{atLeast, scaleBy, drawn, fitBy, fitOf, mostScale, Small};
+ghost use Rattle.picture_span.specs.Span.{widest, extent};
+ghost use Rattle.picture_fit.specs.Fit.{areaWide, least, atLeast, scaleBy, drawn, fitBy, fitOf, mostScale, Small};
 
 // The picture's width in its own units, and the area of the path in it: how wide and high, and how far down its middle is.
 const WIDE: u64 = 1000;
@@ -14,9 +16,6 @@ const AREA_HIGH: u64 = 820;
 
 const MIDDLE: u64 = 440;
 
-// The widest box, in millionths of a millimetre.
-const WIDEST: u64 = 2000000000000000;
-
 // Smaller boxes are not made larger than these would be: what draws a picture has its limits.
 const LEAST: u64 = 100;
 
@@ -26,80 +25,6 @@ const MILLIMETRE: u64 = 1000000;
 const UNIT: u64 = 1000000000000;
 
 const FINE_UNIT: u64 = 10000000000000000;
-
-// Rows of each class of a picture.
-pub struct Counts {
-    pub rapid: u64,
-    pub feed: u64,
-    pub sample: u64,
-    pub curved: u64,
-}
-
-// The codes of the axes of a picture: what goes to the right, and what goes up.
-pub struct Plane {
-    pub across: usize,
-    pub up: usize,
-}
-
-// The places between which points lie: none where `to` is below `from`.
-pub struct Span {
-    pub from: u64,
-    pub to: u64,
-}
-
-// The box of a picture's points.
-pub struct Frame {
-    pub across: Span,
-    pub up: Span,
-}
-
-// The span of a box with no point.
-pub fn no_span() -> Span
-    ensures { λ r. ⌜ r ≡ noSpan ⌝ }
-{
-    Span {
-        from: WIDEST,
-        to: 0,
-    }
-}
-
-fn lower(a: u64, b: u64) -> u64
-    ensures { λ r. ⌜ r ≡ lowerOf a b ⌝ }
-{
-    if b < a { b } else { a }
-}
-
-fn higher(a: u64, b: u64) -> u64
-    ensures { λ r. ⌜ r ≡ higherOf a b ⌝ }
-{
-    if a < b { b } else { a }
-}
-
-// The span with one more place.
-pub fn widened(s: Span, p: u64) -> Span
-    ensures { λ r. ⌜ r ≡ widened s p ⌝ }
-{
-    Span {
-        from: lower(s.from, p),
-        to: higher(s.to, p),
-    }
-}
-
-pub fn is_empty(s: Span) -> bool
-    ensures { λ r. ⌜ r ≡ isEmpty s ⌝ }
-{
-    s.to < s.from
-}
-
-// How wide a span is, in millionths of a millimetre.
-pub fn extent(s: Span) -> u64
-    ensures { λ r. ⌜ (r ≡ extent s) × (r ≤ widest) ⌝ }
-{
-    if s.to < s.from {
-        return 0;
-    }
-    lower(s.to - s.from, WIDEST)
-}
 
 // A scale: a number of millionths, of which one stands for a unit a millimetre, or where it is fine for 10^-4 of that.
 pub struct Scale {

@@ -9,26 +9,11 @@ use lib.ListN.{length, length-append}
 use Rattle.csv_figures.specs.Out.{Wrote}
 use Rattle.csv_figures.specs.OutLaws.{wrote-then, wrote-length}
 use Rattle.csv_words.specs.Text.{bytes}
-use Rattle.picture_place.specs.Place.{placeText, placeRoom}
-use Rattle.picture_place.specs.PlaceLaws.{place-short}
-use Rattle.picture_path.specs.declared.Point.{Point}
+use Rattle.picture_point.specs.declared.Point.{Point}
+use Rattle.picture_point.specs.PointText.{pointText}
+use Rattle.picture_point.specs.PointLaws.{point-short}
 use Rattle.picture_path.specs.declared.Path.{Path}
-use Rattle.picture_path.specs.PathText.{moveRoom, pointText, lineText, openText, endText, goesOn, moveText}
-
--- what is left of the room behind a place
-pub behind-place : {o o′ : List ℕ} {n r : ℕ} (p : ℕ) → Wrote o n (placeText p) o′ r → (r ≤ n + placeRoom) × (length o′ ≡ length o)
-behind-place p w = (omega (arith, w .next, place-short p), wrote-length w)
-
-pub point-wrote : {o o₁ o₂ o₃ : List ℕ} {n a b r : ℕ} (p : Point) → Wrote o n (placeText (p .across)) o₁ a → Wrote o₁ a (32 ∷ []) o₂ b
-    → Wrote o₂ b (placeText (p .up)) o₃ r → Wrote o n (pointText p) o₃ r
-unfolding pointText
-point-wrote p x y z = wrote-then x (wrote-then y z)
-
-pub point-short : (p : Point) → length (pointText p) ≤ 35
-unfolding pointText
-point-short p =
-    let e = length-append (placeText (p .across)) (32 ∷ placeText (p .up)) in
-    omega (arith, place-short (p .across), place-short (p .up))
+use Rattle.picture_path.specs.PathText.{moveRoom, lineText, openText, endText, goesOn, moveText}
 
 pub open-wrote : {o o₁ o₂ o₃ o₄ : List ℕ} {n a b c r : ℕ} (letter : ℕ) (p : Point) → Wrote o n (bytes "<path class='") o₁ a
     → Wrote o₁ a (letter ∷ []) o₂ b → Wrote o₂ b (bytes "' d='M") o₃ c → Wrote o₃ c (pointText p) o₄ r → Wrote o n (openText letter p) o₄ r

@@ -4,17 +4,13 @@ use mathlib.Core.Bool.{Bool, false, cond}
 use mathlib.Core.List.{List, [], _∷_, _++_}
 use lib.Dec.{eqb, ltb}
 use Rattle.csv_words.specs.Text.{bytes}
-use Rattle.picture_place.specs.Place.{placeText}
-use Rattle.picture_path.specs.declared.Point.{Point}
+use Rattle.picture_point.specs.declared.Point.{Point}
+use Rattle.picture_point.specs.PointText.{pointText}
 use Rattle.picture_path.specs.declared.Path.{Path}
 
 -- a move is never longer
 abbrev pub moveRoom : ℕ
 moveRoom = 128
-
--- its two coordinates, with a blank between them
-unfoldable pub pointText : Point → List ℕ
-pointText p = placeText (p .across) ++ (32 ∷ placeText (p .up))
 
 unfoldable pub lineText : Point → List ℕ
 lineText p = (10 ∷ 76 ∷ []) ++ pointText p

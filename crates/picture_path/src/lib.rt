@@ -1,21 +1,16 @@
-// The text of a path: moves of one class after another, each a line to a point.
+// The pieces of a path's text: its beginning at a point, lines to points, its end; and which path is open.
 use csv_figures::put_byte;
 use csv_line::put_bytes;
-use picture_place::put_place;
+use picture_point::Point;
+use picture_point::put_point;
 ghost use mathlib.Core.Path.{_≡_};
 ghost use Prim.Native.Nat.{_+_, _≤_};
 ghost use lib.ListN.{length};
 ghost use Rattle.csv_figures.specs.Out.{Wrote};
-ghost use Rattle.picture_path.specs.PathText.{moveRoom, pointText, lineText, openText, endText, goesOn, oneMore, pathAfter, moveText};
+ghost use Rattle.picture_path.specs.PathText.{lineText, openText, endText, goesOn, oneMore, pathAfter};
 
 // A path that is longer is broken, so that what draws it need not hold all of it.
 const LONGEST: u64 = 1000;
-
-// The places of a point on the picture's two axes.
-pub struct Point {
-    pub across: u64,
-    pub up: u64,
-}
 
 // The path that is open: the letter of its class, 0 where none is, and its points.
 pub struct Path {
@@ -23,17 +18,8 @@ pub struct Path {
     pub points: u64,
 }
 
-pub fn put_point(out: &mut [u8], n: usize, p: Point) -> usize
-    requires { ⌜ n + 35 ≤ length (now out) ⌝ }
-    ensures { λ r. ⌜ Wrote (now (out .entry)) n (pointText p) (now (out .exit)) r ⌝ }
-{
-    let a = put_place(out, n, p.across);
-    let b = put_byte(out, a, b' ');
-    put_place(out, b, p.up)
-}
-
 // A line to a point, on a line of its own.
-fn put_line(out: &mut [u8], n: usize, p: Point) -> usize
+pub fn put_line(out: &mut [u8], n: usize, p: Point) -> usize
     requires { ⌜ n + 37 ≤ length (now out) ⌝ }
     ensures { λ r. ⌜ Wrote (now (out .entry)) n (lineText p) (now (out .exit)) r ⌝ }
 {
@@ -53,7 +39,7 @@ pub fn put_path_end(out: &mut [u8], n: usize, path: Path) -> usize
 }
 
 // The beginning of a path at a point.
-fn put_open(out: &mut [u8], n: usize, letter: u8, p: Point) -> usize
+pub fn put_open(out: &mut [u8], n: usize, letter: u8, p: Point) -> usize
     requires { ⌜ n + 55 ≤ length (now out) ⌝ }
     ensures { λ r. ⌜ Wrote (now (out .entry)) n (openText letter p) (now (out .exit)) r ⌝ }
 {
@@ -64,7 +50,7 @@ fn put_open(out: &mut [u8], n: usize, letter: u8, p: Point) -> usize
 }
 
 // Whether a move of a class goes on with the path that is open.
-fn goes_on(path: Path, letter: u8) -> bool
+pub fn goes_on(path: Path, letter: u8) -> bool
     ensures { λ r. ⌜ r ≡ goesOn path letter ⌝ }
 {
     if path.letter == letter {
@@ -93,17 +79,4 @@ pub fn path_after(path: Path, letter: u8) -> Path
         };
     }
     Path { letter, points: 2 }
-}
-
-// A move of a class from one point to another.
-pub fn put_move(out: &mut [u8], n: usize, path: Path, letter: u8, from: Point, to: Point) -> usize
-    requires { ⌜ n + moveRoom ≤ length (now out) ⌝ }
-    ensures { λ r. ⌜ Wrote (now (out .entry)) n (moveText path letter from to) (now (out .exit)) r ⌝ }
-{
-    if goes_on(path, letter) {
-        return put_line(out, n, to);
-    }
-    let a = put_path_end(out, n, path);
-    let b = put_open(out, a, letter, from);
-    put_line(out, b, to)
 }

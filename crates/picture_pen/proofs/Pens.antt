@@ -7,15 +7,16 @@ use native.Mathlib.Nat.{add-zero}
 use Rattle.csv_figures.specs.Out.{Wrote}
 use Rattle.picture_class.specs.declared.Judged.{Judged}
 use Rattle.picture_class.specs.Class.{classOf, letterOf}
+use Rattle.picture_point.specs.declared.Point.{Point}
 use Rattle.picture_path.specs.declared.Path.{Path}
-use Rattle.picture_path.specs.declared.Point.{Point}
 use Rattle.picture_path.specs.PathText.{moveText}
-use Rattle.picture_fit.specs.declared.Counts.{Counts}
-use Rattle.picture_fit.specs.declared.Frame.{Frame}
-use Rattle.picture_fit.specs.declared.Plane.{Plane}
-use Rattle.picture_pen.specs.declared.Spot.{Spot}
+use Rattle.picture_span.specs.declared.Counts.{Counts}
+use Rattle.picture_span.specs.declared.Frame.{Frame}
+use Rattle.picture_span.specs.declared.Plane.{Plane}
+use Rattle.picture_spot.specs.declared.Spot.{Spot}
+use Rattle.picture_spot.specs.Spot.{spotAfter}
 use Rattle.picture_pen.specs.declared.Pen.{Pen}
-use Rattle.picture_pen.specs.Pen.{countedOf, spotAfter, frameAfter, movesIn, pathBehind, penAfter, pointOf, rowDrawn}
+use Rattle.picture_pen.specs.Pen.{countedOf, frameAfter, movesIn, pathBehind, penAfter, pointOf, rowDrawn}
 use Rattle.picture_pen.specs.Drawing.{Drew}
 
 module _ (pen : Pen) (row : List ℕ) (plane : Plane) where

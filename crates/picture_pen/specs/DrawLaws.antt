@@ -6,7 +6,7 @@ use native.Mathlib.Omega.{arith}
 use lib.ListN.{length}
 use Rattle.picture_path.specs.PathText.{moveRoom, moveText}
 use Rattle.picture_path.specs.PathLaws.{move-short}
-use Rattle.picture_fit.specs.declared.Plane.{Plane}
+use Rattle.picture_span.specs.declared.Plane.{Plane}
 use Rattle.picture_pen.specs.declared.Pen.{Pen}
 use Rattle.picture_pen.specs.declared.Drawn.{Drawn}
 use Rattle.picture_pen.specs.Pen.{movesIn, penAfter, pointOf, rowDrawn}

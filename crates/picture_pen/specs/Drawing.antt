@@ -4,7 +4,7 @@ use mathlib.Core.Path.{_≡_}
 use mathlib.Core.List.{List}
 use Rattle.layout.specs.Layout.{cells}
 use Rattle.csv_figures.specs.Out.{Wrote}
-use Rattle.picture_fit.specs.declared.Plane.{Plane}
+use Rattle.picture_span.specs.declared.Plane.{Plane}
 use Rattle.picture_pen.specs.declared.Pen.{Pen}
 use Rattle.picture_pen.specs.declared.Drawn.{Drawn}
 use Rattle.picture_pen.specs.Pen.{penAfter, rowDrawn}

@@ -3,22 +3,19 @@ use Prim.Native.Nat.{ℕ, _+_}
 use mathlib.Core.Bool.{Bool, true, false, cond}
 use mathlib.Core.List.{List, []}
 use lib.Dec.{ltb}
-use Rattle.floats.specs.Numbers.{num}
 use Rattle.motion.specs.Motion.{gOne}
-use Rattle.row_cells.specs.Bits.{has}
-use Rattle.row_cells.specs.Row.{presentOf, rawWord}
 use Rattle.picture_class.specs.declared.Class.{Class}
 use Rattle.picture_class.specs.declared.Class.the-variants.{Rapid, Feed, Sample, Curved}
 use Rattle.picture_class.specs.Class.{classOf, letterOf}
-use Rattle.picture_place.specs.Place.{placeOf}
-use Rattle.picture_fit.specs.Fit.{noSpan, widened}
+use Rattle.picture_span.specs.Span.{noSpan, widened}
+use Rattle.picture_point.specs.declared.Point.{Point}
 use Rattle.picture_path.specs.declared.Path.{Path}
-use Rattle.picture_path.specs.declared.Point.{Point}
 use Rattle.picture_path.specs.PathText.{pathAfter, moveText}
-use Rattle.picture_fit.specs.declared.Counts.{Counts}
-use Rattle.picture_fit.specs.declared.Frame.{Frame}
-use Rattle.picture_fit.specs.declared.Plane.{Plane}
-use Rattle.picture_pen.specs.declared.Spot.{Spot}
+use Rattle.picture_span.specs.declared.Counts.{Counts}
+use Rattle.picture_span.specs.declared.Frame.{Frame}
+use Rattle.picture_span.specs.declared.Plane.{Plane}
+use Rattle.picture_spot.specs.declared.Spot.{Spot}
+use Rattle.picture_spot.specs.Spot.{showsCode, spotAfter, bothKnown}
 use Rattle.picture_pen.specs.declared.Pen.{Pen}
 
 -- before the first row the motion in force is G1, and nothing is known
@@ -46,18 +43,9 @@ countedOf c Feed = record { rapid = c .rapid; feed = oneMore (c .feed); sample =
 countedOf c Sample = record { rapid = c .rapid; feed = c .feed; sample = oneMore (c .sample); curved = c .curved }
 countedOf c Curved = record { rapid = c .rapid; feed = c .feed; sample = c .sample; curved = oneMore (c .curved) }
 
--- ---- an axis that a row does not show holds its last number; one that was never shown is not known
-abbrev pub showsCode : List ℕ → ℕ → Bool
-showsCode row code = has (presentOf row) code
-
-unfoldable pub spotAfter : Spot → List ℕ → ℕ → Spot
-spotAfter spot row code = cond (showsCode row code) (record { known = true; at = placeOf (num (rawWord row code)) }) spot
-
+-- ---- a row shows an axis of the plane
 unfoldable pub showsEither : List ℕ → Plane → Bool
 showsEither row plane = cond (showsCode row (plane .across)) true (showsCode row (plane .up))
-
-unfoldable pub bothKnown : Spot → Spot → Bool
-bothKnown across up = cond (across .known) (up .known) false
 
 -- ---- the box is that of the places where both axes are known
 unfoldable pub frameAfter : Frame → Spot → Spot → Frame

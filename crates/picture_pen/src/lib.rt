@@ -1,38 +1,32 @@
 // The pen: where it is, what is counted, and what a row draws.
-use layout::R_CELLS;
-use layout::R_PRESENT;
 use motion::G1;
 use picture_class::Class;
 use picture_class::class_of;
 use picture_class::letter;
-use picture_fit::Counts;
-use picture_fit::Frame;
-use picture_fit::Plane;
-use picture_fit::no_span;
-use picture_fit::widened;
+use picture_move::put_move;
 use picture_path::Path;
-use picture_path::Point;
 use picture_path::path_after;
-use picture_path::put_move;
-use picture_place::place_of;
-use row_cells::has_bit;
+use picture_point::Point;
+use picture_span::Counts;
+use picture_span::Frame;
+use picture_span::Plane;
+use picture_span::no_span;
+use picture_span::widened;
+use picture_spot::Spot;
+use picture_spot::both_known;
+use picture_spot::shows;
+use picture_spot::spot_after;
 ghost use mathlib.Core.Path.{_≡_};
-ghost use Prim.Native.Nat.{_+_, _≤_, _<_};
+ghost use Prim.Native.Nat.{_+_, _≤_};
 ghost use lib.ListN.{length};
-ghost use Rattle.layout.specs.Layout.{rowWords, cells};
+ghost use Rattle.layout.specs.Layout.{rowWords};
 ghost use Rattle.picture_path.specs.PathText.{moveRoom};
-ghost use Rattle.picture_pen.specs.Pen.{firstPen, oneMore, countedOf, showsCode, spotAfter, showsEither, bothKnown};
+ghost use Rattle.picture_pen.specs.Pen.{firstPen, oneMore, countedOf, showsEither};
 ghost use Rattle.picture_pen.specs.Pen.{frameAfter, movesIn, pathBehind, penAfter, pointOf};
 ghost use Rattle.picture_pen.specs.Drawing.{PlaneOk, Drew};
 
 // Counts go up to what a text has room for.
 const MOST_COUNT: u64 = 9999999999;
-
-// Where the pen is on one axis, once a row has shown it.
-pub struct Spot {
-    pub known: bool,
-    pub at: u64,
-}
 
 // The motion in force, the pen's place, the path that is open, the box of its places so far, and the rows of each class.
 pub struct Pen {
@@ -115,27 +109,6 @@ fn counted(c: Counts, class: Class) -> Counts
     }
 }
 
-fn shows(row: &[u64], code: usize) -> bool
-    requires { ⌜ (length (now row) ≡ rowWords) × (code < cells) ⌝ }
-    ensures { λ r. ⌜ r ≡ showsCode (now (row .entry)) code ⌝ }
-{
-    has_bit(row[R_PRESENT], code as u64)
-}
-
-// The pen's place on an axis behind a row: what the row shows, or what it was.
-fn spot_after(spot: Spot, row: &[u64], code: usize) -> Spot
-    requires { ⌜ (length (now row) ≡ rowWords) × (code < cells) ⌝ }
-    ensures { λ r. ⌜ r ≡ spotAfter spot (now (row .entry)) code ⌝ }
-{
-    if shows(row, code) {
-        return Spot {
-            known: true,
-            at: place_of(floats::of_bits(row[R_CELLS + code])),
-        };
-    }
-    spot
-}
-
 fn shows_either(row: &[u64], plane: Plane) -> bool
     requires { ⌜ (length (now row) ≡ rowWords) × PlaneOk plane ⌝ }
     ensures { λ r. ⌜ r ≡ showsEither (now (row .entry)) plane ⌝ }
@@ -144,15 +117,6 @@ fn shows_either(row: &[u64], plane: Plane) -> bool
         return true;
     }
     shows(row, plane.up)
-}
-
-fn both_known(across: Spot, up: Spot) -> bool
-    ensures { λ r. ⌜ r ≡ bothKnown across up ⌝ }
-{
-    if across.known {
-        return up.known;
-    }
-    false
 }
 
 // The box with the pen's place, where that is known.

@@ -18,8 +18,9 @@ use Rattle.csv_io.specs.Flush.{Emptied}
 use Rattle.csv_io.specs.declared.Left.{Left}
 use Rattle.csv_reading.specs.declared.Reading.{Reading}
 use Rattle.csv_reading.specs.Reading.{firstReading, behind}
-use Rattle.picture_text.specs.Rooms.{startRoom}
-use Rattle.picture_run.specs.Room.{Room, Kept, Behind, Within}
+use Rattle.picture_fixed.specs.Rooms.{startRoom}
+use Rattle.picture_row.specs.Room.{Room, Kept}
+use Rattle.picture_run.specs.Pages.{Behind, Within}
 
 pub kept-same : (run : Run) → Kept run run
 kept-same run = record { out = omega arith; err = omega arith }

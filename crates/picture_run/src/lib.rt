@@ -1,11 +1,11 @@
 // A whole run of the picture program: a line, a turn, turn after turn, and then the end of the picture. Memory is of a fixed size.
+use csv_count::BAD_TEXT;
 use csv_ending::Ending;
 use csv_ending::last;
 use csv_io::ERR_ROOM;
 use csv_io::OUT_ROOM;
 use csv_line::End;
 use csv_next::next_found;
-use csv_out::BAD_TEXT;
 use csv_out::Run;
 use csv_out::next_line;
 use csv_out::refuse;
@@ -23,31 +23,26 @@ use csv_status::may_end;
 use csv_status::turns_left;
 use flat_read::read_flat;
 use layout::ROW_WORDS;
-use picture_fit::Plane;
+use picture_fixed::put_start;
 use picture_path::put_path_end;
 use picture_pen::Pen;
-use picture_pen::draw;
 use picture_pen::first_pen;
+use picture_row::Sheet;
+use picture_row::row_line;
+use picture_span::Plane;
 use picture_text::put_end;
-use picture_text::put_start;
 use text_lines::Found;
 use text_lines::Turn;
 ghost use mathlib.Core.Path.{_≡_};
 ghost use Prim.Native.Nat.{_≤_};
 ghost use lib.ListN.{length};
-ghost use Rattle.layout.specs.Layout.{rowWords};
 ghost use Rattle.csv_io.specs.Flush.{outRoom, errRoom};
 ghost use Rattle.picture_pen.specs.Drawing.{PlaneOk};
-ghost use Rattle.picture_run.specs.Room.{Room, Kept, FoundIn, Behind, Within};
+ghost use Rattle.picture_row.specs.Room.{Room, Kept};
+ghost use Rattle.picture_run.specs.Pages.{FoundIn, Behind, Within};
 
 // The bytes of the input buffer.
 pub const INPUT: usize = 65536;
-
-// How the lines so far stand, and the pen behind them.
-pub struct Sheet {
-    pub run: Run,
-    pub pen: Pen,
-}
 
 // How the reading stands, and the pen.
 pub struct Page {
@@ -69,29 +64,10 @@ fn header_line(run: Run, pen: Pen, text: &[u8], err: &mut [u8; ERR_ROOM]) -> She
     requires { ⌜ Room run ⌝ }
     ensures { λ r. ⌜ Kept run (r .run) ⌝ }
 {
-    if csv_line::is_header_out(text) {
+    if csv_header::is_header_out(text) {
         return Sheet { run, pen };
     }
     bad(run, pen, err)
-}
-
-// A row.
-fn row_line(run: Run, pen: Pen, plane: Plane, row: &[u64], out: &mut [u8; OUT_ROOM]) -> Sheet
-    requires { ⌜ (length (now row) ≡ rowWords) × (PlaneOk plane × Room run) ⌝ }
-    ensures { λ r. ⌜ Kept run (r .run) ⌝ }
-{
-    let drawn = draw(pen, row, plane, out, run.out);
-    let then = drawn.pen;
-    Sheet {
-        run: Run {
-            out: drawn.at,
-            err: run.err,
-            physical: run.physical,
-            source: run.source,
-            refused: run.refused,
-        },
-        pen: then,
-    }
 }
 
 // The text of a line, without its end.
@@ -199,8 +175,7 @@ fn done(
     match found {
         Found::Line => take_line(t, run, pen, plane, buf, out, err),
         Found::More => only_read(reads_on(t, run), pen),
-        Found::Ended => finish(t, run, pen, err),
-        Found::Full => finish(t, run, pen, err),
+        Found::Ended | Found::Full => finish(t, run, pen, err),
         Found::Failed => only_read(fails(t, run), pen),
     }
 }

@@ -17,18 +17,12 @@ cornerRoom = 100
 abbrev pub fitRoom : ℕ
 fitRoom = 300
 
--- the parts of the end, and start and end whole
+-- the parts of the end, and the end whole
 abbrev pub legendRoom : ℕ
 legendRoom = 400
 
 abbrev pub knownRoom : ℕ
 knownRoom = frameRoom + fitRoom
-
-abbrev pub closeRoom : ℕ
-closeRoom = 128
-
-abbrev pub startRoom : ℕ
-startRoom = 1000
 
 abbrev pub endRoom : ℕ
 endRoom = 2048

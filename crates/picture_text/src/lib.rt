@@ -1,44 +1,26 @@
-// The fixed text of a picture, and what is known only at its end: the counts and the box, as a legend, and the transform that
-// fits the path into the area, in a style of its own. Each function stores its text from n on.
-use picture_fit::Counts;
+// What is known of a picture only at its end: the counts and the box, as a legend, and the transform that fits the path into
+// the area, in a style of its own. Each function stores its text from n on.
 use picture_fit::Fit;
-use picture_fit::Frame;
-use picture_fit::Plane;
 use picture_fit::Scale;
-use picture_fit::Span;
 use picture_fit::fit_of;
-use picture_fit::is_empty;
+use picture_fixed::put_close;
 use picture_piece::put_text;
 use picture_piece::then_axis;
 use picture_piece::then_count;
 use picture_piece::then_length;
 use picture_piece::then_scale;
 use picture_place::across;
+use picture_span::Counts;
+use picture_span::Frame;
+use picture_span::Plane;
+use picture_span::Span;
+use picture_span::is_empty;
 ghost use Prim.Native.Nat.{_+_, _≤_, _<_};
 ghost use lib.ListN.{length};
 ghost use Rattle.picture_fit.specs.Fit.{mostScale, Small};
 ghost use Rattle.picture_piece.specs.Grew.{Grew};
 ghost use Rattle.picture_text.specs.Rooms.{rangeRoom, frameRoom, scalesRoom, cornerRoom, fitRoom};
-ghost use Rattle.picture_text.specs.Rooms.{legendRoom, knownRoom, closeRoom, startRoom, endRoom};
-
-// ---- the start
-// Everything before the first path.
-pub fn put_start(out: &mut [u8], n: usize) -> usize
-    requires { ⌜ n + startRoom ≤ length (now out) ⌝ }
-    ensures { λ r. ⌜ Grew (now (out .entry)) n startRoom (now (out .exit)) r ⌝ }
-{
-    put_text(
-        out,
-        n,
-        b"<svg xmlns='http://www.w3.org/2000/svg' viewBox='0 0 1000 1000'>\n<style>\ntext { font: 16px sans-serif }\n\
-        path { fill: none; stroke-linejoin: round; vector-effect: non-scaling-stroke }\n\
-        .r { stroke: #999999; stroke-width: 1.5 }\n\
-        .f { stroke: #0072b2; stroke-width: 1.5 }\n\
-        .s { stroke: #e69f00; stroke-width: 2 }\n\
-        .c { stroke: #c0007a; stroke-width: 2.5; stroke-dasharray: 8 4 }\n\
-        </style>\n<rect width='1000' height='1000' fill='#fff'/>\n<g id='p'>\n",
-    )
-}
+ghost use Rattle.picture_text.specs.Rooms.{legendRoom, knownRoom, endRoom};
 
 // ---- the legend
 // The paths' end and the counts; the last entry is ended by what stands behind it.
@@ -153,21 +135,6 @@ fn put_known(out: &mut [u8], n: usize, plane: Plane, frame: Frame) -> usize
     }
     let up = frame.up;
     put_box(out, n, plane, across, up)
-}
-
-// The end, with a word that the picture is not whole, where it is not.
-fn put_close(out: &mut [u8], n: usize, whole: bool) -> usize
-    requires { ⌜ n + closeRoom ≤ length (now out) ⌝ }
-    ensures { λ r. ⌜ Grew (now (out .entry)) n closeRoom (now (out .exit)) r ⌝ }
-{
-    if whole {
-        return put_text(out, n, b"</svg>\n");
-    }
-    put_text(
-        out,
-        n,
-        b"<text x='30' y='970' fill='#c00'>NOT WHOLE: the input could not be read to its end</text>\n</svg>\n",
-    )
 }
 
 // Everything behind the last path.

@@ -5,7 +5,7 @@ use curve_runs::runs::prepare;
 use curve_runs::runs::write_runs;
 use curve_walk::Form;
 use curve_walk::Kept;
-use spline_channels::channels_of;
+use spline_adding::channels_of;
 use spline_gather::points_of;
 use spline_job::Curve;
 use spline_job::Job;

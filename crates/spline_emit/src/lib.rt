@@ -3,7 +3,7 @@ use fit_slopes::sizes::SMALL_POINTS;
 use fit_tables::FEW_CHANNELS;
 use layout::AXIS_CODES;
 use layout::MOST_POINTS;
-use spline_channels::channels_of;
+use spline_adding::channels_of;
 use spline_emission::memory::emit_large;
 use spline_emission::memory::emit_middle;
 use spline_emission::memory::emit_most;

@@ -1,5 +1,5 @@
 -- `checksum::eight_steps` meets its contract. Assumes nothing.
-use Rattle.checksum.proofs.Looking.{steps-none, steps-more}
+use Rattle.checksum.proofs.Stepping.{steps-none, steps-more}
 use Rattle.checksum.specs.Checksum.{steps}
 use native.Mathlib.Omega.{arith}
 use mathlib.Core.Path.{_≡_}

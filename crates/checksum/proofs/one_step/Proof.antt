@@ -1,5 +1,5 @@
 -- `checksum::one_step` meets its contract. Assumes nothing.
-use Rattle.checksum.proofs.Looking.{step-bare, step-top}
+use Rattle.checksum.proofs.Stepping.{step-bare, step-top}
 use borrow.Author.Needs.{needs}
 use Rattle.checksum.proofs.one_step.Statement.{statement}
 use Rattle.checksum.proofs.one_step.Tie as tie

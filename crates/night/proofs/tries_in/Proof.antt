@@ -28,9 +28,6 @@ tally-for-requires c κs = search needs
 one-try-requires : tie.Need-one-try-requires Inv-loop μ-loop
 one-try-requires c κs = search needs
 
-passed-over-requires : tie.Need-passed-over-requires Inv-loop μ-loop
-passed-over-requires c κs = search needs
-
 sub-turns : tie.Need-sub-turns Inv-loop μ-loop
 sub-turns c = omega arith
 
@@ -54,7 +51,6 @@ tries-in-spec =
     returns
     tally-for-requires
     one-try-requires
-    passed-over-requires
     sub-turns
     loop-less
     loop-again

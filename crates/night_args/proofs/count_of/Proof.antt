@@ -3,7 +3,7 @@ use Prim.Native.Nat.{_-_, _+_}
 use native.Mathlib.Omega.{arith}
 use lib.ListN.{length}
 use Rattle.row_cells.specs.Tested.{passed, failed}
-use Rattle.night_args.proofs.Reading.{Counting, counts-none, counts-more, counts-bad, counts-over, counts-all}
+use Rattle.night_args.proofs.Counting.{Counting, counts-none, counts-more, counts-bad, counts-over, counts-all}
 use Rattle.night_args.specs.FieldLaws.{near-end}
 use borrow.Author.Needs.{needs}
 use Rattle.night_args.proofs.count_of.Statement.{statement}

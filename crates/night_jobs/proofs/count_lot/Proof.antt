@@ -6,7 +6,9 @@ use lib.Dec.{eqb}
 use lib.ListN.{length, getD}
 use Rattle.tally_words.specs.Words.{countIf, bit}
 use Rattle.tally_words.specs.Counting.{count-step, count-small, bit-small}
-use Rattle.night_jobs.specs.Jobs.{triesOf, lotOf, countLot}
+use Rattle.night_tried.specs.Tried.{triesOf}
+use Rattle.night_lots.specs.Lot.{lotOf}
+use Rattle.night_jobs.specs.Jobs.{countLot}
 use borrow.Author.Needs.{needs}
 use Rattle.night_jobs.proofs.count_lot.Statement.{statement}
 use Rattle.night_jobs.proofs.count_lot.Tie as tie

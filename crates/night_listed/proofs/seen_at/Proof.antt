@@ -1,6 +1,6 @@
 -- `night_listed::seen_at` meets its contract. Assumes nothing.
 use mathlib.Core.Path.{refl}
-use Rattle.night_listed.proofs.Listing.{row-seen}
+use Rattle.night_listed.proofs.Walking.{row-seen}
 use borrow.Author.Needs.{needs}
 use Rattle.night_listed.proofs.seen_at.Statement.{statement}
 use Rattle.night_listed.proofs.seen_at.Tie as tie

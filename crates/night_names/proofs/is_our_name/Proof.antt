@@ -1,6 +1,6 @@
 -- `night_names::is_our_name` meets its contract. Assumes nothing.
 use mathlib.Core.Path.{sym, _∙_}
-use Rattle.night_args.specs.Comparing.{is-same}
+use Rattle.night_path.specs.Comparing.{is-same}
 use Rattle.night_names.proofs.Naming.{is-tries, is-curved, is-rows}
 use borrow.Author.Needs.{needs}
 use Rattle.night_names.proofs.is_our_name.Statement.{statement}

@@ -4,7 +4,7 @@ use Prim.Native.Nat.{_-_}
 use native.Mathlib.Omega.{arith}
 use lib.ListN.{length}
 use Rattle.night_args.specs.FieldLaws.{near-end}
-use Rattle.night_table.specs.Table.{columns}
+use Rattle.night_columns.specs.Columns.{columns}
 use Rattle.night_table.proofs.Taking.{Reading, reads-none, reads-more, reads-bad, reads-short, reads-long, reads-all}
 use borrow.Author.Needs.{needs}
 use Rattle.night_table.proofs.read_line.Statement.{statement}

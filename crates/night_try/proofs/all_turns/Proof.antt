@@ -1,7 +1,7 @@
 -- `night_try::all_turns` meets its contract. Assumes nothing.
 use native.Mathlib.Omega.{arith}
-use Rattle.night_calls.specs.Steps.{slices}
-use Rattle.night_try.specs.TurnLaws.{Stands, first-stands, stands-on}
+use Rattle.night_turns.specs.Steps.{slices}
+use Rattle.night_turns.specs.TurnLaws.{Stands, first-stands, stands-on}
 use borrow.Author.Needs.{needs}
 use Rattle.night_try.proofs.all_turns.Statement.{statement}
 use Rattle.night_try.proofs.all_turns.Tie as tie

@@ -1,129 +1,102 @@
 -- `night_try::done` meets its contract. Assumes nothing.
-use Rattle.night_calls.specs.StepLaws.{nothing-done}
-use Rattle.night_try.specs.TurnLaws.{deed-as}
+use Rattle.night_deed.specs.DeedLaws.{deed-done, first-room, heard-room, again-room}
+use Rattle.night_turns.specs.TurnLaws.{light-room}
 use borrow.Author.Needs.{needs}
 use Rattle.night_try.proofs.done.Statement.{statement}
 use Rattle.night_try.proofs.done.Tie as tie
 
-enum-told : tie.Need-enum-told
-enum-told c = search needs
+slice-aggregate-turn-asks : tie.Need-slice-aggregate-turn-asks
+slice-aggregate-turn-asks c = search needs
 
-take-line-requires : tie.Need-take-line-requires
-take-line-requires c κs = search needs
+turn-asks-requires : tie.Need-turn-asks-requires
+turn-asks-requires c κs =
+    let start = c .before .before .before .before in
+    (search (needs, start .pre .0), (search needs, search (needs, start .pre .1, c .turn-asks-arg3 .given)))
 
-enum-told-2 : tie.Need-enum-told-2
-enum-told-2 c = search needs
+replied-requires : tie.Need-replied-requires
+replied-requires c κs = search needs
 
-enum-told-3 : tie.Need-enum-told-3
-enum-told-3 c = search needs
+slice-aggregate-heard : tie.Need-slice-aggregate-heard
+slice-aggregate-heard c = search needs
 
-finish-requires : tie.Need-finish-requires
-finish-requires c κs = search needs
+heard-requires : tie.Need-heard-requires
+heard-requires c κs =
+    let at-heard-arg4 = c .before in
+    let at-heard-arg2 = at-heard-arg4 .before .before in
+    let at-replied = at-heard-arg2 .before .before .before in
+    let at-row2 = at-replied .before .before .before .before .before in
+    let at-turn-asks = at-row2 .before in
+    let start = at-turn-asks .before .before .before .before .before in
+    heard-room
+    (first-room
+    (light-room (start .pre .1)
+    (search (needs, at-heard-arg2 .heard-arg2 .given))
+    (search (needs, at-heard-arg4 .heard-arg4 .given))
+    (search (needs, c .heard-arg5 .given)))
+    (at-turn-asks .turn-asks .ensures .by))
+    (at-replied .replied .ensures .few)
+    (search (needs, at-row2 .row2 .given))
 
-enum-told-4 : tie.Need-enum-told-4
-enum-told-4 c = search needs
+again-due-requires : tie.Need-again-due-requires
+again-due-requires c κs = search needs
 
-too-long-requires : tie.Need-too-long-requires
-too-long-requires c κs = search needs
+replied-requires-2 : tie.Need-replied-requires-2
+replied-requires-2 c κs = search needs
 
-enum-told-5 : tie.Need-enum-told-5
-enum-told-5 c = search needs
+slice-aggregate-heard-2 : tie.Need-slice-aggregate-heard-2
+slice-aggregate-heard-2 c =
+    let at-replied = c .before .before .before .before .before .before .before .before .before .before .before .before .before .before in
+    let at-row2 = at-replied .before .before .before .before .before in
+    search (needs, at-row2 .row2 .given)
 
-same-length : tie.Need-same-length
-same-length c = search needs
-
-same-length-2 : tie.Need-same-length-2
-same-length-2 c = search needs
-
-same-length-3 : tie.Need-same-length-3
-same-length-3 c = search needs
-
-same-length-4 : tie.Need-same-length-4
-same-length-4 c = search needs
-
-same-length-5 : tie.Need-same-length-5
-same-length-5 c = search needs
-
-same-length-6 : tie.Need-same-length-6
-same-length-6 c = search needs
+heard-requires-2 : tie.Need-heard-requires-2
+heard-requires-2 c κs =
+    let at-heard-arg9 = c .before in
+    let at-heard-arg7 = at-heard-arg9 .before .before in
+    let at-replied2 = at-heard-arg7 .before .before .before in
+    let at-again-due = at-replied2 .before .before .before .before .before in
+    let at-heard = at-again-due .before in
+    let at-replied = at-heard .before .before .before .before .before .before .before in
+    let at-row2 = at-replied .before .before .before .before .before in
+    let at-turn-asks = at-row2 .before in
+    let start = at-turn-asks .before .before .before .before .before in
+    heard-room
+    (again-room _
+    (first-room
+    (light-room (start .pre .1)
+    (search (needs, at-heard-arg7 .heard-arg7 .given))
+    (search (needs, at-heard-arg9 .heard-arg9 .given))
+    (search (needs, c .heard-arg10 .given)))
+    (at-turn-asks .turn-asks .ensures .by))
+    ((at-heard .heard .ensures .step) _ _ _ _ _ (at-replied .replied .ensures)) (at-again-due .again-due .ensures))
+    (at-replied2 .replied2 .ensures .few)
+    (search (needs, at-row2 .row2 .given))
 
 returns : tie.Need-returns
 returns c =
-    let at-take-line = c .before .before .before .before .before .before .before .before .before .before .before .before in
-    let at-enum-told = at-take-line .before .before .before .before .before .before .before in
-    deed-as (at-enum-told .enum-told .given .1) (record { step = (at-take-line .take-line .ensures) })
-
-returns-2 : tie.Need-returns-2
-returns-2 c =
-    let start = c .before .before .before .before .before .before .before .before .before in
-    deed-as (c .enum-told2 .given .1) (record { step = nothing-done _ _ (start .pre .1 .sound) })
-
-same-length-7 : tie.Need-same-length-7
-same-length-7 c = search needs
-
-same-length-8 : tie.Need-same-length-8
-same-length-8 c = search needs
-
-same-length-9 : tie.Need-same-length-9
-same-length-9 c = search needs
-
-same-length-10 : tie.Need-same-length-10
-same-length-10 c = search needs
-
-same-length-11 : tie.Need-same-length-11
-same-length-11 c = search needs
-
-same-length-12 : tie.Need-same-length-12
-same-length-12 c = search needs
-
-returns-3 : tie.Need-returns-3
-returns-3 c =
-    let at-finish = c .before .before .before .before .before .before .before .before .before .before in
-    let at-enum-told3 = at-finish .before .before .before .before .before .before .before in
-    deed-as (at-enum-told3 .enum-told3 .given .1) (record { step = (at-finish .finish .ensures) })
-
-same-length-13 : tie.Need-same-length-13
-same-length-13 c = search needs
-
-returns-4 : tie.Need-returns-4
-returns-4 c =
-    let at-too-long = c .before .before in
-    let at-enum-told4 = at-too-long .before .before in
-    let start = at-enum-told4 .before .before .before .before .before .before .before .before .before in
-    deed-as (at-enum-told4 .enum-told4 .given .1) (record { step = (at-too-long .too-long .ensures .step) _ _ _ _ _ (start .pre .1 .sound) })
-
-returns-5 : tie.Need-returns-5
-returns-5 c =
-    let start = c .before .before .before .before .before .before .before .before .before in
-    deed-as (c .enum-told5 .given .1) (record { step = nothing-done _ _ (start .pre .1 .sound) })
+    let at-replied2 = c .before .before .before .before .before .before .before in
+    let at-again-due = at-replied2 .before .before .before .before .before in
+    let at-heard = at-again-due .before in
+    let at-replied = at-heard .before .before .before .before .before .before .before in
+    let at-turn-asks = at-replied .before .before .before .before .before .before in
+    let start = at-turn-asks .before .before .before .before .before in
+    record {
+      step =
+          deed-done (start .pre .1 .sound) (at-turn-asks .turn-asks .ensures .by) (at-replied .replied .ensures) (at-heard .heard .ensures)
+          (at-again-due .again-due .ensures) (at-replied2 .replied2 .ensures) (c .heard2 .ensures);
+    }
 
 pub done-spec : {M : Type 1} → statement M
 done-spec =
     tie.close
     (tie.spec
-    enum-told
-    take-line-requires
-    enum-told-2
-    enum-told-3
-    finish-requires
-    enum-told-4
-    too-long-requires
-    enum-told-5
-    same-length
-    same-length-2
-    same-length-3
-    same-length-4
-    same-length-5
-    same-length-6
-    returns
-    returns-2
-    same-length-7
-    same-length-8
-    same-length-9
-    same-length-10
-    same-length-11
-    same-length-12
-    returns-3
-    same-length-13
-    returns-4
-    returns-5)
+    slice-aggregate-turn-asks
+    turn-asks-requires
+    replied-requires
+    slice-aggregate-heard
+    heard-requires
+    again-due-requires
+    replied-requires-2
+    slice-aggregate-heard-2
+    heard-requires-2
+    returns)

@@ -2,7 +2,7 @@
 use mathlib.Core.Path.{_≡_}
 use native.Mathlib.Omega.{arith}
 use Rattle.csv_status.specs.Status.{goesOn}
-use Rattle.night_try.specs.TurnLaws.{left-room, turn-did, turn-stopped}
+use Rattle.night_turns.specs.TurnLaws.{left-light, turn-did, turn-stopped}
 use borrow.Author.Needs.{needs}
 use Rattle.night_try.proofs.step.Statement.{statement}
 use Rattle.night_try.proofs.step.Tie as tie
@@ -18,30 +18,20 @@ returns c =
 
 done-requires : tie.Need-done-requires
 done-requires c κs =
-    let at-done-arg7 = c .before in
-    let at-done-arg5 = at-done-arg7 .before .before in
-    let at-done-arg2 = at-done-arg5 .before .before .before in
-    let at-done-arg = at-done-arg2 .before in
+    let at-done-arg = c .before .before .before .before .before .before in
     let at-if1 = at-done-arg .before .before in
     let at-next-found = at-if1 .before .before .before in
     let start = at-next-found .before .before .before .before .before .before in
     let on : (at-next-found .next-found .result .over) ≡ goesOn = omega (arith, (at-if1 .if1)) in
     let ready = (at-next-found .next-found .ensures) in
     let turned = ready .turned on in (
-      record {
-        start = turned .start;
-        window = turned .window;
-        inside = search (needs, turned, at-done-arg .done-arg .given, at-done-arg2 .done-arg2 .given);
-      },
-      left-room ready (start .pre .0 .sound)
-          (search (needs, at-done-arg5 .done-arg5 .given))
-          (search (needs, at-done-arg7 .done-arg7 .given))
-          (search (needs, c .done-arg8 .given)),
+      record { start = turned .start; window = turned .window; inside = search (needs, turned, at-done-arg .done-arg .given) },
+      left-light ready (start .pre .0 .sound),
     )
 
 behind-requires : tie.Need-behind-requires
 behind-requires c κs =
-    let at-if1 = c .before .before .before .before .before .before .before .before .before .before .before .before in
+    let at-if1 = c .before .before .before .before .before .before .before .before .before .before .before in
     let at-next-found = at-if1 .before .before .before in
     let start = at-next-found .before .before .before .before .before .before in
     let on : (at-next-found .next-found .result .over) ≡ goesOn = omega (arith, (at-if1 .if1)) in
@@ -50,7 +40,7 @@ behind-requires c κs =
 returns-2 : tie.Need-returns-2
 returns-2 c =
     let at-done = c .before .before .before in
-    let at-if1 = at-done .before .before .before .before .before .before .before .before .before .before in
+    let at-if1 = at-done .before .before .before .before .before .before .before .before .before in
     let at-next-found = at-if1 .before .before .before in
     let at-next-found-arg5 = at-next-found .before in
     let at-next-found-arg4 = at-next-found-arg5 .before in

@@ -1,7 +1,8 @@
 -- `picture_fit::drawn` meets its contract. Assumes nothing.
 use native.Mathlib.Omega.{arith}
 use Rattle.picture_fit.specs.Fit.{drawn}
-use Rattle.picture_fit.specs.FitLaws.{lower-second, product-small}
+use Rattle.picture_span.specs.SpanLaws.{lower-second}
+use Rattle.picture_fit.specs.FitLaws.{product-small}
 use borrow.Author.Needs.{needs}
 use Rattle.picture_fit.proofs.drawn.Statement.{statement}
 use Rattle.picture_fit.proofs.drawn.Tie as tie

@@ -1,5 +1,5 @@
 -- `picture_run::all_turns` meets its contract. Assumes nothing.
-use Rattle.picture_run.specs.Room.{Within}
+use Rattle.picture_run.specs.Pages.{Within}
 use borrow.Author.Needs.{needs}
 use Rattle.picture_run.proofs.all_turns.Statement.{statement}
 use Rattle.picture_run.proofs.all_turns.Tie as tie

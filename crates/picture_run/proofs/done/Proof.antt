@@ -20,20 +20,11 @@ reads-on-requires c κs = search needs
 only-read-requires : tie.Need-only-read-requires
 only-read-requires c κs = search needs
 
-enum-told-3 : tie.Need-enum-told-3
-enum-told-3 c = search needs
-
 finish-requires : tie.Need-finish-requires
 finish-requires c κs = search needs
 
-enum-told-4 : tie.Need-enum-told-4
-enum-told-4 c = search needs
-
-finish-requires-2 : tie.Need-finish-requires-2
-finish-requires-2 c κs = search needs
-
-enum-told-5 : tie.Need-enum-told-5
-enum-told-5 c = search needs
+enum-told-3 : tie.Need-enum-told-3
+enum-told-3 c = search needs
 
 fails-requires : tie.Need-fails-requires
 fails-requires c κs = search needs
@@ -51,10 +42,7 @@ returns-3 : tie.Need-returns-3
 returns-3 c = search needs
 
 returns-4 : tie.Need-returns-4
-returns-4 c = search needs
-
-returns-5 : tie.Need-returns-5
-returns-5 c = behind-kept _ ((c .only-read2 .ensures) ∙ (c .before .fails .ensures .0)) (kept-same _)
+returns-4 c = behind-kept _ ((c .only-read2 .ensures) ∙ (c .before .fails .ensures .0)) (kept-same _)
 
 pub done-spec : {M : Type 1} → statement M
 done-spec =
@@ -65,15 +53,11 @@ done-spec =
     enum-told-2
     reads-on-requires
     only-read-requires
-    enum-told-3
     finish-requires
-    enum-told-4
-    finish-requires-2
-    enum-told-5
+    enum-told-3
     fails-requires
     only-read-requires-2
     returns
     returns-2
     returns-3
-    returns-4
-    returns-5)
+    returns-4)

@@ -1,0 +1,2 @@
+mod Linear
+mod Looking

@@ -1,0 +1,2 @@
+pub mod PointText
+pub mod PointLaws
