@@ -145,8 +145,8 @@ fn eval_most(
     eval_in(ks, cw, n, p, ch, t, wide, &mut d)
 }
 
-// The point at t in work memory for so many cells. It calls itself so that each memory has a frame of its own (crate
-// spline_emit).
+// The point at t in large work memory, for so many cells. It calls itself so that each memory has a frame of its own (crate
+// spline_emit); the two small ones are in their caller's, which is quicker.
 fn eval_for(
     cells: usize,
     ks: &[f64],
@@ -162,12 +162,6 @@ fn eval_for(
     requires { ⌜ (p + 1) * wide ≤ cells ⌝ }
     ensures { λ r. ⌜ r ≡ filled (curveAt (now (ks .entry)) (now (cw .entry)) n p ch t) ch (replicate widest f0) ⌝ }
 {
-    if cells <= FEW {
-        return eval_few(ks, cw, n, p, ch, t, wide);
-    }
-    if cells <= SOME {
-        return eval_some(ks, cw, n, p, ch, t, wide);
-    }
     if cells <= MANY {
         return eval_many(ks, cw, n, p, ch, t, wide);
     }
@@ -183,6 +177,12 @@ fn eval_high(ks: &[f64], cw: &[f64], n: usize, p: usize, ch: usize, t: f64) -> [
 {
     let wide = row_width(ch);
     let cells = (p + 1) * wide;
+    if cells <= FEW {
+        return eval_few(ks, cw, n, p, ch, t, wide);
+    }
+    if cells <= SOME {
+        return eval_some(ks, cw, n, p, ch, t, wide);
+    }
     eval_for(cells, ks, cw, n, p, ch, t, wide)
 }
 

@@ -8,10 +8,8 @@ use borrow.Fn.PlainCycle.{Measures, is, falls, and}
 use Rattle.bspline_point.proofs.eval_for.Reads as eval-for
 use Rattle.bspline_point.proofs.eval_for.Kinds as eval-for-kinds
 use Rattle.bspline_point.proofs.+eval_for.Lts-eval_for as eval-for-lts
-use Rattle.bspline_point.proofs.eval_few.Reads as eval-few-reads
 use Rattle.bspline_point.proofs.eval_many.Reads as eval-many-reads
 use Rattle.bspline_point.proofs.eval_most.Reads as eval-most-reads
-use Rattle.bspline_point.proofs.eval_some.Reads as eval-some-reads
 use Rattle.bspline_point.proofs.+eval_for.{statement}
 use Rattle.bspline_point.proofs.+eval_for.Tie.{close}
 
@@ -25,11 +23,7 @@ abbrev eval-for-below : ℕ → In 2 eval-for-kinds.ps
 eval-for-below t =
     and 2 eval-for-kinds.ps (falls 2 eval-for-kinds.ps _<_ μ-eval-for t) eval-for.Pre
 
-eval-for-eval-few-requires : (t : ℕ) → eval-for-lts.Need-eval-few-requires (
-  eval-few-reads.Asked,
-  eval-few-reads.Learnt,
-  eval-some-reads.Asked,
-  eval-some-reads.Learnt,
+eval-for-eval-many-requires : (t : ℕ) → eval-for-lts.Need-eval-many-requires (
   eval-many-reads.Asked,
   eval-many-reads.Learnt,
   eval-most-reads.Asked,
@@ -37,15 +31,11 @@ eval-for-eval-few-requires : (t : ℕ) → eval-for-lts.Need-eval-few-requires (
   eval-for-below t,
   eval-for.Post,
 ) (eval-for-at t) eval-for.Post
-eval-for-eval-few-requires t c κs =
+eval-for-eval-many-requires t c κs =
     let pre = c .before .before .before .pre .1 in
     (pre .0, (pre .1 .0, omega (arith, pre .1 .1)))
 
 eval-for-returns : (t : ℕ) → eval-for-lts.Need-returns (
-  eval-few-reads.Asked,
-  eval-few-reads.Learnt,
-  eval-some-reads.Asked,
-  eval-some-reads.Learnt,
   eval-many-reads.Asked,
   eval-many-reads.Learnt,
   eval-most-reads.Asked,
@@ -55,71 +45,7 @@ eval-for-returns : (t : ℕ) → eval-for-lts.Need-returns (
 ) (eval-for-at t) eval-for.Post
 eval-for-returns t c = search needs
 
-eval-for-eval-some-requires : (t : ℕ) → eval-for-lts.Need-eval-some-requires (
-  eval-few-reads.Asked,
-  eval-few-reads.Learnt,
-  eval-some-reads.Asked,
-  eval-some-reads.Learnt,
-  eval-many-reads.Asked,
-  eval-many-reads.Learnt,
-  eval-most-reads.Asked,
-  eval-most-reads.Learnt,
-  eval-for-below t,
-  eval-for.Post,
-) (eval-for-at t) eval-for.Post
-eval-for-eval-some-requires t c κs =
-    let pre = c .before .before .before .before .pre .1 in
-    (pre .0, (pre .1 .0, omega (arith, pre .1 .1)))
-
-eval-for-returns-2 : (t : ℕ) → eval-for-lts.Need-returns-2 (
-  eval-few-reads.Asked,
-  eval-few-reads.Learnt,
-  eval-some-reads.Asked,
-  eval-some-reads.Learnt,
-  eval-many-reads.Asked,
-  eval-many-reads.Learnt,
-  eval-most-reads.Asked,
-  eval-most-reads.Learnt,
-  eval-for-below t,
-  eval-for.Post,
-) (eval-for-at t) eval-for.Post
-eval-for-returns-2 t c = search needs
-
-eval-for-eval-many-requires : (t : ℕ) → eval-for-lts.Need-eval-many-requires (
-  eval-few-reads.Asked,
-  eval-few-reads.Learnt,
-  eval-some-reads.Asked,
-  eval-some-reads.Learnt,
-  eval-many-reads.Asked,
-  eval-many-reads.Learnt,
-  eval-most-reads.Asked,
-  eval-most-reads.Learnt,
-  eval-for-below t,
-  eval-for.Post,
-) (eval-for-at t) eval-for.Post
-eval-for-eval-many-requires t c κs =
-    let pre = c .before .before .before .before .before .pre .1 in
-    (pre .0, (pre .1 .0, omega (arith, pre .1 .1)))
-
-eval-for-returns-3 : (t : ℕ) → eval-for-lts.Need-returns-3 (
-  eval-few-reads.Asked,
-  eval-few-reads.Learnt,
-  eval-some-reads.Asked,
-  eval-some-reads.Learnt,
-  eval-many-reads.Asked,
-  eval-many-reads.Learnt,
-  eval-most-reads.Asked,
-  eval-most-reads.Learnt,
-  eval-for-below t,
-  eval-for.Post,
-) (eval-for-at t) eval-for.Post
-eval-for-returns-3 t c = search needs
-
 eval-for-eval-most-requires : (t : ℕ) → eval-for-lts.Need-eval-most-requires (
-  eval-few-reads.Asked,
-  eval-few-reads.Learnt,
-  eval-some-reads.Asked,
-  eval-some-reads.Learnt,
   eval-many-reads.Asked,
   eval-many-reads.Learnt,
   eval-most-reads.Asked,
@@ -129,11 +55,7 @@ eval-for-eval-most-requires : (t : ℕ) → eval-for-lts.Need-eval-most-requires
 ) (eval-for-at t) eval-for.Post
 eval-for-eval-most-requires t c κs = search needs
 
-eval-for-returns-4 : (t : ℕ) → eval-for-lts.Need-returns-4 (
-  eval-few-reads.Asked,
-  eval-few-reads.Learnt,
-  eval-some-reads.Asked,
-  eval-some-reads.Learnt,
+eval-for-returns-2 : (t : ℕ) → eval-for-lts.Need-returns-2 (
   eval-many-reads.Asked,
   eval-many-reads.Learnt,
   eval-most-reads.Asked,
@@ -141,13 +63,9 @@ eval-for-returns-4 : (t : ℕ) → eval-for-lts.Need-returns-4 (
   eval-for-below t,
   eval-for.Post,
 ) (eval-for-at t) eval-for.Post
-eval-for-returns-4 t c = search needs
+eval-for-returns-2 t c = search needs
 
 eval-for-sub-eval-for : (t : ℕ) → eval-for-lts.Need-sub-eval-for (
-  eval-few-reads.Asked,
-  eval-few-reads.Learnt,
-  eval-some-reads.Asked,
-  eval-some-reads.Learnt,
   eval-many-reads.Asked,
   eval-many-reads.Learnt,
   eval-most-reads.Asked,
@@ -158,10 +76,6 @@ eval-for-sub-eval-for : (t : ℕ) → eval-for-lts.Need-sub-eval-for (
 eval-for-sub-eval-for t c = search needs
 
 eval-for-eval-for-requires : (t : ℕ) → eval-for-lts.Need-eval-for-requires (
-  eval-few-reads.Asked,
-  eval-few-reads.Learnt,
-  eval-some-reads.Asked,
-  eval-some-reads.Learnt,
   eval-many-reads.Asked,
   eval-many-reads.Learnt,
   eval-most-reads.Asked,
@@ -170,17 +84,13 @@ eval-for-eval-for-requires : (t : ℕ) → eval-for-lts.Need-eval-for-requires (
   eval-for.Post,
 ) (eval-for-at t) eval-for.Post
 eval-for-eval-for-requires t c κs =
-    let start = c .before .before .before .before .before .before in
+    let start = c .before .before .before .before in
     let pre = start .pre in
     let asked = pre .1 in
     let cells = cells-in (start .args .p) (start .args .wide) (omega (arith, asked .0 .under, asked .0 .few)) (asked .1 .0 .0 .few) in
     (omega (arith, pre .0), (asked .0, (asked .1 .0, omega (arith, cells))))
 
-eval-for-returns-5 : (t : ℕ) → eval-for-lts.Need-returns-5 (
-  eval-few-reads.Asked,
-  eval-few-reads.Learnt,
-  eval-some-reads.Asked,
-  eval-some-reads.Learnt,
+eval-for-returns-3 : (t : ℕ) → eval-for-lts.Need-returns-3 (
   eval-many-reads.Asked,
   eval-many-reads.Learnt,
   eval-most-reads.Asked,
@@ -188,14 +98,10 @@ eval-for-returns-5 : (t : ℕ) → eval-for-lts.Need-returns-5 (
   eval-for-below t,
   eval-for.Post,
 ) (eval-for-at t) eval-for.Post
-eval-for-returns-5 t c = search needs
+eval-for-returns-3 t c = search needs
 
 pub +eval-for-spec : {M : Type 1} → statement M
 +eval-for-spec = close μ-eval-for λ t. eval-for-lts.spec (
-  eval-few-reads.Asked,
-  eval-few-reads.Learnt,
-  eval-some-reads.Asked,
-  eval-some-reads.Learnt,
   eval-many-reads.Asked,
   eval-many-reads.Learnt,
   eval-most-reads.Asked,
@@ -205,14 +111,10 @@ pub +eval-for-spec : {M : Type 1} → statement M
 )
     (eval-for-at t)
     eval-for.Post
-    (eval-for-eval-few-requires t)
-    (eval-for-returns t)
-    (eval-for-eval-some-requires t)
-    (eval-for-returns-2 t)
     (eval-for-eval-many-requires t)
-    (eval-for-returns-3 t)
+    (eval-for-returns t)
     (eval-for-eval-most-requires t)
-    (eval-for-returns-4 t)
+    (eval-for-returns-2 t)
     (eval-for-sub-eval-for t)
     (eval-for-eval-for-requires t)
-    (eval-for-returns-5 t)
+    (eval-for-returns-3 t)
