@@ -3,7 +3,7 @@
 //! All lent memory stands between canary words. After each call the number, the state, the store, the row places
 //! beyond those written, and every canary are held against the model; a reply of 7 is asked again with one place or
 //! one word too few and with just enough. An emission whose tolerance is tiny against its numbers would run for
-//! minutes, as it may: such a call is not made, and is counted.
+//! minutes, as it may: such a call is not made, and is counted. A long run must have met every bound of BOUNDS.
 
 mod model;
 #[path = "../../hosts/rust/src/raw.rs"]
@@ -139,6 +139,9 @@ fn check(case: &Case, tally: &mut Tally) {
         return;
     }
     let (reply, state, store, rows) = run(case);
+    for (name, is_met) in BOUNDS {
+        *tally.met.entry(name).or_default() += u64::from(is_met(case, &reply));
+    }
     let places = (case.row_words / ROW) as u64;
     tally.codes[reply.code.min(10) as usize] += 1;
     if want.code != 0 || reply.code == 7 {
@@ -211,6 +214,171 @@ struct Tally {
     rows: u64,
     asked_again: u64,
     left_out: u64,
+    met: std::collections::BTreeMap<&'static str, u64>,
+}
+
+// ---- what a long run must meet: the bounds of 2, 4 and 9, on either side
+
+type Bound = (&'static str, fn(&Case, &Reply) -> bool);
+
+const LAST_CODE: u64 = LISTED as u64 - 1;
+/// N, the first code behind the axes: no position has its bit.
+const FIRST_RIDER: usize = AXES;
+const LAST_BIT: usize = CELLS - 1;
+const COUNT: usize = 1;
+
+const BOUNDS: [Bound; 30] = [
+    ("start: a list as long as it may be", |case, reply| reply.code == 0 && listed(case, |list| list.len() == LISTED)),
+    ("start: a list one longer", |case, reply| reply.code == 2 && listed(case, is_one_longer)),
+    ("start: the last code", |case, reply| reply.code == 0 && listed(case, |list| list.contains(&LAST_CODE))),
+    ("start: a code one higher", |case, reply| reply.code == 2 && listed(case, |list| only_fault(list, LAST_CODE + 1))),
+    ("start: a code two higher", |case, reply| reply.code == 2 && listed(case, |list| only_fault(list, LAST_CODE + 2))),
+    ("seed: the last axis", |case, reply| reply.code == 0 && is_seed(case, AXES as u64 - 1)),
+    ("seed: the last code", |case, reply| reply.code == 0 && is_seed(case, LAST_CODE)),
+    ("seed: a code one higher", |case, reply| reply.code == 2 && is_seed(case, LAST_CODE + 1)),
+    ("seed: a code two higher", |case, reply| reply.code == 2 && is_seed(case, LAST_CODE + 2)),
+    ("row: the last bit", |case, reply| reply.code == 0 && pushed(case, |row| row[PRESENT] >> LAST_BIT == 1)),
+    ("row: a bit one higher", |case, reply| reply.code == 4 && pushed(case, |row| only_bit(row, LAST_BIT + 1))),
+    ("row: a bit two higher or more", |case, reply| {
+        reply.code == 4 && pushed(case, |row| (LAST_BIT + 2..64).any(|k| only_bit(row, k)))
+    }),
+    ("row: as long as before", |case, reply| reply.code == 4 && pushed(case, |row| row.len() == ROW_BEFORE)),
+    ("row: a word short", |case, reply| reply.code == 4 && pushed(case, |row| row.len() == ROW - 1)),
+    ("row: a word long", |case, reply| reply.code == 4 && pushed(case, |row| row.len() == ROW + 1)),
+    ("start: a state of before", |case, reply| is_state_before(case, reply) && matches!(case.call, Call::Start(..))),
+    ("seed: a state of before", |case, reply| is_state_before(case, reply) && matches!(case.call, Call::Seed(..))),
+    ("push: a state of before", |case, reply| is_state_before(case, reply) && matches!(case.call, Call::Push(_))),
+    ("close: a state of before", |case, reply| is_state_before(case, reply) && matches!(case.call, Call::Close)),
+    ("state: a word short", |case, reply| reply.code == 9 && is_state_of(case, STATE - 1)),
+    ("state: a word long", |case, reply| reply.code == 9 && is_state_of(case, STATE + 1)),
+    ("state: a list as long as it may be", |case, reply| read(case, reply) && case.state[COUNT] == LISTED as u64),
+    ("state: a list one longer", |case, reply| only_word(case, reply, COUNT, LISTED as u64 + 1, LISTED as u64)),
+    ("state: a code one higher", |case, reply| is_code_in_state(case, reply, LAST_CODE + 1)),
+    ("state: a position of the last axis", |case, reply| read(case, reply) && case.state[KNOWN] >> (AXES - 1) == 1),
+    ("state: a position one higher", |case, reply| is_mask_over(case, reply, KNOWN)),
+    ("state: a curve start of the last axis", |case, reply| read(case, reply) && case.state[START] >> (AXES - 1) == 1),
+    ("state: a curve start one higher", |case, reply| is_mask_over(case, reply, START)),
+    ("store: a bit one higher", |case, reply| is_held_bit_over(case, reply)),
+    ("reply: a held axis that is new", |_, reply| reply.held >> AXES_BEFORE != 0),
+];
+
+fn listed(case: &Case, holds: fn(&[u64]) -> bool) -> bool {
+    matches!(&case.call, Call::Start(_, list) if holds(list))
+}
+
+fn pushed(case: &Case, holds: fn(&[u64]) -> bool) -> bool {
+    matches!(&case.call, Call::Push(row) if holds(row))
+}
+
+fn is_seed(case: &Case, code: u64) -> bool {
+    matches!(case.call, Call::Seed(axis, _) if axis == code)
+}
+
+/// A list that is good up to its last code, and is too long by it.
+fn is_one_longer(list: &[u64]) -> bool {
+    list.len() == LISTED + 1 && model::list_is_good(&list[..LISTED])
+}
+
+/// A list that is good but for this code.
+fn only_fault(list: &[u64], code: u64) -> bool {
+    let rest: Vec<u64> = list.iter().copied().filter(|&other| other != code).collect();
+    list.len() == rest.len() + 1 && list.len() <= LISTED && model::list_is_good(&rest)
+}
+
+/// A row that is good but for this bit.
+fn only_bit(row: &[u64], k: usize) -> bool {
+    row.len() == ROW
+        && row[PRESENT] >> k & 1 == 1
+        && model::row_fault(&with(row, PRESENT, row[PRESENT] & !(1 << k))) == 0
+}
+
+fn with(words: &[u64], at: usize, word: u64) -> Vec<u64> {
+    let mut words = words.to_vec();
+    words[at] = word;
+    words
+}
+
+/// The state's own words were read, and are good.
+fn read(case: &Case, reply: &Reply) -> bool {
+    !matches!(case.call, Call::Start(..)) && reply.code != 9 && case.state.len() == STATE
+}
+
+fn is_state_before(case: &Case, reply: &Reply) -> bool {
+    reply.code == 9 && case.state.len() == STATE_BEFORE
+}
+
+/// A state that is good but for this length.
+fn is_state_of(case: &Case, length: usize) -> bool {
+    let mut words = case.state.clone();
+    words.resize(STATE, 0);
+    case.state.len() == length && model::saved(&words).is_some()
+}
+
+/// 9 for this word at this place: with the other one the state is good.
+fn only_word(case: &Case, reply: &Reply, at: usize, word: u64, other: u64) -> bool {
+    reply.code == 9
+        && case.state.len() == STATE
+        && case.state[at] == word
+        && model::saved(&with(&case.state, at, other)).is_some()
+}
+
+/// 9 for this code in the list, which is good with the last one in its place.
+fn is_code_in_state(case: &Case, reply: &Reply, code: u64) -> bool {
+    reply.code == 9 && (LIST..LIST + LISTED).any(|at| only_word(case, reply, at, code, LAST_CODE))
+}
+
+/// 9 for the bit behind those of the axes, in a mask of the state.
+fn is_mask_over(case: &Case, reply: &Reply, at: usize) -> bool {
+    let Some(&mask) = case.state.get(at) else { return false };
+    mask >> FIRST_RIDER & 1 == 1 && only_word(case, reply, at, mask, mask & !(1 << FIRST_RIDER))
+}
+
+/// 9 for a bit in the first held row, which is good without it.
+fn is_held_bit_over(case: &Case, reply: &Reply) -> bool {
+    reply.code == 9
+        && !matches!(case.call, Call::Start(..) | Call::Seed(..))
+        && model::saved(&case.state).is_some_and(|now| now.held > 0)
+        && only_bit(&case.store[..ROW], LAST_BIT + 1)
+}
+
+// ---- the layout of before, whose states and rows hosts may still have
+
+const AXES_BEFORE: usize = 10;
+const NEW_AXES: usize = AXES - AXES_BEFORE;
+const ROW_BEFORE: usize = ROW - NEW_AXES;
+/// A state has three words for each axis: its code, its position and its curve start.
+const STATE_BEFORE: usize = STATE - 3 * NEW_AXES;
+const _: () = assert!(ROW_BEFORE == 29 && STATE_BEFORE == 44);
+const MASK_BEFORE: u64 = (1 << AXES_BEFORE) - 1;
+
+/// The words but for those of the new axes, which begin at these places.
+fn without_new(words: &[u64], places: &[usize]) -> Vec<u64> {
+    let is_new = |at: usize| places.iter().any(|&from| (from..from + NEW_AXES).contains(&at));
+    words.iter().enumerate().filter(|&(at, _)| !is_new(at)).map(|(_, &word)| word).collect()
+}
+
+fn row_before(row: &[u64]) -> Vec<u64> {
+    let mut words = without_new(row, &[FIRST + AXES_BEFORE]);
+    words[PRESENT] = row[PRESENT] & MASK_BEFORE | row[PRESENT] >> AXES << AXES_BEFORE;
+    words
+}
+
+fn code_before(code: u64) -> Option<u64> {
+    match code as usize {
+        0..AXES_BEFORE => Some(code),
+        AXES_BEFORE..AXES => None,
+        _ => Some(code - NEW_AXES as u64),
+    }
+}
+
+fn state_before(state: &[u64]) -> Vec<u64> {
+    let mut words = state.to_vec();
+    let list: Vec<u64> =
+        state[LIST..LIST + state[COUNT] as usize].iter().filter_map(|&code| code_before(code)).collect();
+    put_list(&mut words, &list);
+    words[KNOWN] &= MASK_BEFORE;
+    words[START] &= MASK_BEFORE;
+    without_new(&words, &[LIST + LISTED - NEW_AXES, KNOWN + 1 + AXES_BEFORE, START + 1 + AXES_BEFORE])
 }
 
 // ---- what is thrown
@@ -261,12 +429,26 @@ fn number(rng: &mut Rng) -> u64 {
     }
 }
 
-fn good_list(rng: &mut Rng) -> Vec<u64> {
-    let mut list: Vec<u64> = (0..LISTED as u64).filter(|_| !rng.one_in(3)).collect();
+fn shuffled(mut list: Vec<u64>, rng: &mut Rng) -> Vec<u64> {
     for i in (1..list.len()).rev() {
         list.swap(i, rng.below(i as u64 + 1) as usize);
     }
     list
+}
+
+fn good_list(rng: &mut Rng) -> Vec<u64> {
+    let list = (0..LISTED as u64).filter(|_| !rng.one_in(3)).collect();
+    shuffled(list, rng)
+}
+
+fn whole_list(rng: &mut Rng) -> Vec<u64> {
+    shuffled((0..LISTED as u64).collect(), rng)
+}
+
+fn put_list(state: &mut [u64], list: &[u64]) {
+    state[COUNT] = list.len() as u64;
+    state[LIST..LIST + LISTED].fill(0);
+    state[LIST..LIST + list.len()].copy_from_slice(list);
 }
 
 fn point(words: &mut [u64], axes: &[u64], rng: &mut Rng) {
@@ -282,8 +464,7 @@ fn good_state(rng: &mut Rng, held: u64) -> Vec<u64> {
     let mut words = vec![0; STATE];
     let list = good_list(rng);
     words[0] = [0.01f64, 0.5, 2.0, 100.0][rng.below(4) as usize].to_bits();
-    words[1] = list.len() as u64;
-    words[LIST..LIST + list.len()].copy_from_slice(&list);
+    put_list(&mut words, &list);
     words[MOTION] = if held > 0 { SPLINES.start() + rng.below(3) } else { 1 + rng.below(LAST_MOTION) };
     words[IN_PLANE] = 17 + rng.below(3);
     point(&mut words[KNOWN..KNOWN + POINT], &list, rng);
@@ -363,47 +544,124 @@ fn any_call(rng: &mut Rng, state: &[u64]) -> Call {
     }
 }
 
+/// One of the last code that there is, and the two behind it.
+fn code_at_bound(rng: &mut Rng) -> u64 {
+    LAST_CODE + rng.below(3)
+}
+
+fn list_at_bound(rng: &mut Rng) -> Vec<u64> {
+    let mut list = if rng.one_in(2) { whole_list(rng) } else { good_list(rng) };
+    if !rng.one_in(3) {
+        list.push(code_at_bound(rng));
+    }
+    if rng.one_in(2) {
+        list = shuffled(list, rng);
+    }
+    list
+}
+
+fn row_at_bound(rng: &mut Rng) -> Vec<u64> {
+    let motion = rng.below(LAST_MOTION + 1);
+    let mut row = good_row(rng, motion);
+    match rng.below(4) {
+        0 => return row_before(&row),
+        1 => row.resize(ROW - 1 + 2 * rng.below(2) as usize, 0),
+        2 => row[PRESENT] |= 1 << (LAST_BIT as u64 + rng.below(2)),
+        _ => row[PRESENT] |= 1 << (LAST_BIT as u64 + rng.below(64 - LAST_BIT as u64)),
+    }
+    if let Some(word) = row.get_mut(FIRST + LAST_BIT) {
+        *word = number(rng);
+    }
+    row
+}
+
+/// A state with the whole list, and one word of it at its bound or just over it.
+fn put_bound(state: &mut [u64], rng: &mut Rng) {
+    let list = whole_list(rng);
+    put_list(state, &list);
+    let last = AXES - 1;
+    match rng.below(4) {
+        0 => state[COUNT] += rng.below(2),
+        1 => {
+            let at = list.iter().position(|&code| code == LAST_CODE).expect("the whole list has every code");
+            state[LIST + at] = code_at_bound(rng);
+        }
+        _ => {
+            let mask = if rng.one_in(2) { KNOWN } else { START };
+            state[mask] |= 1 << (last as u64 + rng.below(2));
+            state[mask + 1 + last] = number(rng);
+        }
+    }
+}
+
+/// Puts a good case at a bound of 2, 4 or 9, or just over it.
+fn put_at_bound(case: &mut Case, rng: &mut Rng) {
+    match rng.below(8) {
+        0 => case.call = Call::Start(1f64.to_bits(), list_at_bound(rng)),
+        1 => {
+            let code = if rng.one_in(4) { AXES as u64 - 1 } else { code_at_bound(rng) };
+            case.call = Call::Seed(code, number(rng));
+        }
+        2 | 3 => case.call = Call::Push(row_at_bound(rng)),
+        4 => case.state = state_before(&case.state),
+        5 => case.state.resize(STATE - 1 + 2 * rng.below(2) as usize, 0),
+        6 => put_bound(&mut case.state, rng),
+        _ if case.state[HELD] > 0 => case.store[PRESENT] |= 1 << (LAST_BIT + 1),
+        _ => {}
+    }
+}
+
 fn any_case(rng: &mut Rng) -> Case {
     let held = held_count(rng);
-    let mut state = good_state(rng, held);
-    let mut store = good_store(rng, held, state[MOTION]);
-    let mut call = any_call(rng, &state);
-    let mut row_words = [0, ROW - 1, ROW, 100, 1000, 60 * ROW, 3000 * ROW][rng.below(7) as usize];
-    match rng.below(8) {
+    let state = good_state(rng, held);
+    let store = good_store(rng, held, state[MOTION]);
+    let call = any_call(rng, &state);
+    let row_words = [0, ROW - 1, ROW, 100, 1000, 60 * ROW, 3000 * ROW][rng.below(7) as usize];
+    let mut case = Case { call, state, store, row_words };
+    damage(&mut case, rng);
+    case
+}
+
+fn damage(case: &mut Case, rng: &mut Rng) {
+    match rng.below(9) {
         0 => {
-            state = (0..rng.below(65)).map(|_| if rng.one_in(2) { rng.next() } else { special(rng) }).collect();
+            case.state = (0..rng.below(65)).map(|_| if rng.one_in(2) { rng.next() } else { special(rng) }).collect();
         }
         1 | 2 => {
             let at = rng.below(STATE as u64) as usize;
-            state[at] = special(rng);
+            case.state[at] = special(rng);
         }
-        3 => state.resize(rng.below(65) as usize, 0),
+        3 => case.state.resize(rng.below(65) as usize, 0),
         4 => {
-            if let Call::Push(row) = &mut call {
-                if rng.one_in(3) {
-                    row.resize(rng.below(65) as usize, 0);
-                } else if rng.one_in(3) {
-                    put_turn(row, rng);
-                } else {
-                    let at = rng.below(ROW as u64) as usize;
-                    row[at] = special(rng);
-                }
+            if let Call::Push(row) = &mut case.call {
+                damage_row(row, rng);
             }
         }
-        5 if !store.is_empty() => {
-            let at = rng.below(store.len() as u64) as usize;
-            store[at] = special(rng);
-            if held > 0 && rng.one_in(4) {
-                put_turn(&mut store[..ROW], rng);
+        5 if !case.store.is_empty() => {
+            let at = rng.below(case.store.len() as u64) as usize;
+            case.store[at] = special(rng);
+            if case.state[HELD] > 0 && rng.one_in(4) {
+                put_turn(&mut case.store[..ROW], rng);
             }
         }
         6 => {
-            store.truncate(rng.below(store.len() as u64 + 1) as usize);
-            row_words = rng.below(65) as usize;
+            case.store.truncate(rng.below(case.store.len() as u64 + 1) as usize);
+            case.row_words = rng.below(65) as usize;
         }
+        7 => put_at_bound(case, rng),
         _ => {}
     }
-    Case { call, state, store, row_words }
+}
+
+fn damage_row(row: &mut Vec<u64>, rng: &mut Rng) {
+    if rng.one_in(3) {
+        row.resize(rng.below(65) as usize, 0);
+    } else if rng.one_in(3) {
+        put_turn(row, rng);
+    } else {
+        let at = rng.below(ROW as u64) as usize;
+        row[at] = special(rng);
+    }
 }
 
 /// Warning 6 needs 100,000 places, more than the replay program lends: it is asked for here.
@@ -465,6 +723,19 @@ fn every_length(rng: &mut Rng, tally: &mut Tally) {
     }
 }
 
+/// A run of this many cases meets every bound: one that it did not meet is no longer thrown.
+const LONG_RUN: u64 = 50_000;
+
+fn say_bounds(count: u64, tally: &Tally) {
+    let least = BOUNDS.iter().map(|(name, _)| (tally.met.get(name).copied().unwrap_or(0), name)).min();
+    let Some((times, name)) = least else { return };
+    println!("fuzz: {} bounds of 2, 4 and 9, each met at least {times} times ({name})", BOUNDS.len());
+    if count >= LONG_RUN && times == 0 {
+        println!("WRONG: a bound was never met: {name}");
+        std::process::exit(1);
+    }
+}
+
 fn main() {
     let number = |i: usize, or: u64| std::env::args().nth(i).map_or(or, |text| text.parse().expect("a number"));
     let (count, seed) = (number(1, 100_000), number(2, 1));
@@ -473,6 +744,8 @@ fn main() {
     every_length(&mut rng, &mut tally);
     clamped_arc(&mut tally);
     store_bounds(&mut rng, &mut tally);
+    // What the lines above lay out does not show that the cases below meet it.
+    tally.met.clear();
     for _ in 0..count {
         let case = any_case(&mut rng);
         check(&case, &mut tally);
@@ -482,4 +755,5 @@ fn main() {
         print!(" {calls} of {code},");
     }
     println!(" {} asked again, {} rows, {} left out", tally.asked_again, tally.rows, tally.left_out);
+    say_bounds(count, &tally);
 }

@@ -14,8 +14,8 @@ pub struct Expected {
 }
 
 // ---- The layout: what is chosen, and what follows from it.
-/// X Y Z A B C U V W E.
-pub const AXES: usize = 10;
+/// X Y Z A B C U V W E, then A2 B2 C2 U2 V2 W2.
+pub const AXES: usize = 16;
 /// N F S D T, which a list may name too.
 pub const LISTED: usize = AXES + 5;
 /// From the start to the centre, along the three axes of space.
@@ -24,6 +24,8 @@ pub const TURN: usize = OFFSETS + 4;
 const SD: usize = TURN + 2;
 /// The last cell is PL, behind SD.
 pub const CELLS: usize = SD + 2;
+/// What order 3 says in numbers: the entries of a list, its top code, the top presence bit.
+const _: () = assert!(LISTED == 21 && LISTED - 1 == 20 && CELLS - 1 == 28);
 
 pub const LINE: usize = 0;
 pub const WORD: usize = 1;
@@ -79,7 +81,7 @@ pub struct Saved {
     pub held: usize,
 }
 
-fn list_is_good(list: &[u64]) -> bool {
+pub fn list_is_good(list: &[u64]) -> bool {
     let mut seen = 0u32;
     list.len() <= LISTED
         && list.iter().all(|&code| {

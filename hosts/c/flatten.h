@@ -11,7 +11,8 @@
 /* The cells of a row by their codes: the axes, what rides on a group's first row, how a block curves. An axis list may
  * name the axes and the riders. All other numbers of the layout follow from these names and FLAT_STORE_BLOCKS. */
 enum {
-    FLAT_X, FLAT_Y, FLAT_Z, FLAT_A, FLAT_B, FLAT_C, FLAT_U, FLAT_V, FLAT_W, FLAT_E, FLAT_AXIS_CODES,
+    FLAT_X, FLAT_Y, FLAT_Z, FLAT_A, FLAT_B, FLAT_C, FLAT_U, FLAT_V, FLAT_W, FLAT_E,
+    FLAT_A2, FLAT_B2, FLAT_C2, FLAT_U2, FLAT_V2, FLAT_W2, FLAT_AXIS_CODES,
     FLAT_N = FLAT_AXIS_CODES, FLAT_F, FLAT_S, FLAT_D, FLAT_T, FLAT_LIST_CODES,
     FLAT_I = FLAT_LIST_CODES, FLAT_J, FLAT_K, FLAT_CR, FLAT_TURN, FLAT_PW, FLAT_SD, FLAT_PL, FLAT_CELLS
 };

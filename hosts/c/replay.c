@@ -9,6 +9,12 @@
 #include <stdlib.h>
 #include <string.h>
 
+/* The header's numbers follow from its names, so a name too many would move them unseen; hosts and saved states rely on these
+ * (docs/INTERFACE.md). A wrong one makes an array of negative size. */
+typedef char a_row_has_29_cells[FLAT_CELLS == 29 ? 1 : -1];
+typedef char a_row_has_35_words[FLAT_ROW_WORDS == 35 ? 1 : -1];
+typedef char a_state_has_62_words[FLAT_STATE_WORDS == 62 ? 1 : -1];
+
 /* The most that is lent (docs/INTERFACE.md): words of a state, of a row or of an axis list, row places, words of a tally;
  * and the row places that are lent at first. */
 enum { MOST_GIVEN = 64, MOST_ROOM = 131072, FIRST_ROOM = 16384, MOST_TALLY = 4096 };

@@ -1,6 +1,7 @@
 //! `gen SEED COUNT [arcs|splines|mixed|linear|refusals|curves]`: COUNT sequences of calls for `replay`, each begun by
-//! an accepted `start`. The same arguments give the same lines. Without a kind the first five take turns. The kind
-//! curves is one spline a sequence, ASPLINE, BSPLINE and CSPLINE in turn, its sizes in the comment line.
+//! an accepted `start`. The same arguments give the same lines. Without a kind the first five take turns; of these one
+//! sequence in three has a list of 11 to 21 codes. The kind curves is one spline a sequence, ASPLINE, BSPLINE and
+//! CSPLINE in turn, of 1 to 16 channels, its sizes in the comment line.
 //!
 //! Sizes are chosen so that a call writes at most about 16,384 rows and ends soon; a few need more and meet 7.
 //! Some splines come twice, at two neighbouring tolerances between which the unchanged Rust's row count changes:
@@ -113,12 +114,15 @@ fn at_both_tolerances(text: &str) -> String {
 const KINDS: [&str; 6] = ["arcs", "splines", "mixed", "linear", "refusals", "curves"];
 /// The kinds that take turns.
 const TURNS: usize = 5;
+/// One sequence in so many has a list of 11 to 21 codes, of each kind that takes turns.
+const LONG_EACH: u64 = 3;
 
 fn sequence(seed: u64, i: u64, kind: &str) -> String {
     let mut rng = Rng(seed.wrapping_mul(0x2545_f491_4f6c_dd1d) ^ i.wrapping_mul(0x9e6c_63d0_876a_68ad));
     rng.next();
-    let mut gen =
-        Gen { rng, out: format!("# {kind} {seed} {i}\n"), lent: Lent::new(), line: 0, scale: 1.0, origin: 0.0 };
+    let long = (seed + i) % LONG_EACH == 0;
+    let out = format!("# {kind} {seed} {i}\n");
+    let mut gen = Gen { rng, out, lent: Lent::new(), line: 0, long, scale: 1.0, origin: 0.0 };
     match kind {
         "arcs" => gen.arcs(),
         "splines" if gen.rng.one_in(4) => {

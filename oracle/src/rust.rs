@@ -9,8 +9,8 @@ use crate::words::*;
 use std::sync::OnceLock;
 
 const CELL_NAMES: [&str; CELLS] = [
-    "X", "Y", "Z", "A", "B", "C", "U", "V", "W", "E", "N", "F", "S", "D", "T", "I", "J", "K", "CR", "TURN", "PW", "SD",
-    "PL",
+    "X", "Y", "Z", "A", "B", "C", "U", "V", "W", "E", "A2", "B2", "C2", "U2", "V2", "W2", "N", "F", "S", "D", "T", "I",
+    "J", "K", "CR", "TURN", "PW", "SD", "PL",
 ];
 const MOTION_WORDS: [&str; LAST_MOTION as usize + 1] = [
     "", "G0", "G1", "G2", "G3", "ASPLINE", "BSPLINE", "CSPLINE", "CIP", "CT", "POLY", "G33", "G34", "G35", "INVCW",

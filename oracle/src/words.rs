@@ -2,8 +2,8 @@
 //! and what an accepted call leaves in the words. No curve is computed here.
 
 // ---- The layout: the first numbers are chosen, the rest follow.
-/// X Y Z A B C U V W E.
-pub const AXES: usize = 10;
+/// X Y Z A B C U V W E, then A2 B2 C2 U2 V2 W2.
+pub const AXES: usize = 16;
 /// N F S D T.
 const RIDERS: usize = 5;
 pub const MOST_HELD: usize = 256;

@@ -1,9 +1,9 @@
 /* The stack that the four calls take, by painting a thread's.
- *   stack         prints `stack KIND BLOCKS BYTES` for each kind and number of blocks, on X Y Z and then on all ten axes:
- *                 the bytes below the frame that makes the calls, the most of them all. Then the smallest stack of a
+ *   stack         prints `stack KIND BLOCKS BYTES` for each kind and number of blocks, on X Y Z, then on the first ten axes and
+ *                 on all: the bytes below the frame that makes the calls, the most of them all. Then the smallest stack of a
  *                 thread in which every kind on X Y Z went through, in steps of 4 KB, its own start included.
  *   stack bound   runs every kind of 256 blocks on X Y Z in a thread of 128 KB, and fails where fewer than 16 KB of it stay
- *                 untouched.
+ *                 untouched; 28 KB on x86-64, where 99,760 bytes were taken before order 3.
  * A thread's stack is the top of a region that is painted before it begins; the pages below it can not be touched. */
 #define _GNU_SOURCE
 #include "flatten.h"
@@ -17,7 +17,14 @@
 #include <sys/wait.h>
 #include <unistd.h>
 
-enum { PAGE = 4096, REGION = 1 << 20, SMALL_THREAD = 128 << 10, SPARE = 16 << 10, PAINT = 0xa5, AXES = 3 };
+#ifdef __x86_64__
+enum { SPARE = 28 << 10 };
+#else
+enum { SPARE = 16 << 10 };
+#endif
+enum { PAGE = 4096, REGION = 1 << 20, SMALL_THREAD = 128 << 10, PAINT = 0xa5 };
+/* Axes that are measured: work memory has sizes for few channels, for ten and for all. */
+enum { AXES = 3, USUAL_AXES = FLAT_A2 };
 enum { ROOM = 1 << 15, ROW_WORDS = ROOM * FLAT_ROW_WORDS };
 
 struct kind {
@@ -96,11 +103,12 @@ static void ended_by(struct work *w, struct flat_reply reply) {
 
 /* The calls: the kind's blocks twice from the origin, ended by a close and by another motion. */
 static __attribute__((noinline)) unsigned char *calls(struct work *w) {
-    static const uint64_t axes[] = {FLAT_X, FLAT_Y, FLAT_Z, FLAT_A, FLAT_B, FLAT_C, FLAT_U, FLAT_V, FLAT_W, FLAT_E};
-    static uint64_t row[FLAT_ROW_WORDS];
+    static uint64_t axes[FLAT_AXIS_CODES], row[FLAT_ROW_WORDS];
     const double tolerance = w->kind->tolerance;
     uint64_t bits;
     memcpy(&bits, &tolerance, sizeof bits);
+    for (int axis = 0; axis < w->axes; axis++)
+        axes[axis] = (uint64_t)axis;
     heard(w, flat_start(state, FLAT_STATE_WORDS, bits, axes, (size_t)w->axes));
     for (int ended = 0; ended < 2; ended++) {
         for (int axis = 0; axis < w->axes; axis++)
@@ -186,8 +194,10 @@ static size_t all(int axes, size_t bytes, int told) {
             struct work w = {&kinds[k], blocks[b], axes, NULL, 0, 0, 0, 0, 0};
             run(&w, bytes);
             most = w.whole > most ? w.whole : most;
-            if (told)
-                printf("stack %s %d %zu%s\n", w.kind->name, w.blocks, w.taken, axes == AXES ? "" : " on ten axes");
+            if (told && axes == AXES)
+                printf("stack %s %d %zu\n", w.kind->name, w.blocks, w.taken);
+            else if (told)
+                printf("stack %s %d %zu on %d axes\n", w.kind->name, w.blocks, w.taken, axes);
         }
     return most;
 }
@@ -202,10 +212,11 @@ int main(int count, char **words) {
         printf("every kind of %d blocks on %d axes in a thread of %d bytes: %zu taken at most, its start included\n",
                blocks[COUNTS - 1], AXES, SMALL_THREAD, most);
         if (most + SPARE > SMALL_THREAD)
-            fail("fewer than 16 KB stayed untouched");
+            fail("too few bytes stayed untouched");
         return 0;
     }
     most = all(AXES, REGION - PAGE, 1);
+    all(USUAL_AXES, REGION - PAGE, 1);
     all(FLAT_AXIS_CODES, REGION - PAGE, 1);
     for (bytes = (most + PAGE - 1) / PAGE * PAGE; !goes(bytes); bytes += PAGE)
         ;

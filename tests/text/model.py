@@ -15,7 +15,7 @@ import sys
 HEADER = b"line_no,gg01_motion,gg06_plane_select,X,Y,Z,I,J,K,CR,TURN,PW,SD,F"
 HEADER_OUT = HEADER + b",flattened"
 # The cells of a row, each at its code, and those that row text has a column for.
-CELLS = "X Y Z A B C U V W E N F S D T I J K CR TURN PW SD PL".split()
+CELLS = "X Y Z A B C U V W E A2 B2 C2 U2 V2 W2 N F S D T I J K CR TURN PW SD PL".split()
 COLUMNS = HEADER.decode().split(",")[3:]
 CODES = [CELLS.index(name) for name in COLUMNS]
 WORDS = [b"", b"G0", b"G1", b"G2", b"G3", b"ASPLINE", b"BSPLINE", b"CSPLINE", b"CIP", b"CT", b"POLY", b"G33", b"G34",

@@ -35,15 +35,6 @@ put-join f g {l} {xs} {ys} {i} {j} {n} {m} p ej e q = record {
   over = λ k h. q .over k (omega arith) ∙ p .over k (omega arith);
 }
 
--- from channel 0 on
-pub put-first : (f : ℕ → Float) {l xs : List Float} {i n : ℕ} → Put (λ j. f (0 + j)) l xs i n → Put f l xs i n
-put-first f p = record {
-  same = p .same;
-  done = λ c h. let e : 0 + c ≡ c = omega arith in p .done c h ∙ ap f e;
-  under = p .under;
-  over = p .over;
-}
-
 pub raised-join : {l xs ys : List Float} {i j n m wide : ℕ} {a : Float} → Raised l xs i n wide a → j ≡ i + n → Raised xs ys j m wide a
     → Raised l ys i (n + m) wide a
 raised-join {l} {xs} {ys} {i} {j} {n} {m} {wide} {a} v ej w =

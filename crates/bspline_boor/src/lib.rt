@@ -13,26 +13,29 @@ ghost use Rattle.layout.specs.Layout.{axisCodes, mostPoints};
 ghost use Rattle.curve_metric.specs.Widest.{widest};
 ghost use Rattle.bspline_tables.specs.Basis.{share};
 ghost use Rattle.bspline_low.specs.Low.{placed};
-ghost use Rattle.bspline_raise.specs.Climb.{Width, Put, Raised, Level, Climbed, Loaded};
+ghost use Rattle.bspline_raise.specs.Climb.{mostWide, Width, Put, Raised, Level, Climbed, Loaded};
 
-// Numbers of a row at most: every axis and the weights, in whole fours. Rows are written out for three fours.
-pub const MOST_WIDE: usize = (AXIS_CODES + 4) / 4 * 4;
-
-// Numbers of a row at least.
+// Rows are whole fours: so many numbers are raised at once.
 pub const LEAST_WIDE: usize = 4;
 
-// The numbers of a row that has ch channels and the weights: whole fours.
+// The widest rows of all but long lists: ten channels and the weights.
+pub const USUAL_WIDE: usize = 12;
+
+// Numbers of a row at most: every axis and the weights. Raising is written out for five fours.
+pub const MOST_WIDE: usize = (AXIS_CODES + LEAST_WIDE) / LEAST_WIDE * LEAST_WIDE;
+
+const TWO_FOURS: usize = 2 * LEAST_WIDE;
+
+const THREE_FOURS: usize = 3 * LEAST_WIDE;
+
+const FOUR_FOURS: usize = 4 * LEAST_WIDE;
+
+// The numbers of a row that has ch channels and the weights.
 pub fn row_width(ch: usize) -> usize
     requires { ⌜ ch ≤ axisCodes ⌝ }
     ensures { λ r. ⌜ Width r × (ch < r) ⌝ }
 {
-    if ch < LEAST_WIDE {
-        return LEAST_WIDE;
-    }
-    if ch < 8 {
-        return 8;
-    }
-    MOST_WIDE
+    (ch / LEAST_WIDE + 1) * LEAST_WIDE
 }
 
 fn held(c: usize, ch: usize) -> usize
@@ -55,7 +58,7 @@ fn number_of(cw: &[f64], n: usize, s: usize, ch: usize, c: usize) -> f64
 // Number s of channel c and of the next three, at i and on.
 fn load_four(cw: &[f64], n: usize, s: usize, ch: usize, c: usize, d: &mut [f64], i: usize)
     requires { ⌜ ((ch + 1) * n ≤ length (now cw)) × (s < n) ⌝ }
-    requires { ⌜ (c ≤ 8) × (i + 3 < length (now d)) ⌝ }
+    requires { ⌜ (c ≤ mostWide) × (i + 3 < length (now d)) ⌝ }
     ensures { λ _. ⌜ Put (λ j. at (now (cw .entry)) (min (c + j) ch * n + s)) (now (d .entry)) (now (d .exit)) i 4 ⌝ }
 {
     let x0 = number_of(cw, n, s, ch, c);
@@ -74,15 +77,11 @@ fn load_row(cw: &[f64], n: usize, s: usize, ch: usize, wide: usize, d: &mut [f64
     requires { ⌜ i + wide ≤ length (now d) ⌝ }
     ensures { λ _. ⌜ Put (λ c. at (now (cw .entry)) (min c ch * n + s)) (now (d .entry)) (now (d .exit)) i wide ⌝ }
 {
-    load_four(cw, n, s, ch, 0, d, i);
-    if wide < 8 {
-        return;
+    let mut c = 0;
+    while c < wide {
+        load_four(cw, n, s, ch, c, d, i + c);
+        c += LEAST_WIDE;
     }
-    load_four(cw, n, s, ch, 4, d, i + 4);
-    if wide < MOST_WIDE {
-        return;
-    }
-    load_four(cw, n, s, ch, 8, d, i + 8);
 }
 
 // A row for each control point that bears on span k.
@@ -102,20 +101,29 @@ pub fn load_rows(cw: &[f64], n: usize, k: usize, p: usize, ch: usize, wide: usiz
     }
 }
 
+// Written out: in a loop over its fours a row took twice as long.
 fn raise_row(d: &mut [f64], i: usize, wide: usize, share: f64)
     requires { ⌜ Width wide ⌝ }
     requires { ⌜ i + wide + wide ≤ length (now d) ⌝ }
     ensures { λ _. ⌜ Raised (now (d .entry)) (now (d .exit)) i wide wide share ⌝ }
 {
     raise_four(d, i, wide, share);
-    if wide < 8 {
+    if wide < TWO_FOURS {
         return;
     }
-    raise_four(d, i + 4, wide, share);
+    raise_four(d, i + LEAST_WIDE, wide, share);
+    if wide < THREE_FOURS {
+        return;
+    }
+    raise_four(d, i + TWO_FOURS, wide, share);
+    if wide < FOUR_FOURS {
+        return;
+    }
+    raise_four(d, i + THREE_FOURS, wide, share);
     if wide < MOST_WIDE {
         return;
     }
-    raise_four(d, i + 8, wide, share);
+    raise_four(d, i + FOUR_FOURS, wide, share);
 }
 
 // One level, of m rows.
@@ -158,15 +166,11 @@ pub fn climb_up(ks: &[f64], u: f64, p: usize, k: usize, wide: usize, d: &mut [f6
     }
 }
 
-// Channel c, by the weight; 0 where there is none. Past the axes that is known where c is.
+// Channel c, by the weight; 0 where there is none.
 fn first_at(d: &[f64], by: f64, ch: usize, c: usize) -> f64
     requires { ⌜ ch < length (now d) ⌝ }
-    requires { ⌜ ch ≤ axisCodes ⌝ }
     ensures { λ r. ⌜ r ≡ placed (at (now (d .entry))) by ch c ⌝ }
 {
-    if c >= AXIS_CODES {
-        return 0.0;
-    }
     if c < ch {
         return d[c] / by;
     }

@@ -5,7 +5,6 @@ use bspline_low::low::Shares;
 use bspline_low::low::top;
 use bspline_low::low::top_three;
 use curve_metric::WIDEST;
-use layout::AXIS_CODES;
 ghost use mathlib.Core.Path.{_≡_};
 ghost use Prim.Native.Nat.{_≤_, _<_, _+_, _*_};
 ghost use lib.ListN.{length, replicate};
@@ -40,15 +39,11 @@ pub fn project_tops(
     r
 }
 
-// Channel c at degree 3, by the top of the weights; 0 where there is none. Past the axes that is known where c is.
+// Channel c at degree 3, by the top of the weights; 0 where there is none.
 fn third_at(s: Shares, by: f64, cw: &[f64], n: usize, from: usize, ch: usize, c: usize) -> f64
     requires { ⌜ (from + 3 < n) × ((ch + 1) * n ≤ length (now cw)) ⌝ }
-    requires { ⌜ ch ≤ axisCodes ⌝ }
     ensures { λ r. ⌜ r ≡ placed (λ j. topOf s 3 (now (cw .entry)) (j * n + from)) by ch c ⌝ }
 {
-    if c >= AXIS_CODES {
-        return 0.0;
-    }
     if c < ch {
         return top_three(s, cw, c * n + from) / by;
     }
@@ -83,15 +78,11 @@ pub fn project_three(s: Shares, cw: &[f64], n: usize, from: usize, ch: usize) ->
     ]
 }
 
-// Channel c at degree 4, by the top of the weights; 0 where there is none. Past the axes that is known where c is.
+// Channel c at degree 4, by the top of the weights; 0 where there is none.
 fn fourth_at(s: Fourth, by: f64, cw: &[f64], n: usize, from: usize, ch: usize, c: usize) -> f64
     requires { ⌜ (from + 4 < n) × ((ch + 1) * n ≤ length (now cw)) ⌝ }
-    requires { ⌜ ch ≤ axisCodes ⌝ }
     ensures { λ r. ⌜ r ≡ placed (λ j. top4 s (now (cw .entry)) (j * n + from)) by ch c ⌝ }
 {
-    if c >= AXIS_CODES {
-        return 0.0;
-    }
     if c < ch {
         return top_four(s, cw, c * n + from) / by;
     }

@@ -1,6 +1,7 @@
 // The point of a B-spline at a parameter.
 use bspline_boor::LEAST_WIDE;
 use bspline_boor::MOST_WIDE;
+use bspline_boor::USUAL_WIDE;
 use bspline_boor::climb_up;
 use bspline_boor::load_rows;
 use bspline_boor::project_first;
@@ -20,7 +21,7 @@ ghost use Rattle.floats.specs.Numbers.{f0};
 ghost use Rattle.floats.specs.Lists.{filled};
 ghost use Rattle.curve_metric.specs.Widest.{widest};
 ghost use Rattle.bspline_tables.specs.Tables.{curveAt, Curve};
-ghost use Rattle.bspline_raise.specs.Climb.{Width, fewCells, someCells, manyCells};
+ghost use Rattle.bspline_raise.specs.Climb.{Width, fewCells, someCells, manyCells, usualCells};
 
 // The point at t, in work memory of p + 1 rows.
 fn eval_in(
@@ -64,13 +65,15 @@ fn eval_low(ks: &[f64], cw: &[f64], n: usize, p: usize, ch: usize, t: f64) -> [f
     project_tops(s, p, cw, n, k - p, ch)
 }
 
-// Work memory of four sizes: small where the rows are few, since it is cleared at each call; the third has room for the
-// highest degree where rows are of four numbers, the last for any.
+// Work memory of five sizes: small where the rows are few, since it is cleared at each call; the third has room for the
+// highest degree where rows are of four numbers, the fourth where they are usual ones, the last for any.
 const FEW: usize = 64;
 
 const SOME: usize = 256;
 
 const MANY: usize = MOST_POINTS * LEAST_WIDE;
+
+const USUAL: usize = MOST_POINTS * USUAL_WIDE;
 
 const MOST: usize = MOST_POINTS * MOST_WIDE;
 
@@ -128,6 +131,24 @@ fn eval_many(
     eval_in(ks, cw, n, p, ch, t, wide, &mut d)
 }
 
+fn eval_usual(
+    ks: &[f64],
+    cw: &[f64],
+    n: usize,
+    p: usize,
+    ch: usize,
+    t: f64,
+    wide: usize,
+) -> [f64; WIDEST]
+    requires { ⌜ Curve (now ks) (now cw) n p ch ⌝ }
+    requires { ⌜ Width wide × (ch < wide) ⌝ }
+    requires { ⌜ (p + 1) * wide ≤ usualCells ⌝ }
+    ensures { λ r. ⌜ r ≡ filled (curveAt (now (ks .entry)) (now (cw .entry)) n p ch t) ch (replicate widest f0) ⌝ }
+{
+    let mut d = [0.0f64; USUAL];
+    eval_in(ks, cw, n, p, ch, t, wide, &mut d)
+}
+
 fn eval_most(
     ks: &[f64],
     cw: &[f64],
@@ -164,6 +185,9 @@ fn eval_for(
 {
     if cells <= MANY {
         return eval_many(ks, cw, n, p, ch, t, wide);
+    }
+    if cells <= USUAL {
+        return eval_usual(ks, cw, n, p, ch, t, wide);
     }
     if cells <= MOST {
         return eval_most(ks, cw, n, p, ch, t, wide);

@@ -1,7 +1,7 @@
 -- CONTRACTS. De Boor's triangle in work memory: row h is that of the control point h before the last, number c channel c's. Assumes nothing.
 use mathlib.Core.List.{List}
 use mathlib.Core.Path.{_≡_}
-use Prim.Native.Nat.{ℕ, _+_, _*_, _-_, _/_, _≤_, _<_}
+use Prim.Native.Nat.{ℕ, _+_, _*_, _-_, _/_, _%_, _≤_, _<_}
 use lib.ListN.{length}
 use lib.Ieee.{Float}
 use Rattle.floats.specs.Numbers.{at}
@@ -10,11 +10,16 @@ use Rattle.layout.specs.Layout.{axisCodes, mostPoints}
 use Rattle.bspline_tables.specs.Basis.{levels}
 use Rattle.bspline_low.specs.Low.{mixOf}
 
--- numbers of a row at least
+-- rows are whole fours: so many numbers are raised at once
 abbrev pub leastWide : ℕ
 leastWide = 4
 
--- work memory of three sizes that are chosen, the third for the highest degree in rows of four; the widest rows have their own
+-- the widest rows of all but long lists: ten channels and the weights
+abbrev pub usualWide : ℕ
+usualWide = 12
+
+-- work memory of four sizes that are chosen, the third and the fourth for the highest degree in rows of four and in usual ones; the
+-- widest rows have their own
 abbrev pub fewCells : ℕ
 fewCells = 64
 
@@ -24,16 +29,17 @@ someCells = 256
 abbrev pub manyCells : ℕ
 manyCells = mostPoints * leastWide
 
+abbrev pub usualCells : ℕ
+usualCells = mostPoints * usualWide
+
 -- numbers of a row at most: every axis and the weights, in whole fours
 abbrev pub mostWide : ℕ
-mostWide = (axisCodes + 4) / 4 * 4
+mostWide = (axisCodes + leastWide) / leastWide * leastWide
 
--- whole fours, of which there are three at most
 pub record Width (wide : ℕ) : Type 0 where
   pub some : leastWide ≤ wide
   pub few : wide ≤ mostWide
-  pub one : wide < 8 → wide ≤ 4
-  pub two : wide < mostWide → wide ≤ 8
+  pub fours : wide % leastWide ≡ 0
 
 -- of xs, which was l: the n numbers from i on are f 0, .., f (n - 1), and the others are as they were
 pub record Put (f : ℕ → Float) (l xs : List Float) (i n : ℕ) : Type 0 where

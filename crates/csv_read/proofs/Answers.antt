@@ -7,9 +7,9 @@ use mathlib.Core.Option.{Option, none, Option·getD}
 use native.Mathlib.Omega.{arith}
 use native.Mathlib.Numerals.{add-one}
 use native.Mathlib.Nat.{zero-add}
-use lib.ListN.{length, take, drop, set}
+use lib.ListN.{length, take, drop, set, replicate}
 use Rattle.floats.specs.Lists.{upto, isSome}
-use Rattle.layout.specs.Layout.{rPresent}
+use Rattle.layout.specs.Layout.{rPresent, rowWords}
 use Rattle.row_cells.specs.Row.{rowOf, maskOf}
 use Rattle.csv_words.specs.declared.Found.{Found}
 use Rattle.csv_words.specs.declared.Found.the-variants as Found
@@ -18,7 +18,7 @@ use Rattle.csv_fields.specs.declared.Line.{Line}
 use Rattle.csv_fields.specs.declared.Line.the-variants as Line
 use Rattle.csv_fields.specs.Read.{lineNumber}
 use Rattle.csv_fields.specs.Readers.{tail-is}
-use Rattle.csv_line.specs.LineText.{parted}
+use Rattle.csv_line.specs.LineText.{columnCount, parted}
 use Rattle.csv_cells.specs.Parts.{reach-length, part-more, part-last}
 use Rattle.csv_cells.specs.Cells.{cellsOk}
 use Rattle.csv_read.specs.Reader.{cellIn, cellsIn, fromCells, coded, numbered, fromPlane, fromMotion, fromLine, readRow}
@@ -72,19 +72,19 @@ module _ (t : List ℕ) (end : ℕ) (e : end ≡ 0 + reach (drop 0 t)) where
 
 -- ---- the cells, in a row that is blank but for its first three words
 abbrev pub blank : ℕ → ℕ → ℕ → List ℕ
-blank l m p = l ∷ m ∷ p ∷ 0 ∷ 0 ∷ 0 ∷ 0 ∷ 0 ∷ 0 ∷ 0 ∷ 0 ∷ 0 ∷ 0 ∷ 0 ∷ 0 ∷ 0 ∷ 0 ∷ 0 ∷ 0 ∷ 0 ∷ 0 ∷ 0 ∷ 0 ∷ 0 ∷ 0 ∷ 0 ∷ 0 ∷ 0 ∷ 0 ∷ []
+blank l m p = l ∷ m ∷ p ∷ replicate (rowWords - 3) 0
 
-mask-is : (fs : List (List ℕ)) → masked fs 11 ≡ maskOf (cellsIn fs)
+mask-is : (fs : List (List ℕ)) → masked fs columnCount ≡ maskOf (cellsIn fs)
 unfolding masked maskOf cellsIn cellIn upto
 mask-is fs = omega arith
 
-words-are : (l m p : ℕ) (fs : List (List ℕ)) (k : ℕ) → set (placed fs (blank l m p) 11) rPresent k ≡ l ∷ m ∷ p ∷ 0 ∷ 0 ∷ k ∷ map wordOf (cellsIn fs)
+words-are : (l m p : ℕ) (fs : List (List ℕ)) (k : ℕ) → set (placed fs (blank l m p) columnCount) rPresent k ≡ l ∷ m ∷ p ∷ 0 ∷ 0 ∷ k ∷ map wordOf (cellsIn fs)
 unfolding placed cellsIn cellIn upto
 words-are l m p fs k = refl
 
-row-is : (l m p : ℕ) (fs : List (List ℕ)) → set (placed fs (blank l m p) 11) rPresent (masked fs 11) ≡ rowOf l m p 0 0 (cellsIn fs)
+row-is : (l m p : ℕ) (fs : List (List ℕ)) → set (placed fs (blank l m p) columnCount) rPresent (masked fs columnCount) ≡ rowOf l m p 0 0 (cellsIn fs)
 unfolding rowOf
-row-is l m p fs = ap (set (placed fs (blank l m p) 11) rPresent) (mask-is fs) ∙ words-are l m p fs (maskOf (cellsIn fs))
+row-is l m p fs = ap (set (placed fs (blank l m p) columnCount) rPresent) (mask-is fs) ∙ words-are l m p fs (maskOf (cellsIn fs))
 
 module _ (l m p : ℕ) (fs : List (List ℕ)) (row words : List ℕ) where
   pub cells-read : (r : Bool) → r ≡ true → CellsRead fs (blank l m p) words r → (row′ : List ℕ) → row′ ≡ words → Answer (fromCells l m p fs) row row′ true

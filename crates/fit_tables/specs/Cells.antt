@@ -3,10 +3,6 @@ use Prim.Native.Nat.{ℕ, _*_, _≤_}
 use native.Mathlib.Nat.{mul-le-mul-left}
 use native.Mathlib.Omega.{arith}
 use Rattle.layout.specs.Layout.{axisCodes}
-use Rattle.fit_tables.specs.Asks.{fewChannels}
 
 pub cells-in : (n ch : ℕ) → ch ≤ axisCodes → n * ch ≤ axisCodes * n
 cells-in n ch h = let a : n * ch ≤ n * axisCodes = mul-le-mul-left n h in omega arith
-
-pub cells-few : (n ch : ℕ) → ch ≤ fewChannels → n * ch ≤ fewChannels * n
-cells-few n ch h = let a : n * ch ≤ n * fewChannels = mul-le-mul-left n h in omega arith

@@ -10,10 +10,21 @@ ghost use Rattle.floats.specs.Lists.{filled};
 ghost use Rattle.curve_metric.specs.Below.{Below};
 ghost use Rattle.layout.specs.Layout.{axisCodes, mostPoints};
 ghost use Rattle.fit_slopes.specs.Sizes.{smallPoints};
-ghost use Rattle.fit_tables.specs.Asks.{fewChannels, Fitted};
+ghost use Rattle.fit_tables.specs.Asks.{smallNumbers, largeNumbers, wideNumbers, Fitted};
 
-// The channels of a long spline with few of them at most: three axes, and one that turns.
-pub const FEW_CHANNELS: usize = 4;
+// Work memory goes by the numbers of a spline, its points times its channels. Its sizes are those of a short spline with the usual
+// channels, and of a long one with few (three axes, and one that turns), with the usual and with all.
+const FEW_CHANNELS: usize = 4;
+
+pub const USUAL_CHANNELS: usize = 10;
+
+pub const SMALL_NUMBERS: usize = USUAL_CHANNELS * SMALL_POINTS;
+
+pub const LARGE_NUMBERS: usize = FEW_CHANNELS * MOST_POINTS;
+
+pub const WIDE_NUMBERS: usize = USUAL_CHANNELS * MOST_POINTS;
+
+pub const MOST_NUMBERS: usize = AXIS_CODES * MOST_POINTS;
 
 // Copies src over the front of dst.
 fn copy_to(src: &[f64], dst: &mut [f64])
@@ -74,17 +85,18 @@ fn lay_small(
     ks: &mut [f64],
     cs: &mut [f64],
 ) -> usize
+    requires { ⌜ n * ch ≤ smallNumbers ⌝ }
     requires { ⌜ (2 ≤ n) × ((n ≤ smallPoints) × (ch ≤ axisCodes)) ⌝ }
     requires { ⌜ Below (now ms) ch × (n * ch ≤ length (now pts)) ⌝ }
     requires { ⌜ (2 * n ≤ length (now ks)) × (2 * (n * ch) ≤ length (now cs)) ⌝ }
     ensures { λ r. ⌜ Fitted cubic n ch (now (ms .entry)) (now (pts .entry)) r (now (ks .exit)) (now (cs .exit)) ⌝ }
 {
     let mut ts = [0.0f64; SMALL_POINTS];
-    let mut slopes = [0.0f64; AXIS_CODES * SMALL_POINTS];
+    let mut slopes = [0.0f64; SMALL_NUMBERS];
     lay_in(cubic, n, ch, ms, pts, ks, cs, &mut ts, &mut slopes)
 }
 
-// The same, of any number of points with few channels.
+// The same, of any points with few channels, or of fewer with more.
 fn lay_large(
     cubic: bool,
     n: usize,
@@ -94,13 +106,35 @@ fn lay_large(
     ks: &mut [f64],
     cs: &mut [f64],
 ) -> usize
-    requires { ⌜ (2 ≤ n) × ((n ≤ mostPoints) × (ch ≤ fewChannels)) ⌝ }
+    requires { ⌜ n * ch ≤ largeNumbers ⌝ }
+    requires { ⌜ (2 ≤ n) × ((n ≤ mostPoints) × (ch ≤ axisCodes)) ⌝ }
     requires { ⌜ Below (now ms) ch × (n * ch ≤ length (now pts)) ⌝ }
     requires { ⌜ (2 * n ≤ length (now ks)) × (2 * (n * ch) ≤ length (now cs)) ⌝ }
     ensures { λ r. ⌜ Fitted cubic n ch (now (ms .entry)) (now (pts .entry)) r (now (ks .exit)) (now (cs .exit)) ⌝ }
 {
     let mut ts = [0.0f64; MOST_POINTS];
-    let mut slopes = [0.0f64; FEW_CHANNELS * MOST_POINTS];
+    let mut slopes = [0.0f64; LARGE_NUMBERS];
+    lay_in(cubic, n, ch, ms, pts, ks, cs, &mut ts, &mut slopes)
+}
+
+// The same, of any points with the usual channels, or of fewer with more.
+fn lay_wide(
+    cubic: bool,
+    n: usize,
+    ch: usize,
+    ms: &[usize],
+    pts: &[f64],
+    ks: &mut [f64],
+    cs: &mut [f64],
+) -> usize
+    requires { ⌜ n * ch ≤ wideNumbers ⌝ }
+    requires { ⌜ (2 ≤ n) × ((n ≤ mostPoints) × (ch ≤ axisCodes)) ⌝ }
+    requires { ⌜ Below (now ms) ch × (n * ch ≤ length (now pts)) ⌝ }
+    requires { ⌜ (2 * n ≤ length (now ks)) × (2 * (n * ch) ≤ length (now cs)) ⌝ }
+    ensures { λ r. ⌜ Fitted cubic n ch (now (ms .entry)) (now (pts .entry)) r (now (ks .exit)) (now (cs .exit)) ⌝ }
+{
+    let mut ts = [0.0f64; MOST_POINTS];
+    let mut slopes = [0.0f64; WIDE_NUMBERS];
     lay_in(cubic, n, ch, ms, pts, ks, cs, &mut ts, &mut slopes)
 }
 
@@ -120,11 +154,11 @@ fn lay_most(
     ensures { λ r. ⌜ Fitted cubic n ch (now (ms .entry)) (now (pts .entry)) r (now (ks .exit)) (now (cs .exit)) ⌝ }
 {
     let mut ts = [0.0f64; MOST_POINTS];
-    let mut slopes = [0.0f64; AXIS_CODES * MOST_POINTS];
+    let mut slopes = [0.0f64; MOST_NUMBERS];
     lay_in(cubic, n, ch, ms, pts, ks, cs, &mut ts, &mut slopes)
 }
 
-// The same in work memory for `size` points. It calls itself so that each memory has a frame of its own (crate spline_emit).
+// The same in work memory for `size` numbers. It calls itself so that each memory has a frame of its own (crate spline_emit).
 fn lay_for(
     size: usize,
     cubic: bool,
@@ -135,19 +169,24 @@ fn lay_for(
     ks: &mut [f64],
     cs: &mut [f64],
 ) -> usize
-    requires { ⌜ n ≤ size ⌝ }
+    requires { ⌜ n * ch ≤ size ⌝ }
     requires { ⌜ (2 ≤ n) × ((n ≤ mostPoints) × (ch ≤ axisCodes)) ⌝ }
     requires { ⌜ Below (now ms) ch × (n * ch ≤ length (now pts)) ⌝ }
     requires { ⌜ (2 * n ≤ length (now ks)) × (2 * (n * ch) ≤ length (now cs)) ⌝ }
     ensures { λ r. ⌜ Fitted cubic n ch (now (ms .entry)) (now (pts .entry)) r (now (ks .exit)) (now (cs .exit)) ⌝ }
 {
-    if size <= SMALL_POINTS {
-        return lay_small(cubic, n, ch, ms, pts, ks, cs);
-    }
-    if size <= MOST_POINTS {
-        if ch <= FEW_CHANNELS {
-            return lay_large(cubic, n, ch, ms, pts, ks, cs);
+    if n <= SMALL_POINTS {
+        if size <= SMALL_NUMBERS {
+            return lay_small(cubic, n, ch, ms, pts, ks, cs);
         }
+    }
+    if size <= LARGE_NUMBERS {
+        return lay_large(cubic, n, ch, ms, pts, ks, cs);
+    }
+    if size <= WIDE_NUMBERS {
+        return lay_wide(cubic, n, ch, ms, pts, ks, cs);
+    }
+    if size <= MOST_NUMBERS {
         return lay_most(cubic, n, ch, ms, pts, ks, cs);
     }
     lay_for(size - 1, cubic, n, ch, ms, pts, ks, cs)
@@ -168,5 +207,5 @@ pub fn lay_fit(
     requires { ⌜ (2 * n ≤ length (now ks)) × (2 * (n * ch) ≤ length (now cs)) ⌝ }
     ensures { λ r. ⌜ Fitted cubic n ch (now (ms .entry)) (now (pts .entry)) r (now (ks .exit)) (now (cs .exit)) ⌝ }
 {
-    lay_for(n, cubic, n, ch, ms, pts, ks, cs)
+    lay_for(n * ch, cubic, n, ch, ms, pts, ks, cs)
 }

@@ -2,9 +2,9 @@
 use Prim.Native.Nat.{ℕ, _+_, _-_, _^_}
 
 -- ---- What is chosen; the rest of this file follows from it.
--- X Y Z A B C U V W E
+-- X Y Z A B C U V W E, then A2 B2 C2 U2 V2 W2
 abbrev pub axisCodes : ℕ
-axisCodes = 10
+axisCodes = 16
 
 -- N F S D T, which ride on a group's first row
 abbrev pub riderCodes : ℕ

@@ -5,8 +5,8 @@ ghost use lib.Dec.{eqb};
 ghost use lib.ListN.{length};
 ghost use Rattle.layout.specs.Layout.{rowWords, stateWords};
 
-// X Y Z A B C U V W E.
-pub const AXIS_CODES: usize = 10;
+// X Y Z A B C U V W E, then A2 B2 C2 U2 V2 W2.
+pub const AXIS_CODES: usize = 16;
 
 // N F S D T, which ride on a group's first row.
 pub const RIDER_CODES: usize = 5;

@@ -33,7 +33,7 @@ use Rattle.push_resolve.specs.Resolved.{resolved}
 use Rattle.push_rows.specs.ArcSame.{arc-same}
 use Rattle.push_rows.specs.Own.{Ready, nonePlan, ownRows, OwnPlanned, TurnPlanned}
 
--- the positions, as a mask and the ten words after it
+-- the positions, as a mask and the words after it, one an axis
 pub place-is : (st : List ℕ) → getD st wKnown 0 < 2 ^ axisCodes → shown (getD st wKnown 0) (take axisCodes (drop (wKnown + 1) st)) ≡ position st
 unfolding shown pointWord
 place-is st h =

@@ -1,6 +1,5 @@
--- LAWS. What is planned and written is emitted; work memory for so many points and channels. Assumes nothing.
+-- LAWS. What is planned and written is emitted; work memory for so many numbers. Assumes nothing.
 use Prim.Native.Nat.{ℕ, _+_, _*_, _≤_}
-use native.Mathlib.Nat.{mul-le-mul, mul-le-mul-left}
 use native.Mathlib.Omega.{arith}
 use lib.ListN.{length}
 use mathlib.Core.Path.{subst, _≡_}
@@ -23,13 +22,9 @@ module _ {axes words store : List ℕ} {e : Emission} {pts ws ks cs : List Float
   unfolding plans-of
   emitted-by {rows} {out} {r} a = subst (λ (j : Job). Emitted j axes words store rows r out) ej (a .from plans-of)
 
--- ---- arrays for p points of w channels have room for no more of either
-pub numbers-in : {pts cs : List Float} (held ch p w : ℕ) → held + 1 ≤ p → ch ≤ w → 1 ≤ w → p * w ≤ length pts → 2 * (p * w) ≤ length cs
-    → Numbers held ch pts cs
-numbers-in held ch p w few narrow some lp lc =
-    let cells : (held + 1) * ch ≤ p * w = mul-le-mul {n₁ = held + 1} {m₁ = ch} {n₂ = p} {m₂ = w} few narrow in
-    let long : p * 1 ≤ p * w = mul-le-mul-left p some in
-    record {
-      points = omega arith;
-      controls = record { fit = omega arith; basis = omega arith };
-    }
+-- ---- arrays for w numbers have room for no more, and for their points
+pub numbers-in : {pts cs : List Float} (held ch w : ℕ) → held + 1 ≤ w → (held + 1) * ch ≤ w → w ≤ length pts → 2 * w ≤ length cs → Numbers held ch pts cs
+numbers-in held ch w long cells lp lc = record {
+  points = omega arith;
+  controls = record { fit = omega arith; basis = omega arith };
+}

@@ -1,3 +1,3 @@
-// The emission of a held spline, in work memory of three sizes.
+// The emission of a held spline, in work memory of five sizes.
 pub mod memory;
 pub mod sizes;

@@ -1,21 +1,24 @@
-// An emission in work memory by the spline's points and channels.
+// An emission in work memory by the spline's points and numbers.
 use crate::sizes::CONTROLS;
 use crate::sizes::KNOTS;
 use crate::sizes::MIDDLE_LEFTS;
+use crate::sizes::MIDDLE_NUMBERS;
 use crate::sizes::MIDDLE_POINTS;
 use crate::sizes::MOST_LEFTS;
 use crate::sizes::SMALL_LEFTS;
 use fit_slopes::sizes::SMALL_POINTS;
-use fit_tables::FEW_CHANNELS;
-use layout::AXIS_CODES;
+use fit_tables::LARGE_NUMBERS;
+use fit_tables::MOST_NUMBERS;
+use fit_tables::SMALL_NUMBERS;
+use fit_tables::WIDE_NUMBERS;
 use layout::MOST_POINTS;
 use spline_job::Job;
 use spline_plan::plan_emission;
 use spline_write::write_emission;
 ghost use Prim.Native.Nat.{_*_, _≤_, _<_};
 ghost use Rattle.fit_slopes.specs.Sizes.{smallPoints};
-ghost use Rattle.fit_tables.specs.Asks.{fewChannels};
-ghost use Rattle.spline_emission.specs.Sizes.{middlePoints, Tables, Numbers};
+ghost use Rattle.fit_tables.specs.Asks.{smallNumbers, largeNumbers, wideNumbers};
+ghost use Rattle.spline_emission.specs.Sizes.{middlePoints, middleNumbers, numbersOf, Tables, Numbers};
 ghost use Rattle.spline_write.specs.Emits.{mostOwn, Emitted};
 ghost use Rattle.spline_curve.specs.Asks.{Holds, channelCount};
 
@@ -45,13 +48,13 @@ fn emit_few(
 // An emission in the work memory of a small spline.
 pub fn emit_small(job: Job, axes: &[u64], words: &[u64], store: &[u64], rows: &mut [u64]) -> u64
     requires { ⌜ Holds (now axes) (now words) (now store) (job .held) × (job .own ≤ mostOwn) ⌝ }
-    requires { ⌜ job .held < smallPoints ⌝ }
+    requires { ⌜ (job .held < smallPoints) × (numbersOf (now axes) (now store) (job .held) ≤ smallNumbers) ⌝ }
     ensures { λ r. ⌜ Emitted job (now (axes .entry)) (now (words .entry)) (now (store .entry)) (now (rows .entry)) r (now (rows .exit)) ⌝ }
 {
-    let mut pts = [0.0f64; AXIS_CODES * SMALL_POINTS];
+    let mut pts = [0.0f64; SMALL_NUMBERS];
     let mut ws = [0.0f64; SMALL_POINTS];
     let mut ks = [0.0f64; KNOTS * SMALL_POINTS];
-    let mut cs = [0.0f64; CONTROLS * AXIS_CODES * SMALL_POINTS];
+    let mut cs = [0.0f64; CONTROLS * SMALL_NUMBERS];
     let mut lefts = [0u8; SMALL_LEFTS];
     emit_few(
         job,
@@ -70,13 +73,13 @@ pub fn emit_small(job: Job, axes: &[u64], words: &[u64], store: &[u64], rows: &m
 // An emission in the work memory of a middling spline.
 pub fn emit_middle(job: Job, axes: &[u64], words: &[u64], store: &[u64], rows: &mut [u64]) -> u64
     requires { ⌜ Holds (now axes) (now words) (now store) (job .held) × (job .own ≤ mostOwn) ⌝ }
-    requires { ⌜ job .held < middlePoints ⌝ }
+    requires { ⌜ (job .held < middlePoints) × (numbersOf (now axes) (now store) (job .held) ≤ middleNumbers) ⌝ }
     ensures { λ r. ⌜ Emitted job (now (axes .entry)) (now (words .entry)) (now (store .entry)) (now (rows .entry)) r (now (rows .exit)) ⌝ }
 {
-    let mut pts = [0.0f64; AXIS_CODES * MIDDLE_POINTS];
+    let mut pts = [0.0f64; MIDDLE_NUMBERS];
     let mut ws = [0.0f64; MIDDLE_POINTS];
     let mut ks = [0.0f64; KNOTS * MIDDLE_POINTS];
-    let mut cs = [0.0f64; CONTROLS * AXIS_CODES * MIDDLE_POINTS];
+    let mut cs = [0.0f64; CONTROLS * MIDDLE_NUMBERS];
     let mut lefts = [0u8; MIDDLE_LEFTS];
     emit_few(
         job,
@@ -125,14 +128,25 @@ fn emit_many(
     write_emission(e, axes, store, rows, pts, &ws, &ks, cs, &counts, &lefts)
 }
 
-// An emission in the work memory of a spline with few channels.
+// An emission in the work memory of a long spline with few channels, or of another with no more numbers.
 pub fn emit_large(job: Job, axes: &[u64], words: &[u64], store: &[u64], rows: &mut [u64]) -> u64
     requires { ⌜ Holds (now axes) (now words) (now store) (job .held) × (job .own ≤ mostOwn) ⌝ }
-    requires { ⌜ channelCount (now axes) (now store) (job .held) ≤ fewChannels ⌝ }
+    requires { ⌜ numbersOf (now axes) (now store) (job .held) ≤ largeNumbers ⌝ }
     ensures { λ r. ⌜ Emitted job (now (axes .entry)) (now (words .entry)) (now (store .entry)) (now (rows .entry)) r (now (rows .exit)) ⌝ }
 {
-    let mut pts = [0.0f64; FEW_CHANNELS * MOST_POINTS];
-    let mut cs = [0.0f64; CONTROLS * FEW_CHANNELS * MOST_POINTS];
+    let mut pts = [0.0f64; LARGE_NUMBERS];
+    let mut cs = [0.0f64; CONTROLS * LARGE_NUMBERS];
+    emit_many(job, axes, words, store, rows, &mut pts, &mut cs)
+}
+
+// An emission in the work memory of a long spline with the usual channels.
+pub fn emit_wide(job: Job, axes: &[u64], words: &[u64], store: &[u64], rows: &mut [u64]) -> u64
+    requires { ⌜ Holds (now axes) (now words) (now store) (job .held) × (job .own ≤ mostOwn) ⌝ }
+    requires { ⌜ numbersOf (now axes) (now store) (job .held) ≤ wideNumbers ⌝ }
+    ensures { λ r. ⌜ Emitted job (now (axes .entry)) (now (words .entry)) (now (store .entry)) (now (rows .entry)) r (now (rows .exit)) ⌝ }
+{
+    let mut pts = [0.0f64; WIDE_NUMBERS];
+    let mut cs = [0.0f64; CONTROLS * WIDE_NUMBERS];
     emit_many(job, axes, words, store, rows, &mut pts, &mut cs)
 }
 
@@ -141,7 +155,7 @@ pub fn emit_most(job: Job, axes: &[u64], words: &[u64], store: &[u64], rows: &mu
     requires { ⌜ Holds (now axes) (now words) (now store) (job .held) × (job .own ≤ mostOwn) ⌝ }
     ensures { λ r. ⌜ Emitted job (now (axes .entry)) (now (words .entry)) (now (store .entry)) (now (rows .entry)) r (now (rows .exit)) ⌝ }
 {
-    let mut pts = [0.0f64; AXIS_CODES * MOST_POINTS];
-    let mut cs = [0.0f64; CONTROLS * AXIS_CODES * MOST_POINTS];
+    let mut pts = [0.0f64; MOST_NUMBERS];
+    let mut cs = [0.0f64; CONTROLS * MOST_NUMBERS];
     emit_many(job, axes, words, store, rows, &mut pts, &mut cs)
 }

@@ -47,7 +47,7 @@ splineWith st start blocks = record { motion = motionNow st; power = degree st; 
 abbrev most : ℕ
 most = 2 ^ 48 + 1
 
--- ---- as a state and a store have them: ten words of a part of the state beside their mask, and the held rows
+-- ---- as a state and a store have them: a part of the state, a word an axis, beside its mask, and the held rows
 shown-part : (m a : ℕ) (l : List ℕ) → m < axisMasks → shown m (take axisCodes (drop a l)) ≡ (λ (k : ℕ). cond (has m k) (some (getD l (a + k) 0)) none)
 unfolding shown
 shown-part m a l h = fun-ext (λ k. one k (has m k) refl)

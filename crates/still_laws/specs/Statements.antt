@@ -12,7 +12,7 @@ use Rattle.row_cells.specs.Bits.{has}
 use Rattle.row_cells.specs.Row.{motionOf, markOf, presentOf, hasPoint}
 use Rattle.still_curved.specs.Curved.{rowAt, motionAfter, motionBehind, shows, stillCurved}
 
--- ---- 10.2: what the mask of a path says, code by code: X Y Z A B C U V W E, and I J K CR
+-- ---- 10.2: what the mask of a path says, code by code: the axes, and I J K CR
 abbrev pub onPath : ℕ → Bool
 onPath k = ltb k axisCodes || (leb cOffset k && leb k cCR)
 

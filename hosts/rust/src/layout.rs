@@ -1,7 +1,7 @@
 //! The layout of rows, store and saved state (docs/INTERFACE.md): the first few numbers are chosen, the rest follow.
 
-/// X Y Z A B C U V W E.
-pub const AXIS_CODES: usize = 10;
+/// X Y Z A B C U V W E, then A2 B2 C2 U2 V2 W2.
+pub const AXIS_CODES: usize = 16;
 /// N F S D T.
 pub const RIDER_CODES: usize = 5;
 /// Blocks that a spline holds at most.
@@ -11,8 +11,24 @@ pub const STORE_BLOCKS: usize = 256;
 pub const X: usize = 0;
 pub const Y: usize = 1;
 pub const Z: usize = 2;
+pub const A: usize = 3;
+pub const B: usize = 4;
+pub const C: usize = 5;
+pub const U: usize = 6;
+pub const V: usize = 7;
+pub const W: usize = 8;
+pub const E: usize = 9;
+pub const A2: usize = 10;
+pub const B2: usize = 11;
+pub const C2: usize = 12;
+pub const U2: usize = 13;
+pub const V2: usize = 14;
+pub const W2: usize = 15;
 pub const N: usize = AXIS_CODES;
 pub const F: usize = N + 1;
+pub const S: usize = F + 1;
+pub const D: usize = S + 1;
+pub const T: usize = D + 1;
 /// Codes that an axis list may name.
 pub const LIST_CODES: usize = AXIS_CODES + RIDER_CODES;
 pub const I: usize = LIST_CODES;

@@ -160,6 +160,8 @@ mod tests {
     use super::*;
 
     const XYZ: [u64; 3] = [X as u64, Y as u64, Z as u64];
+    /// What hosts lent before the second axes.
+    const STATE_WORDS_OF_TEN_AXES: usize = 44;
 
     fn block(line: u32, motion: u8, cells: &[(usize, f64)]) -> Row {
         let mut row = Row { line, motion, ..Row::default() };
@@ -197,6 +199,33 @@ mod tests {
     }
 
     #[test]
+    fn the_layout_is_the_interfaces() {
+        assert_eq!((AXIS_CODES, LIST_CODES, CELLS), (W2 + 1, 21, 29));
+        assert_eq!((ROW_WORDS, STATE_WORDS, STORE_WORDS), (35, 62, 8960));
+    }
+
+    #[test]
+    fn second_axes_go_along_with_an_arc() {
+        let codes: Vec<u64> = (0..LIST_CODES as u64).collect();
+        let mut flattener = Flattener::start(30.0, &codes).unwrap();
+        let mut out = Vec::new();
+        flattener.push(&block(1, G1, &[(X, 10.0), (Y, 0.0), (A2, 1.0)]), &mut out).unwrap();
+        let arc = block(2, G3, &[(X, 0.0), (Y, 10.0), (A2, 3.0), (W2, 5.0), (I, -10.0), (PL, 7.0)]);
+        let said = flattener.push(&arc, &mut out).unwrap();
+        assert_eq!((said.warning, said.held), (0, 1 << W2));
+        assert_eq!(said.rows, [block(2, G1, &[(X, 0.0), (Y, 10.0), (A2, 3.0), (W2, 5.0)])]);
+    }
+
+    #[test]
+    fn a_state_of_ten_axes_is_refused() {
+        let mut flattener = Flattener::start(0.1, &XYZ).unwrap();
+        flattener.state.truncate(STATE_WORDS_OF_TEN_AXES);
+        assert_eq!(flattener.seed(X as u64, 1.0), Err(Refused(9)));
+        assert_eq!(flattener.push(&block(1, G1, &[(X, 1.0)]), &mut Vec::new()), Err(Refused(9)));
+        assert_eq!(flattener.close(&mut Vec::new()), Err(Refused(9)));
+    }
+
+    #[test]
     fn places_grow_for_a_long_arc() {
         let mut flattener = Flattener::start(0.1, &XYZ).unwrap();
         flattener.seed(X as u64, 10.0).unwrap();
@@ -213,6 +242,7 @@ mod tests {
     fn a_refusal_has_its_number_and_changes_nothing() {
         assert_eq!(Flattener::start(0.0, &XYZ).err(), Some(Refused(1)));
         assert_eq!(Flattener::start(0.1, &[LIST_CODES as u64]).err(), Some(Refused(2)));
+        assert_eq!(Flattener::start(0.1, &[0; LIST_CODES + 1]).err(), Some(Refused(2)));
         let mut flattener = Flattener::start(0.1, &XYZ).unwrap();
         assert_eq!(flattener.seed(X as u64, f64::NAN), Err(Refused(3)));
         let before = flattener.state.clone();

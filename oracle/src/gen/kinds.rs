@@ -3,18 +3,44 @@
 use crate::sequence::*;
 use crate::words::*;
 
+/// Codes of a list that is not long, at most.
+const MOST_SHORT: u64 = 10;
+
 impl Gen {
     pub fn axis_list(&mut self) -> Vec<u64> {
+        if self.long {
+            self.long_list()
+        } else {
+            self.short_list()
+        }
+    }
+
+    fn short_list(&mut self) -> Vec<u64> {
         match self.rng.below(10) {
-            0..=2 => vec![0, 1, 2],
-            3 => vec![0, 1, 2, 9],
-            4 => (0..LIST_CODES as u64).collect(),
+            0..=3 => vec![0, 1, 2],
+            4 => vec![0, 1, 2, 9],
             5..=7 => self.shuffled(vec![0, 1, 2, 9]),
             8 if self.rng.one_in(4) => Vec::new(),
             _ => {
-                let list = (0..LIST_CODES as u64).filter(|_| !self.rng.one_in(3)).collect();
-                self.shuffled(list)
+                let mut list = self.shuffled((0..LIST_CODES as u64).collect());
+                list.truncate(1 + self.rng.below(MOST_SHORT) as usize);
+                list
             }
+        }
+    }
+
+    /// X Y Z mostly among them, since an arc needs two of these; in code order at times.
+    fn long_list(&mut self) -> Vec<u64> {
+        let count = MOST_SHORT + 1 + self.rng.below(LIST_CODES as u64 - MOST_SHORT);
+        let xyz: Vec<u64> = if self.rng.one_in(6) { Vec::new() } else { vec![0, 1, 2] };
+        let others = self.shuffled((0..LIST_CODES as u64).filter(|code| !xyz.contains(code)).collect());
+        let mut list = [xyz, others].concat();
+        list.truncate(count as usize);
+        if self.rng.one_in(4) {
+            list.sort();
+            list
+        } else {
+            self.shuffled(list)
         }
     }
 

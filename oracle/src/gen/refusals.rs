@@ -3,6 +3,9 @@
 use crate::sequence::*;
 use crate::words::*;
 
+/// A state of ten axes, as it was before the second ones.
+const BASE_WORDS: usize = 44;
+
 impl Gen {
     pub fn refusals(&mut self) {
         self.sizes();
@@ -145,7 +148,7 @@ impl Gen {
     /// A state that 9 refuses, tried, and set right again.
     pub fn bad_state(&mut self) {
         if self.rng.one_in(5) {
-            let length = self.rng.pick(&[0, 1, 43, 45, 64]);
+            let length = self.rng.pick(&[0, 1, BASE_WORDS, STATE_WORDS - 1, STATE_WORDS + 1, MOST_LENGTH]);
             self.length(length);
             self.try_all();
             self.length(STATE_WORDS);
@@ -170,7 +173,7 @@ impl Gen {
         }
         let (at, word) = match self.rng.below(10) {
             0 => (0, self.rng.pick(&[0, 1 << 63, 0x7ff0_0000_0000_0000, u64::MAX])),
-            1 => (W_COUNT, self.rng.pick(&[16, 200, u64::MAX])),
+            1 => (W_COUNT, self.rng.pick(&[LIST_CODES as u64 + 1, 200, u64::MAX])),
             2 => (W_AXES, self.rng.pick(&[LAST_CODE + 1, 1, 2, u64::MAX])),
             3 => (W_MOTION, self.rng.pick(&[0, 1, G1, FIRST_OTHER, LAST_MOTION + 1])),
             4 => (W_PLANE, self.rng.pick(&[0, 16, 20])),

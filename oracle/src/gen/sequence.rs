@@ -15,6 +15,8 @@ pub struct Gen {
     pub out: String,
     pub lent: Lent,
     pub line: u64,
+    /// Its list has 11 codes or more.
+    pub long: bool,
     pub scale: f64,
     pub origin: f64,
 }

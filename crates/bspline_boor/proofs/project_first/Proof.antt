@@ -13,68 +13,68 @@ shared-slice-read-by : tie.Need-shared-slice-read-by
 shared-slice-read-by c = search needs
 
 first-at-requires : tie.Need-first-at-requires
-first-at-requires c κs = c .before .before .pre
+first-at-requires c κs = c .before .before .pre .0
 
 first-at-requires-2 : tie.Need-first-at-requires-2
-first-at-requires-2 c κs = c .before .before .before .pre
+first-at-requires-2 c κs = c .before .before .before .pre .0
 
 first-at-requires-3 : tie.Need-first-at-requires-3
-first-at-requires-3 c κs = c .before .before .before .before .pre
+first-at-requires-3 c κs = c .before .before .before .before .pre .0
 
 first-at-requires-4 : tie.Need-first-at-requires-4
-first-at-requires-4 c κs = c .before .before .before .before .before .pre
+first-at-requires-4 c κs = c .before .before .before .before .before .pre .0
 
 first-at-requires-5 : tie.Need-first-at-requires-5
-first-at-requires-5 c κs = c .before .before .before .before .before .before .pre
+first-at-requires-5 c κs = c .before .before .before .before .before .before .pre .0
 
 first-at-requires-6 : tie.Need-first-at-requires-6
-first-at-requires-6 c κs = c .before .before .before .before .before .before .before .pre
+first-at-requires-6 c κs = c .before .before .before .before .before .before .before .pre .0
 
 first-at-requires-7 : tie.Need-first-at-requires-7
-first-at-requires-7 c κs = c .before .before .before .before .before .before .before .before .pre
+first-at-requires-7 c κs = c .before .before .before .before .before .before .before .before .pre .0
 
 first-at-requires-8 : tie.Need-first-at-requires-8
-first-at-requires-8 c κs = c .before .before .before .before .before .before .before .before .before .pre
+first-at-requires-8 c κs = c .before .before .before .before .before .before .before .before .before .pre .0
 
 first-at-requires-9 : tie.Need-first-at-requires-9
 first-at-requires-9 c κs =
     let half = c .before .before .before .before .before .before .before .before in
-    half .before .before .pre
+    half .before .before .pre .0
 
 first-at-requires-10 : tie.Need-first-at-requires-10
 first-at-requires-10 c κs =
     let half = c .before .before .before .before .before .before .before .before in
-    half .before .before .before .pre
+    half .before .before .before .pre .0
 
 first-at-requires-11 : tie.Need-first-at-requires-11
 first-at-requires-11 c κs =
     let half = c .before .before .before .before .before .before .before .before in
-    half .before .before .before .before .pre
+    half .before .before .before .before .pre .0
 
 first-at-requires-12 : tie.Need-first-at-requires-12
 first-at-requires-12 c κs =
     let half = c .before .before .before .before .before .before .before .before in
-    half .before .before .before .before .before .pre
+    half .before .before .before .before .before .pre .0
 
 first-at-requires-13 : tie.Need-first-at-requires-13
 first-at-requires-13 c κs =
     let half = c .before .before .before .before .before .before .before .before in
-    half .before .before .before .before .before .before .pre
+    half .before .before .before .before .before .before .pre .0
 
 first-at-requires-14 : tie.Need-first-at-requires-14
 first-at-requires-14 c κs =
     let half = c .before .before .before .before .before .before .before .before in
-    half .before .before .before .before .before .before .before .pre
+    half .before .before .before .before .before .before .before .pre .0
 
 first-at-requires-15 : tie.Need-first-at-requires-15
 first-at-requires-15 c κs =
     let half = c .before .before .before .before .before .before .before .before in
-    half .before .before .before .before .before .before .before .before .pre
+    half .before .before .before .before .before .before .before .before .pre .0
 
 first-at-requires-16 : tie.Need-first-at-requires-16
 first-at-requires-16 c κs =
     let half = c .before .before .before .before .before .before .before .before in
-    half .before .before .before .before .before .before .before .before .before .pre
+    half .before .before .before .before .before .before .before .before .before .pre .0
 
 returns : tie.Need-returns
 returns c =

@@ -15,68 +15,68 @@ top-four-requires : tie.Need-top-four-requires
 top-four-requires c κs = search needs
 
 fourth-at-requires : tie.Need-fourth-at-requires
-fourth-at-requires c κs = c .before .before .pre
+fourth-at-requires c κs = c .before .before .pre .0
 
 fourth-at-requires-2 : tie.Need-fourth-at-requires-2
-fourth-at-requires-2 c κs = c .before .before .before .pre
+fourth-at-requires-2 c κs = c .before .before .before .pre .0
 
 fourth-at-requires-3 : tie.Need-fourth-at-requires-3
-fourth-at-requires-3 c κs = c .before .before .before .before .pre
+fourth-at-requires-3 c κs = c .before .before .before .before .pre .0
 
 fourth-at-requires-4 : tie.Need-fourth-at-requires-4
-fourth-at-requires-4 c κs = c .before .before .before .before .before .pre
+fourth-at-requires-4 c κs = c .before .before .before .before .before .pre .0
 
 fourth-at-requires-5 : tie.Need-fourth-at-requires-5
-fourth-at-requires-5 c κs = c .before .before .before .before .before .before .pre
+fourth-at-requires-5 c κs = c .before .before .before .before .before .before .pre .0
 
 fourth-at-requires-6 : tie.Need-fourth-at-requires-6
-fourth-at-requires-6 c κs = c .before .before .before .before .before .before .before .pre
+fourth-at-requires-6 c κs = c .before .before .before .before .before .before .before .pre .0
 
 fourth-at-requires-7 : tie.Need-fourth-at-requires-7
-fourth-at-requires-7 c κs = c .before .before .before .before .before .before .before .before .pre
+fourth-at-requires-7 c κs = c .before .before .before .before .before .before .before .before .pre .0
 
 fourth-at-requires-8 : tie.Need-fourth-at-requires-8
-fourth-at-requires-8 c κs = c .before .before .before .before .before .before .before .before .before .pre
+fourth-at-requires-8 c κs = c .before .before .before .before .before .before .before .before .before .pre .0
 
 fourth-at-requires-9 : tie.Need-fourth-at-requires-9
 fourth-at-requires-9 c κs =
     let half = c .before .before .before .before .before .before .before .before in
-    half .before .before .pre
+    half .before .before .pre .0
 
 fourth-at-requires-10 : tie.Need-fourth-at-requires-10
 fourth-at-requires-10 c κs =
     let half = c .before .before .before .before .before .before .before .before in
-    half .before .before .before .pre
+    half .before .before .before .pre .0
 
 fourth-at-requires-11 : tie.Need-fourth-at-requires-11
 fourth-at-requires-11 c κs =
     let half = c .before .before .before .before .before .before .before .before in
-    half .before .before .before .before .pre
+    half .before .before .before .before .pre .0
 
 fourth-at-requires-12 : tie.Need-fourth-at-requires-12
 fourth-at-requires-12 c κs =
     let half = c .before .before .before .before .before .before .before .before in
-    half .before .before .before .before .before .pre
+    half .before .before .before .before .before .pre .0
 
 fourth-at-requires-13 : tie.Need-fourth-at-requires-13
 fourth-at-requires-13 c κs =
     let half = c .before .before .before .before .before .before .before .before in
-    half .before .before .before .before .before .before .pre
+    half .before .before .before .before .before .before .pre .0
 
 fourth-at-requires-14 : tie.Need-fourth-at-requires-14
 fourth-at-requires-14 c κs =
     let half = c .before .before .before .before .before .before .before .before in
-    half .before .before .before .before .before .before .before .pre
+    half .before .before .before .before .before .before .before .pre .0
 
 fourth-at-requires-15 : tie.Need-fourth-at-requires-15
 fourth-at-requires-15 c κs =
     let half = c .before .before .before .before .before .before .before .before in
-    half .before .before .before .before .before .before .before .before .pre
+    half .before .before .before .before .before .before .before .before .pre .0
 
 fourth-at-requires-16 : tie.Need-fourth-at-requires-16
 fourth-at-requires-16 c κs =
     let half = c .before .before .before .before .before .before .before .before in
-    half .before .before .before .before .before .before .before .before .before .pre
+    half .before .before .before .before .before .before .before .before .before .pre .0
 
 returns : tie.Need-returns
 returns c =

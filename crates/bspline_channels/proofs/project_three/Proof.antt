@@ -15,68 +15,68 @@ top-three-requires : tie.Need-top-three-requires
 top-three-requires c κs = search needs
 
 third-at-requires : tie.Need-third-at-requires
-third-at-requires c κs = c .before .before .pre
+third-at-requires c κs = c .before .before .pre .0
 
 third-at-requires-2 : tie.Need-third-at-requires-2
-third-at-requires-2 c κs = c .before .before .before .pre
+third-at-requires-2 c κs = c .before .before .before .pre .0
 
 third-at-requires-3 : tie.Need-third-at-requires-3
-third-at-requires-3 c κs = c .before .before .before .before .pre
+third-at-requires-3 c κs = c .before .before .before .before .pre .0
 
 third-at-requires-4 : tie.Need-third-at-requires-4
-third-at-requires-4 c κs = c .before .before .before .before .before .pre
+third-at-requires-4 c κs = c .before .before .before .before .before .pre .0
 
 third-at-requires-5 : tie.Need-third-at-requires-5
-third-at-requires-5 c κs = c .before .before .before .before .before .before .pre
+third-at-requires-5 c κs = c .before .before .before .before .before .before .pre .0
 
 third-at-requires-6 : tie.Need-third-at-requires-6
-third-at-requires-6 c κs = c .before .before .before .before .before .before .before .pre
+third-at-requires-6 c κs = c .before .before .before .before .before .before .before .pre .0
 
 third-at-requires-7 : tie.Need-third-at-requires-7
-third-at-requires-7 c κs = c .before .before .before .before .before .before .before .before .pre
+third-at-requires-7 c κs = c .before .before .before .before .before .before .before .before .pre .0
 
 third-at-requires-8 : tie.Need-third-at-requires-8
-third-at-requires-8 c κs = c .before .before .before .before .before .before .before .before .before .pre
+third-at-requires-8 c κs = c .before .before .before .before .before .before .before .before .before .pre .0
 
 third-at-requires-9 : tie.Need-third-at-requires-9
 third-at-requires-9 c κs =
     let half = c .before .before .before .before .before .before .before .before in
-    half .before .before .pre
+    half .before .before .pre .0
 
 third-at-requires-10 : tie.Need-third-at-requires-10
 third-at-requires-10 c κs =
     let half = c .before .before .before .before .before .before .before .before in
-    half .before .before .before .pre
+    half .before .before .before .pre .0
 
 third-at-requires-11 : tie.Need-third-at-requires-11
 third-at-requires-11 c κs =
     let half = c .before .before .before .before .before .before .before .before in
-    half .before .before .before .before .pre
+    half .before .before .before .before .pre .0
 
 third-at-requires-12 : tie.Need-third-at-requires-12
 third-at-requires-12 c κs =
     let half = c .before .before .before .before .before .before .before .before in
-    half .before .before .before .before .before .pre
+    half .before .before .before .before .before .pre .0
 
 third-at-requires-13 : tie.Need-third-at-requires-13
 third-at-requires-13 c κs =
     let half = c .before .before .before .before .before .before .before .before in
-    half .before .before .before .before .before .before .pre
+    half .before .before .before .before .before .before .pre .0
 
 third-at-requires-14 : tie.Need-third-at-requires-14
 third-at-requires-14 c κs =
     let half = c .before .before .before .before .before .before .before .before in
-    half .before .before .before .before .before .before .before .pre
+    half .before .before .before .before .before .before .before .pre .0
 
 third-at-requires-15 : tie.Need-third-at-requires-15
 third-at-requires-15 c κs =
     let half = c .before .before .before .before .before .before .before .before in
-    half .before .before .before .before .before .before .before .before .pre
+    half .before .before .before .before .before .before .before .before .pre .0
 
 third-at-requires-16 : tie.Need-third-at-requires-16
 third-at-requires-16 c κs =
     let half = c .before .before .before .before .before .before .before .before in
-    half .before .before .before .before .before .before .before .before .before .pre
+    half .before .before .before .before .before .before .before .before .before .pre .0
 
 returns : tie.Need-returns
 returns c =

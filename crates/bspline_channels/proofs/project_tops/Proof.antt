@@ -7,6 +7,7 @@ use lib.ListN.{length}
 use Rattle.floats.specs.Numbers.{_⊘_}
 use Rattle.floats.specs.Fill.{Filling, filling-none, filling-more}
 use Rattle.bspline_low.specs.Low.{topOf}
+use Rattle.curve_metric.specs.Widest.{widest}
 use Rattle.bspline_tables.specs.RowLaws.{last-index, source, next-source}
 use Rattle.bspline_channels.proofs.Ratios.{ratio-is, ratios-by}
 use borrow.Author.Needs.{needs}
@@ -14,7 +15,7 @@ use Rattle.bspline_channels.proofs.project_tops.Statement.{statement}
 use Rattle.bspline_channels.proofs.project_tops.Tie as tie
 
 abbrev Inv-loop : tie.InvT-loop
-Inv-loop s p cw n from ch by r₀ a₀ c₀ r a c = ((c ≤ ch) × ((a ≡ c * n + from) × (length r ≡ 16))) × Filling (λ i. topOf s p cw (i * n + from) ⊘ by) c r₀ r
+Inv-loop s p cw n from ch by r₀ a₀ c₀ r a c = ((c ≤ ch) × ((a ≡ c * n + from) × (length r ≡ widest))) × Filling (λ i. topOf s p cw (i * n + from) ⊘ by) c r₀ r
 
 abbrev μ-loop : tie.MeasureT-loop
 μ-loop s p cw n from ch by r₀ a₀ c₀ r a c = ch - c

@@ -1,6 +1,4 @@
 -- `fit_tables::lay_large` meets its contract. Assumes nothing.
-use native.Mathlib.Omega.{arith}
-use Rattle.fit_tables.specs.Cells.{cells-few}
 use borrow.Author.Needs.{needs}
 use Rattle.fit_tables.proofs.lay_large.Statement.{statement}
 use Rattle.fit_tables.proofs.lay_large.Tie as tie
@@ -13,10 +11,9 @@ slice-aggregate-lay-in-2 c = search needs
 
 lay-in-requires : tie.Need-lay-in-requires
 lay-in-requires c κs =
-    let start = c .before .before .before .before .before .before .before .before in
-    let pre = (start .pre) in
-    let cells = cells-few (start .args .n) (start .args .ch) (pre .0 .1 .1) in
-    ((pre .0 .0, (pre .0 .1 .0, omega (arith, pre .0 .1 .1))), (pre .1 .0, (pre .1 .1, (pre .0 .1 .0, omega (arith, cells, pre .0 .1 .0)))))
+    let pre = c .before .before .before .before .before .before .before .before .pre in
+    let asked = pre .1 in
+    (asked .0, (asked .1 .0, (asked .1 .1, (asked .0 .1 .0, pre .0))))
 
 same-length : tie.Need-same-length
 same-length c = search needs

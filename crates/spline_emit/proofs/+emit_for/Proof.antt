@@ -4,6 +4,7 @@ use borrow.Author.Needs.{needs}
 use Prim.Native.Nat.{ℕ, _<_}
 use borrow.Fn.Kinds.{In}
 use borrow.Fn.PlainCycle.{Measures, is, falls, and}
+use Rattle.spline_emission.specs.SizeLaws.{numbers-few}
 use Rattle.spline_emit.proofs.emit_for.Reads as emit-for
 use Rattle.spline_emit.proofs.emit_for.Kinds as emit-for-kinds
 use Rattle.spline_emit.proofs.+emit_for.Lts-emit_for as emit-for-lts
@@ -11,7 +12,7 @@ use Rattle.spline_emission.proofs.memory.emit_large.Reads as emit-large-reads
 use Rattle.spline_emission.proofs.memory.emit_middle.Reads as emit-middle-reads
 use Rattle.spline_emission.proofs.memory.emit_most.Reads as emit-most-reads
 use Rattle.spline_emission.proofs.memory.emit_small.Reads as emit-small-reads
-use Rattle.spline_emit.proofs.count_channels.Reads as count-channels-reads
+use Rattle.spline_emission.proofs.memory.emit_wide.Reads as emit-wide-reads
 use Rattle.spline_emit.proofs.+emit_for.{statement}
 use Rattle.spline_emit.proofs.+emit_for.Tie.{close}
 
@@ -30,10 +31,10 @@ emit-for-emit-small-requires : (t : ℕ) → emit-for-lts.Need-emit-small-requir
   emit-small-reads.Learnt,
   emit-middle-reads.Asked,
   emit-middle-reads.Learnt,
-  count-channels-reads.Asked,
-  count-channels-reads.Learnt,
   emit-large-reads.Asked,
   emit-large-reads.Learnt,
+  emit-wide-reads.Asked,
+  emit-wide-reads.Learnt,
   emit-most-reads.Asked,
   emit-most-reads.Learnt,
   emit-for-below t,
@@ -46,10 +47,10 @@ emit-for-same-length : (t : ℕ) → emit-for-lts.Need-same-length (
   emit-small-reads.Learnt,
   emit-middle-reads.Asked,
   emit-middle-reads.Learnt,
-  count-channels-reads.Asked,
-  count-channels-reads.Learnt,
   emit-large-reads.Asked,
   emit-large-reads.Learnt,
+  emit-wide-reads.Asked,
+  emit-wide-reads.Learnt,
   emit-most-reads.Asked,
   emit-most-reads.Learnt,
   emit-for-below t,
@@ -62,10 +63,10 @@ emit-for-returns : (t : ℕ) → emit-for-lts.Need-returns (
   emit-small-reads.Learnt,
   emit-middle-reads.Asked,
   emit-middle-reads.Learnt,
-  count-channels-reads.Asked,
-  count-channels-reads.Learnt,
   emit-large-reads.Asked,
   emit-large-reads.Learnt,
+  emit-wide-reads.Asked,
+  emit-wide-reads.Learnt,
   emit-most-reads.Asked,
   emit-most-reads.Learnt,
   emit-for-below t,
@@ -78,10 +79,10 @@ emit-for-emit-middle-requires : (t : ℕ) → emit-for-lts.Need-emit-middle-requ
   emit-small-reads.Learnt,
   emit-middle-reads.Asked,
   emit-middle-reads.Learnt,
-  count-channels-reads.Asked,
-  count-channels-reads.Learnt,
   emit-large-reads.Asked,
   emit-large-reads.Learnt,
+  emit-wide-reads.Asked,
+  emit-wide-reads.Learnt,
   emit-most-reads.Asked,
   emit-most-reads.Learnt,
   emit-for-below t,
@@ -94,10 +95,10 @@ emit-for-same-length-2 : (t : ℕ) → emit-for-lts.Need-same-length-2 (
   emit-small-reads.Learnt,
   emit-middle-reads.Asked,
   emit-middle-reads.Learnt,
-  count-channels-reads.Asked,
-  count-channels-reads.Learnt,
   emit-large-reads.Asked,
   emit-large-reads.Learnt,
+  emit-wide-reads.Asked,
+  emit-wide-reads.Learnt,
   emit-most-reads.Asked,
   emit-most-reads.Learnt,
   emit-for-below t,
@@ -110,10 +111,10 @@ emit-for-returns-2 : (t : ℕ) → emit-for-lts.Need-returns-2 (
   emit-small-reads.Learnt,
   emit-middle-reads.Asked,
   emit-middle-reads.Learnt,
-  count-channels-reads.Asked,
-  count-channels-reads.Learnt,
   emit-large-reads.Asked,
   emit-large-reads.Learnt,
+  emit-wide-reads.Asked,
+  emit-wide-reads.Learnt,
   emit-most-reads.Asked,
   emit-most-reads.Learnt,
   emit-for-below t,
@@ -121,31 +122,15 @@ emit-for-returns-2 : (t : ℕ) → emit-for-lts.Need-returns-2 (
 ) (emit-for-at t) emit-for.Post
 emit-for-returns-2 t c = search needs
 
-emit-for-count-channels-requires : (t : ℕ) → emit-for-lts.Need-count-channels-requires (
-  emit-small-reads.Asked,
-  emit-small-reads.Learnt,
-  emit-middle-reads.Asked,
-  emit-middle-reads.Learnt,
-  count-channels-reads.Asked,
-  count-channels-reads.Learnt,
-  emit-large-reads.Asked,
-  emit-large-reads.Learnt,
-  emit-most-reads.Asked,
-  emit-most-reads.Learnt,
-  emit-for-below t,
-  emit-for.Post,
-) (emit-for-at t) emit-for.Post
-emit-for-count-channels-requires t c κs = search needs
-
 emit-for-emit-large-requires : (t : ℕ) → emit-for-lts.Need-emit-large-requires (
   emit-small-reads.Asked,
   emit-small-reads.Learnt,
   emit-middle-reads.Asked,
   emit-middle-reads.Learnt,
-  count-channels-reads.Asked,
-  count-channels-reads.Learnt,
   emit-large-reads.Asked,
   emit-large-reads.Learnt,
+  emit-wide-reads.Asked,
+  emit-wide-reads.Learnt,
   emit-most-reads.Asked,
   emit-most-reads.Learnt,
   emit-for-below t,
@@ -158,10 +143,10 @@ emit-for-same-length-3 : (t : ℕ) → emit-for-lts.Need-same-length-3 (
   emit-small-reads.Learnt,
   emit-middle-reads.Asked,
   emit-middle-reads.Learnt,
-  count-channels-reads.Asked,
-  count-channels-reads.Learnt,
   emit-large-reads.Asked,
   emit-large-reads.Learnt,
+  emit-wide-reads.Asked,
+  emit-wide-reads.Learnt,
   emit-most-reads.Asked,
   emit-most-reads.Learnt,
   emit-for-below t,
@@ -174,10 +159,10 @@ emit-for-returns-3 : (t : ℕ) → emit-for-lts.Need-returns-3 (
   emit-small-reads.Learnt,
   emit-middle-reads.Asked,
   emit-middle-reads.Learnt,
-  count-channels-reads.Asked,
-  count-channels-reads.Learnt,
   emit-large-reads.Asked,
   emit-large-reads.Learnt,
+  emit-wide-reads.Asked,
+  emit-wide-reads.Learnt,
   emit-most-reads.Asked,
   emit-most-reads.Learnt,
   emit-for-below t,
@@ -185,31 +170,31 @@ emit-for-returns-3 : (t : ℕ) → emit-for-lts.Need-returns-3 (
 ) (emit-for-at t) emit-for.Post
 emit-for-returns-3 t c = search needs
 
-emit-for-emit-most-requires : (t : ℕ) → emit-for-lts.Need-emit-most-requires (
+emit-for-emit-wide-requires : (t : ℕ) → emit-for-lts.Need-emit-wide-requires (
   emit-small-reads.Asked,
   emit-small-reads.Learnt,
   emit-middle-reads.Asked,
   emit-middle-reads.Learnt,
-  count-channels-reads.Asked,
-  count-channels-reads.Learnt,
   emit-large-reads.Asked,
   emit-large-reads.Learnt,
+  emit-wide-reads.Asked,
+  emit-wide-reads.Learnt,
   emit-most-reads.Asked,
   emit-most-reads.Learnt,
   emit-for-below t,
   emit-for.Post,
 ) (emit-for-at t) emit-for.Post
-emit-for-emit-most-requires t c κs = search needs
+emit-for-emit-wide-requires t c κs = search needs
 
 emit-for-same-length-4 : (t : ℕ) → emit-for-lts.Need-same-length-4 (
   emit-small-reads.Asked,
   emit-small-reads.Learnt,
   emit-middle-reads.Asked,
   emit-middle-reads.Learnt,
-  count-channels-reads.Asked,
-  count-channels-reads.Learnt,
   emit-large-reads.Asked,
   emit-large-reads.Learnt,
+  emit-wide-reads.Asked,
+  emit-wide-reads.Learnt,
   emit-most-reads.Asked,
   emit-most-reads.Learnt,
   emit-for-below t,
@@ -222,10 +207,10 @@ emit-for-returns-4 : (t : ℕ) → emit-for-lts.Need-returns-4 (
   emit-small-reads.Learnt,
   emit-middle-reads.Asked,
   emit-middle-reads.Learnt,
-  count-channels-reads.Asked,
-  count-channels-reads.Learnt,
   emit-large-reads.Asked,
   emit-large-reads.Learnt,
+  emit-wide-reads.Asked,
+  emit-wide-reads.Learnt,
   emit-most-reads.Asked,
   emit-most-reads.Learnt,
   emit-for-below t,
@@ -233,50 +218,31 @@ emit-for-returns-4 : (t : ℕ) → emit-for-lts.Need-returns-4 (
 ) (emit-for-at t) emit-for.Post
 emit-for-returns-4 t c = search needs
 
-emit-for-sub-emit-for : (t : ℕ) → emit-for-lts.Need-sub-emit-for (
+emit-for-emit-most-requires : (t : ℕ) → emit-for-lts.Need-emit-most-requires (
   emit-small-reads.Asked,
   emit-small-reads.Learnt,
   emit-middle-reads.Asked,
   emit-middle-reads.Learnt,
-  count-channels-reads.Asked,
-  count-channels-reads.Learnt,
   emit-large-reads.Asked,
   emit-large-reads.Learnt,
+  emit-wide-reads.Asked,
+  emit-wide-reads.Learnt,
   emit-most-reads.Asked,
   emit-most-reads.Learnt,
   emit-for-below t,
   emit-for.Post,
 ) (emit-for-at t) emit-for.Post
-emit-for-sub-emit-for t c = search needs
-
-emit-for-emit-for-requires : (t : ℕ) → emit-for-lts.Need-emit-for-requires (
-  emit-small-reads.Asked,
-  emit-small-reads.Learnt,
-  emit-middle-reads.Asked,
-  emit-middle-reads.Learnt,
-  count-channels-reads.Asked,
-  count-channels-reads.Learnt,
-  emit-large-reads.Asked,
-  emit-large-reads.Learnt,
-  emit-most-reads.Asked,
-  emit-most-reads.Learnt,
-  emit-for-below t,
-  emit-for.Post,
-) (emit-for-at t) emit-for.Post
-emit-for-emit-for-requires t c κs =
-    let pre = c .before .before .before .before .before .before .before .before .pre in
-    let asked = pre .1 .1 in
-    (omega (arith, pre .0), (omega (arith, asked .0 .many), asked))
+emit-for-emit-most-requires t c κs = search needs
 
 emit-for-same-length-5 : (t : ℕ) → emit-for-lts.Need-same-length-5 (
   emit-small-reads.Asked,
   emit-small-reads.Learnt,
   emit-middle-reads.Asked,
   emit-middle-reads.Learnt,
-  count-channels-reads.Asked,
-  count-channels-reads.Learnt,
   emit-large-reads.Asked,
   emit-large-reads.Learnt,
+  emit-wide-reads.Asked,
+  emit-wide-reads.Learnt,
   emit-most-reads.Asked,
   emit-most-reads.Learnt,
   emit-for-below t,
@@ -289,10 +255,10 @@ emit-for-returns-5 : (t : ℕ) → emit-for-lts.Need-returns-5 (
   emit-small-reads.Learnt,
   emit-middle-reads.Asked,
   emit-middle-reads.Learnt,
-  count-channels-reads.Asked,
-  count-channels-reads.Learnt,
   emit-large-reads.Asked,
   emit-large-reads.Learnt,
+  emit-wide-reads.Asked,
+  emit-wide-reads.Learnt,
   emit-most-reads.Asked,
   emit-most-reads.Learnt,
   emit-for-below t,
@@ -300,16 +266,83 @@ emit-for-returns-5 : (t : ℕ) → emit-for-lts.Need-returns-5 (
 ) (emit-for-at t) emit-for.Post
 emit-for-returns-5 t c = search needs
 
+emit-for-sub-emit-for : (t : ℕ) → emit-for-lts.Need-sub-emit-for (
+  emit-small-reads.Asked,
+  emit-small-reads.Learnt,
+  emit-middle-reads.Asked,
+  emit-middle-reads.Learnt,
+  emit-large-reads.Asked,
+  emit-large-reads.Learnt,
+  emit-wide-reads.Asked,
+  emit-wide-reads.Learnt,
+  emit-most-reads.Asked,
+  emit-most-reads.Learnt,
+  emit-for-below t,
+  emit-for.Post,
+) (emit-for-at t) emit-for.Post
+emit-for-sub-emit-for t c = search needs
+
+emit-for-emit-for-requires : (t : ℕ) → emit-for-lts.Need-emit-for-requires (
+  emit-small-reads.Asked,
+  emit-small-reads.Learnt,
+  emit-middle-reads.Asked,
+  emit-middle-reads.Learnt,
+  emit-large-reads.Asked,
+  emit-large-reads.Learnt,
+  emit-wide-reads.Asked,
+  emit-wide-reads.Learnt,
+  emit-most-reads.Asked,
+  emit-most-reads.Learnt,
+  emit-for-below t,
+  emit-for.Post,
+) (emit-for-at t) emit-for.Post
+emit-for-emit-for-requires t c κs =
+    let pre = c .before .before .before .before .before .before .before .before .before .before .pre in
+    let asked = pre .1 .1 in
+    (omega (arith, pre .0), (omega (arith, numbers-few (asked .0)), asked))
+
+emit-for-same-length-6 : (t : ℕ) → emit-for-lts.Need-same-length-6 (
+  emit-small-reads.Asked,
+  emit-small-reads.Learnt,
+  emit-middle-reads.Asked,
+  emit-middle-reads.Learnt,
+  emit-large-reads.Asked,
+  emit-large-reads.Learnt,
+  emit-wide-reads.Asked,
+  emit-wide-reads.Learnt,
+  emit-most-reads.Asked,
+  emit-most-reads.Learnt,
+  emit-for-below t,
+  emit-for.Post,
+) (emit-for-at t) emit-for.Post
+emit-for-same-length-6 t c = search needs
+
+emit-for-returns-6 : (t : ℕ) → emit-for-lts.Need-returns-6 (
+  emit-small-reads.Asked,
+  emit-small-reads.Learnt,
+  emit-middle-reads.Asked,
+  emit-middle-reads.Learnt,
+  emit-large-reads.Asked,
+  emit-large-reads.Learnt,
+  emit-wide-reads.Asked,
+  emit-wide-reads.Learnt,
+  emit-most-reads.Asked,
+  emit-most-reads.Learnt,
+  emit-for-below t,
+  emit-for.Post,
+) (emit-for-at t) emit-for.Post
+emit-for-returns-6 t c = search needs
+
 pub +emit-for-spec : {M : Type 1} → statement M
 +emit-for-spec = close μ-emit-for λ t. emit-for-lts.spec (
   emit-small-reads.Asked,
   emit-small-reads.Learnt,
   emit-middle-reads.Asked,
   emit-middle-reads.Learnt,
-  count-channels-reads.Asked,
-  count-channels-reads.Learnt,
   emit-large-reads.Asked,
   emit-large-reads.Learnt,
+  emit-wide-reads.Asked,
+  emit-wide-reads.Learnt,
   emit-most-reads.Asked,
   emit-most-reads.Learnt,
   emit-for-below t,
@@ -323,14 +356,16 @@ pub +emit-for-spec : {M : Type 1} → statement M
     (emit-for-emit-middle-requires t)
     (emit-for-same-length-2 t)
     (emit-for-returns-2 t)
-    (emit-for-count-channels-requires t)
     (emit-for-emit-large-requires t)
     (emit-for-same-length-3 t)
     (emit-for-returns-3 t)
-    (emit-for-emit-most-requires t)
+    (emit-for-emit-wide-requires t)
     (emit-for-same-length-4 t)
     (emit-for-returns-4 t)
-    (emit-for-sub-emit-for t)
-    (emit-for-emit-for-requires t)
+    (emit-for-emit-most-requires t)
     (emit-for-same-length-5 t)
     (emit-for-returns-5 t)
+    (emit-for-sub-emit-for t)
+    (emit-for-emit-for-requires t)
+    (emit-for-same-length-6 t)
+    (emit-for-returns-6 t)

@@ -1,7 +1,6 @@
 -- `spline_emission::memory::emit_large` meets its contract. Assumes nothing.
 use native.Mathlib.Omega.{arith}
-use Rattle.layout.specs.Layout.{mostPoints}
-use Rattle.fit_tables.specs.Asks.{fewChannels}
+use Rattle.fit_tables.specs.Asks.{largeNumbers}
 use borrow.Author.Needs.{needs}
 use Rattle.spline_emission.proofs.Emitting.{numbers-in}
 use Rattle.spline_emission.proofs.memory.emit_large.Statement.{statement}
@@ -16,7 +15,7 @@ slice-aggregate-emit-many-2 c = search needs
 emit-many-requires : tie.Need-emit-many-requires
 emit-many-requires c κs =
     let pre = c .before .before .before .before .before .before .before .pre in
-    (pre .0, numbers-in _ _ mostPoints fewChannels (omega (arith, pre .0 .0 .many)) (pre .1) (omega arith) (omega arith) (omega arith))
+    (pre .0, numbers-in _ _ largeNumbers (omega (arith, pre .0 .0 .many)) (pre .1) (omega arith) (omega arith))
 
 same-length : tie.Need-same-length
 same-length c = search needs

@@ -1,9 +1,7 @@
 -- `spline_emission::memory::emit_middle` meets its contract. Assumes nothing.
 use native.Mathlib.Omega.{arith}
 use borrow.Author.Needs.{needs}
-use Rattle.layout.specs.Layout.{axisCodes}
-use Rattle.spline_emission.specs.Sizes.{middlePoints}
-use Rattle.spline_channels.specs.ChannelLaws.{channels-few}
+use Rattle.spline_emission.specs.Sizes.{middleNumbers}
 use Rattle.spline_emission.proofs.Emitting.{numbers-in}
 use Rattle.spline_emission.proofs.memory.emit_middle.Statement.{statement}
 use Rattle.spline_emission.proofs.memory.emit_middle.Tie as tie
@@ -26,12 +24,12 @@ slice-aggregate-emit-few-5 c = search needs
 emit-few-requires : tie.Need-emit-few-requires
 emit-few-requires c κs =
     let pre = (c .before .before .before .before .before .before .before .before .before .before .pre) in
-    let fits = pre .1 in (
+    let fits = pre .1 .0 in (
       pre .0,
       (
         omega (arith, fits),
         record {
-          numbers = numbers-in _ _ middlePoints axisCodes (omega (arith, fits)) (channels-few _ _ (pre .0 .0 .once)) (omega arith) (omega arith) (omega arith);
+          numbers = numbers-in _ _ middleNumbers (omega (arith, fits)) (pre .1 .1) (omega arith) (omega arith);
           weights = omega (arith, fits);
           knots = omega (arith, fits);
         },

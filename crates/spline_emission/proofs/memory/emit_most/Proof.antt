@@ -1,7 +1,8 @@
 -- `spline_emission::memory::emit_most` meets its contract. Assumes nothing.
+use Prim.Native.Nat.{_*_}
 use native.Mathlib.Omega.{arith}
 use Rattle.layout.specs.Layout.{axisCodes, mostPoints}
-use Rattle.spline_channels.specs.ChannelLaws.{channels-few}
+use Rattle.spline_emission.specs.SizeLaws.{numbers-few}
 use borrow.Author.Needs.{needs}
 use Rattle.spline_emission.proofs.Emitting.{numbers-in}
 use Rattle.spline_emission.proofs.memory.emit_most.Statement.{statement}
@@ -16,8 +17,7 @@ slice-aggregate-emit-many-2 c = search needs
 emit-many-requires : tie.Need-emit-many-requires
 emit-many-requires c κs =
     let pre = c .before .before .before .before .before .before .before .pre in
-    let narrow = channels-few _ _ (pre .0 .once) in
-    (pre, numbers-in _ _ mostPoints axisCodes (omega (arith, pre .0 .many)) narrow (omega arith) (omega arith) (omega arith))
+    (pre, numbers-in _ _ (axisCodes * mostPoints) (omega (arith, pre .0 .many)) (numbers-few (pre .0)) (omega arith) (omega arith))
 
 same-length : tie.Need-same-length
 same-length c = search needs

@@ -1,9 +1,7 @@
 -- `spline_emission::memory::emit_small` meets its contract. Assumes nothing.
 use native.Mathlib.Omega.{arith}
 use borrow.Author.Needs.{needs}
-use Rattle.layout.specs.Layout.{axisCodes}
-use Rattle.fit_slopes.specs.Sizes.{smallPoints}
-use Rattle.spline_channels.specs.ChannelLaws.{channels-few}
+use Rattle.fit_tables.specs.Asks.{smallNumbers}
 use Rattle.spline_emission.proofs.Emitting.{numbers-in}
 use Rattle.spline_emission.proofs.memory.emit_small.Statement.{statement}
 use Rattle.spline_emission.proofs.memory.emit_small.Tie as tie
@@ -26,12 +24,12 @@ slice-aggregate-emit-few-5 c = search needs
 emit-few-requires : tie.Need-emit-few-requires
 emit-few-requires c κs =
     let pre = (c .before .before .before .before .before .before .before .before .before .before .pre) in
-    let fits = pre .1 in (
+    let fits = pre .1 .0 in (
       pre .0,
       (
         omega (arith, fits),
         record {
-          numbers = numbers-in _ _ smallPoints axisCodes (omega (arith, fits)) (channels-few _ _ (pre .0 .0 .once)) (omega arith) (omega arith) (omega arith);
+          numbers = numbers-in _ _ smallNumbers (omega (arith, fits)) (pre .1 .1) (omega arith) (omega arith);
           weights = omega (arith, fits);
           knots = omega (arith, fits);
         },
