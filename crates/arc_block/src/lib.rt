@@ -1,4 +1,6 @@
 // What an arc block says: its cells, its ends in the plane, whether it is silent, the axes that it holds, its centre.
+#![tactic(auto)]
+
 ghost use Rattle.std.specs.Prelude.{◌≡◌, ◌<◌, length};
 ghost use Rattle.layout.specs.Layout.{axis_codes, axis_masks, row_words};
 ghost use Rattle.row_cells.specs.Row.{axes_of, has_point, present_of};

@@ -1,4 +1,6 @@
 // The centre of an arc by offsets, and the radii: warned where one is too small.
+#![tactic(auto)]
+
 ghost use Rattle.std.specs.Prelude.{◌≡◌};
 ghost use Rattle.arc_centre.specs.Centre.{side_of, wide_centre, radius};
 ghost use Rattle.arc_centre.specs.Centre as Spec;
@@ -8,14 +10,14 @@ ghost use Rattle.arc_centre.specs.Types.{centre_is, ends_is};
 pub const SMALL: f64 = 1e-9;
 
 // A number cell that may be absent.
-#[derive(Drop)]
+#[derive(Clone, Copy)]
 pub enum Cell {
     Number(f64),
     Absent,
 }
 
 // Start and end on the two plane axes.
-#[derive(Drop)]
+#[derive(Clone, Copy)]
 pub struct Ends {
     pub su: f64,
     pub sv: f64,
@@ -24,7 +26,7 @@ pub struct Ends {
 }
 
 // What the centre search answers: the centre, or why there is none.
-#[derive(Drop)]
+#[derive(Clone, Copy)]
 pub enum Centre {
     At(f64, f64),
     Coincident,

@@ -1,4 +1,6 @@
 // An arc block's numbers: its cells, its ends, its centre.
+#![tactic(auto)]
+
 ghost use Rattle.std.specs.Prelude.{◌≡◌, ◌<◌, ◌≤◌, length};
 ghost use Rattle.std.proofs.Math.Option.{get_or};
 ghost use Rattle.floats.specs.Numbers.{num};

@@ -1,4 +1,6 @@
 // An arc's centre from its radius, and from what its block says.
+#![tactic(auto)]
+
 ghost use Rattle.std.specs.Prelude.{◌≡◌};
 ghost use Rattle.arc_centre.specs.Centre.{cr_centre, centre_of, wide_centre};
 ghost use Rattle.arc_centre.specs.Types.{centre_is, number_is, ends_is};

@@ -1,4 +1,6 @@
 // The group of an arc block: what it comes to at the positions before it, and its rows written.
+#![tactic(auto)]
+
 ghost use Rattle.std.specs.Prelude.{◌≡◌};
 ghost use Rattle.floats.specs.Lists.{spliced};
 ghost use Rattle.row_cells.specs.Row.{shown, axes_of};

@@ -1,4 +1,6 @@
 // The words of an arc's last row.
+#![tactic(auto)]
+
 ghost use Rattle.std.specs.Prelude.{◌≡◌, ◌<◌, length};
 ghost use Rattle.floats.specs.Lists.{upto};
 ghost use Rattle.layout.specs.Layout.{axis_codes, row_words};

@@ -1,4 +1,6 @@
 // One row of an arc: at a sample, or at the programmed end.
+#![tactic(auto)]
+
 ghost use Rattle.std.specs.Prelude.{◌≡◌, ◌+◌, ◌≤◌, length};
 ghost use Rattle.floats.specs.Lists.{spliced};
 ghost use Rattle.layout.specs.Layout.{row_words};
@@ -8,7 +10,7 @@ ghost use Rattle.arc_made.specs.Drawn.{mid, last, DrawingOf, Ramps};
 use motion::G1;
 
 // What every row of an arc takes: the geometric axes, the axes that the rows have, the two of the plane, the arc.
-#[derive(Drop)]
+#[derive(Clone, Copy)]
 pub struct Drawing {
     pub gs: u64,
     pub mask: u64,

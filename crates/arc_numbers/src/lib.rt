@@ -1,4 +1,6 @@
 // The numbers of an arc about its centre: radii, start angle and sweep.
+#![tactic(auto)]
+
 ghost use Rattle.std.specs.Prelude.{◌≡◌};
 ghost use Rattle.arc_centre.specs.Types.{number_is, ends_is};
 ghost use Rattle.arc_numbers.specs.Arc.{agree, sweep_left, sweep_of, turned, arc_of};
@@ -9,7 +11,7 @@ use floats::TINY;
 use trig::TAU;
 
 // Centre, radii at start and end, start angle, sweep, tolerance.
-#[derive(Drop)]
+#[derive(Clone, Copy)]
 pub struct Arc {
     pub cu: f64,
     pub cv: f64,

@@ -1,8 +1,10 @@
 // The place of an arc's sample.
+#![tactic(auto)]
+
 ghost use Rattle.arc_numbers.specs.Types.{arc_is};
 ghost use Rattle.arc_place.specs.Place.{PointAt};
 
-#[derive(Drop)]
+#[derive(Clone, Copy)]
 pub struct Point {
     pub u: f64,
     pub v: f64,

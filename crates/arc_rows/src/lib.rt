@@ -1,18 +1,20 @@
 // What an arc block comes to by its centre: the number of its rows, a warning, and how they come about.
+#![tactic(auto)]
+
 ghost use Rattle.std.specs.Prelude.{◌≡◌, ◌<◌, length};
 ghost use Rattle.layout.specs.Layout.{axis_masks, row_words};
 ghost use Rattle.arc_centre.specs.Types.{centre_is, ends_is};
 ghost use Rattle.arc_rows.specs.Plan.{pass_plan, along_plan, PlannedFrom};
 
 // How a block's rows come about: it passes unchanged, or it goes along an arc.
-#[derive(Drop)]
+#[derive(Clone, Copy)]
 pub enum Way {
     Pass,
     Along(arc_centre::Ends, arc_numbers::Arc),
 }
 
 // What a block comes to: its rows' number, the warning, with warning 6 the wanted count, the held axes.
-#[derive(Drop)]
+#[derive(Clone, Copy)]
 pub struct Plan {
     pub count: usize,
     pub warning: u64,

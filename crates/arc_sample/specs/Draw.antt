@@ -83,19 +83,19 @@ module _ (gs : ℕ) (small : gs < 2 ^ axis_codes) (r : List ℕ) (u v : ℕ) (on
         k)
 
     -- so its rows are the definition's
-    pub last_row : (pos : ℕ → Option ℕ) (e : Ends) (c : Arc) (n : ℕ) (first : Bool) → first ≡ (n == 1)
+    pub last_row_lem : (pos : ℕ → Option ℕ) (e : Ends) (c : Arc) (n : ℕ) (first : Bool) → first ≡ (n == 1)
         → last_row (axes_of gs) r (drawn_mask gs r u v) (last_word e u v r) first ≡ arc_row (axes_of gs) plane pos r e c n n
     unfolding last_row arc_row
-    last_row pos e c n first ef =
+    last_row_lem pos e c n first ef =
         rw (ef, eq-eqb n n refl)
         (made-same (axes_of gs) (axes_of gs) r (n == 1) g_one false (shown (drawn_mask gs r u v) (upto (last_word e u v r) axis_codes))
         (last_cell (axes_of gs) plane e r) (λ k l. refl) (λ k l. last-shown e k))
 
-    pub mid_row : (pos : ℕ → Option ℕ) (e : Ends) (c : Arc) (starts spans : List Float) → starts ≡ upto (start_of r pos) axis_codes
+    pub mid_row_lem : (pos : ℕ → Option ℕ) (e : Ends) (c : Arc) (starts spans : List Float) → starts ≡ upto (start_of r pos) axis_codes
         → spans ≡ upto (span_of r starts) axis_codes → (n j : ℕ) → j + 1 < n
         → mid_rows (axes_of gs) r (drawn_mask gs r u v) (sample_word c u v starts spans) n j ≡ arc_row (axes_of gs) plane pos r e c n (j + 1)
     unfolding mid_row arc_row
-    mid_row pos e c starts spans es ep n j l =
+    mid_row_lem pos e c starts spans es ep n j l =
         let f = of_nat (j + 1) ⊘ of_nat n in
         rw (ne_eqb (j + 1) n (λ (q : j + 1 ≡ n). omega arith))
         (made-same (axes_of gs) (axes_of gs) r (j + 1 == 1) g_one true (shown (drawn_mask gs r u v) (upto (sample_word c u v starts spans f) axis_codes))
@@ -123,9 +123,9 @@ pub drawn-rows : (gs : ℕ) → gs < 2 ^ axis_codes → (r : List ℕ) (u v : �
 drawn-rows gs small r u v on_u on_v plane u_is v_is pos e c {starts} {spans} es ep n least {mask} em {first} ef {from} {place} {l} {xs} {ys} room s q =
     let g : n - 1 + 1 ≡ n = omega arith in
     let w : Rowing (λ (k : ℕ). arc_row (axes_of gs) plane pos r e c n (k + 1)) from (n - 1) l xs place =
-    rowing_same (λ j h. mid_row gs small r u v on_u on_v plane u_is v_is pos e c starts spans es ep n j (omega arith)) (rw em at s) in
+    rowing_same (λ j h. mid_row_lem gs small r u v on_u on_v plane u_is v_is pos e c starts spans es ep n j (omega arith)) (rw em at s) in
     let b : last_row (axes_of gs) r mask (last_word e u v r) first ≡ arc_row (axes_of gs) plane pos r e c n (n - 1 + 1) =
-    rw (em, g) (last_row gs small r u v on_u on_v plane u_is v_is pos e c n first ef) in
+    rw (em, g) (last_row_lem gs small r u v on_u on_v plane u_is v_is pos e c n first ef) in
     let t : Rowing (λ (k : ℕ). arc_row (axes_of gs) plane pos r e c n (k + 1)) from (n - 1 + 1) l ys (place + row_words) =
     rowing_more (λ j. arc_long (axes_of gs) plane pos r e c n (j + 1)) w (rw g room) (q ∙ ap (spliced xs place) b) in
     rw g at t.is

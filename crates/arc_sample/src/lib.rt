@@ -1,4 +1,6 @@
 // The rows of an arc: samples along it, and its programmed end.
+#![tactic(auto)]
+
 ghost use Rattle.std.specs.Prelude.{◌≡◌, ◌+◌, ◌-◌, ◌*◌, ◌≤◌, length};
 ghost use Rattle.floats.specs.Lists.{spliced};
 ghost use Rattle.layout.specs.Layout.{row_words};
@@ -11,7 +13,7 @@ ghost use Rattle.arc_sample.specs.Asks.{DrawOf, setting_rows};
 use arc_made::Drawing;
 
 // What an arc block is drawn in: the mask of the geometric axes, the plane's word, the mask of the positions at hand.
-#[derive(Drop)]
+#[derive(Clone, Copy)]
 pub struct Setting {
     pub gs: u64,
     pub plane: u64,

@@ -1,4 +1,6 @@
 // The steps along an arc: how many rows it has.
+#![tactic(auto)]
+
 ghost use Rattle.std.specs.Prelude.{◌≡◌};
 ghost use Rattle.arc_numbers.specs.Arc.{step_of, wanted_of, count_of};
 ghost use Rattle.arc_numbers.specs.Types.{arc_is};

@@ -1,4 +1,6 @@
 // The plane's two axes, and the words of an arc's rows in axis order: at a sample, and at the programmed end.
+#![tactic(auto)]
+
 ghost use Rattle.std.specs.Prelude.{◌≡◌, ◌<◌, ◌≤◌, length};
 ghost use Rattle.floats.specs.Lists.{upto};
 ghost use Rattle.layout.specs.Layout.{axis_codes, axis_masks, row_words};

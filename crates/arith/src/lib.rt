@@ -1,4 +1,6 @@
 // The arithmetic for programs in other languages: what runs against Rust's std and measurements link.
+#![tactic(auto)]
+
 ghost use Rattle.std.specs.Prelude.{◌≡◌};
 ghost use Rattle.std.specs.Float.Ieee as Ieee;
 ghost use Rattle.std.specs.Float.{binary64};

@@ -1,5 +1,7 @@
 // De Boor's triangle in work memory: a row of numbers for each control point, one a channel, the last point first. So
 // each level goes upwards in place, over the rows that still count.
+#![tactic(auto)]
+
 ghost use Rattle.std.specs.Prelude.{◌≡◌, ◌≤◌, ◌<◌, ◌+◌, ◌*◌, ◌-◌, min, length, replicate};
 ghost use Rattle.floats.specs.Numbers.{◌⊘◌, f0, at};
 ghost use Rattle.floats.specs.Lists.{filled};

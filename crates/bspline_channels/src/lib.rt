@@ -1,4 +1,6 @@
 // The channels of a B-spline of degree 1 to 4 at a parameter, each by the top of the weights.
+#![tactic(auto)]
+
 ghost use Rattle.std.specs.Prelude.{◌≡◌, ◌≤◌, ◌<◌, ◌+◌, ◌*◌, length, replicate};
 ghost use Rattle.floats.specs.Numbers.{◌⊘◌, f0};
 ghost use Rattle.floats.specs.Lists.{filled};

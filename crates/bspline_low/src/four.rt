@@ -4,7 +4,7 @@ ghost use Rattle.bspline_low.specs.Low.{top4, FourthIn};
 
 use crate::low::{Shares, mix, share_at, shares_in, top_three};
 
-#[derive(Drop)]
+#[derive(Clone, Copy)]
 pub struct Fourth {
     pub low: Shares,
     pub high: Shares,

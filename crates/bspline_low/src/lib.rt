@@ -1,2 +1,4 @@
+#![tactic(auto)]
+
 pub mod four;
 pub mod low;

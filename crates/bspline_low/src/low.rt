@@ -23,7 +23,7 @@ pub fn share_at(ks: &[f64], t: f64, p: usize, k: usize, r: usize, j: usize) -> f
 }
 
 // The shares of the rows that count: a of level 1, b of level 2, c of level 3.
-#[derive(Drop)]
+#[derive(Clone, Copy)]
 pub struct Shares {
     pub a1: f64,
     pub a2: f64,

@@ -1,4 +1,6 @@
 // Whom a sample belongs to: the first control point after the start whose Greville value is not below it.
+#![tactic(auto)]
+
 ghost use Rattle.std.specs.Prelude.{◌≡◌, ◌≤◌, ◌<◌, ◌+◌, ◌-◌, length};
 ghost use Rattle.layout.specs.Layout.{most_points};
 ghost use Rattle.bspline_tables.specs.Basis.{knot_sum};

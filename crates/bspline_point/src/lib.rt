@@ -1,4 +1,6 @@
 // The point of a B-spline at a parameter.
+#![tactic(auto)]
+
 ghost use Rattle.std.specs.Prelude.{◌≡◌, ◌≤◌, ◌<◌, ◌+◌, ◌*◌, length, replicate};
 ghost use Rattle.floats.specs.Numbers.{f0};
 ghost use Rattle.floats.specs.Lists.{filled};

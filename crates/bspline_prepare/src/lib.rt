@@ -1,4 +1,6 @@
 // A B-spline's tables, put together.
+#![tactic(auto)]
+
 ghost use Rattle.std.specs.Prelude.{◌≤◌, ◌+◌, ◌*◌, ◌-◌, length};
 ghost use Rattle.layout.specs.Layout.{axis_codes, most_points};
 ghost use Rattle.bspline_tables.specs.Tables.{BasisIs};

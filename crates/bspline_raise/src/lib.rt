@@ -1,4 +1,6 @@
 // Four numbers of de Boor's triangle raised at once.
+#![tactic(auto)]
+
 ghost use Rattle.std.specs.Prelude.{◌<◌, ◌+◌, length};
 ghost use Rattle.bspline_raise.specs.Climb.{Raised};
 

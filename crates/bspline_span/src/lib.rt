@@ -1,4 +1,6 @@
 // The knot span of a parameter.
+#![tactic(auto)]
+
 ghost use Rattle.std.specs.Prelude.{◌≡◌, ◌≤◌, ◌<◌, ◌-◌};
 ghost use Rattle.floats.specs.Numbers.{of_nat};
 ghost use Rattle.layout.specs.Layout.{most_points};

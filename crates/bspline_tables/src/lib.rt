@@ -1,4 +1,6 @@
 // The tables of a B-spline: its degree, its knots, its weighted control numbers.
+#![tactic(auto)]
+
 ghost use Rattle.std.specs.Prelude.{◌≡◌, ◌≤◌, ◌<◌, ◌+◌, ◌*◌, ◌-◌, min, length};
 ghost use Rattle.floats.specs.Numbers.{of_nat};
 ghost use Rattle.floats.specs.Lists.{upto, filled};

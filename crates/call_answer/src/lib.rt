@@ -1,1 +1,2 @@
 // What a push and a close answer, as definitions alone.
+#![tactic(auto)]

@@ -1,4 +1,6 @@
 // Closing: a held spline is emitted.
+#![tactic(auto)]
+
 ghost use Rattle.call_reply.specs.Replies.{PushIs};
 ghost use Rattle.call_answer.specs.Close.{close_spec};
 

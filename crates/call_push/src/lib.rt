@@ -1,4 +1,6 @@
 // Pushing a block: what it is due, the held spline that goes out before it, its own rows, the store, the state, the reply.
+#![tactic(auto)]
+
 ghost use Rattle.std.specs.Prelude.{◌≡◌, ◌≤◌};
 ghost use Rattle.spline_write.specs.Emits.{most_own};
 ghost use Rattle.saved_state.specs.State.{saved_check};

@@ -1,11 +1,13 @@
 // What every call answers.
+#![tactic(auto)]
+
 ghost use Rattle.std.specs.Prelude.{◌≡◌};
 ghost use Rattle.call_reply.specs.Replies.{plain, too_few, done_reply};
 
 // 0 or the refusal; the rows written, or with refusal 7 the rows needed; the warning; with warning 6 the wanted count;
 // the axes that held their end for want of a start, bit k for axis k.
 #[repr(C)]
-#[derive(Drop)]
+#[derive(Clone, Copy)]
 pub struct Reply {
     pub code: u64,
     pub count: u64,

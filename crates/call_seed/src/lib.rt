@@ -1,4 +1,6 @@
 // Seeding a position.
+#![tactic(auto)]
+
 ghost use Rattle.call_seed.specs.Seed.{seed_spec};
 ghost use Rattle.call_reply.specs.Replies.{StateIs};
 

@@ -1,4 +1,6 @@
 // Starting: a fresh state.
+#![tactic(auto)]
+
 ghost use Rattle.std.specs.Prelude.{◌≡◌, length, get_or};
 ghost use Rattle.layout.specs.Layout.{state_words};
 ghost use Rattle.call_start.specs.Start.{fresh_word, fresh, start_spec};

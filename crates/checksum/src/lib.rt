@@ -1,4 +1,6 @@
 // The steps of the checksum that POSIX `cksum` prints: a bit on, and a byte.
+#![tactic(auto)]
+
 ghost use Rattle.std.specs.Prelude.{◌≡◌};
 ghost use Rattle.checksum.specs.Checksum.{step, steps, with_byte};
 

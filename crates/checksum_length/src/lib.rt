@@ -1,4 +1,6 @@
 // The end of a checksum: the bytes of a length, and all bits turned.
+#![tactic(auto)]
+
 ghost use Rattle.std.specs.Prelude.{◌≡◌};
 ghost use Rattle.checksum.specs.Checksum.{ended};
 ghost use Rattle.checksum_length.specs.Length.{length_step};

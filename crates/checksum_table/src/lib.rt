@@ -1,4 +1,6 @@
 // The sum over bytes, piece by piece, by a table.
+#![tactic(auto)]
+
 ghost use Rattle.std.specs.Prelude.{◌≡◌, length};
 ghost use Rattle.checksum.specs.Checksum.{with_byte, with_bytes};
 ghost use Rattle.checksum_table.specs.Table.{TableTo};

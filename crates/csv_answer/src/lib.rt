@@ -1,4 +1,6 @@
 // What the row text program says to what a call answered: its rows, and its warning or its refusal, behind what waits.
+#![tactic(auto)]
+
 ghost use Rattle.std.specs.Prelude.{◌+◌, ◌≤◌, length};
 ghost use Rattle.csv_out.specs.Say.{notice_room};
 ghost use Rattle.csv_out.specs.Said.{Noted, Said};

@@ -1,1 +1,2 @@
 // The whole case of docs/ROWTEXT.md, computed by the definition. Statements, and no code.
+#![tactic(auto)]

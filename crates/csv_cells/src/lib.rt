@@ -1,4 +1,6 @@
 // The cells of a line in: the fields behind its words, each into its word of a row.
+#![tactic(auto)]
+
 ghost use Rattle.std.specs.Prelude.{◌≡◌, ◌+◌, ◌*◌, ◌^◌, ◌≤◌, ◌<◌, length, drop};
 ghost use Rattle.layout.specs.Layout.{cells, row_words};
 ghost use Rattle.csv_line.specs.LineText.{column_count, parted};
@@ -9,7 +11,7 @@ use csv_fields::Number;
 use layout::{R_CELLS, R_PRESENT};
 
 // What the field of a cell holds: a number has the bit 1, an empty field none.
-#[derive(Drop)]
+#[derive(Clone, Copy)]
 pub struct Cell {
     pub ok: bool,
     pub bit: u64,
@@ -17,7 +19,7 @@ pub struct Cell {
 }
 
 // Where the next field begins, the presence mask so far, and whether the cell was one.
-#[derive(Drop)]
+#[derive(Clone, Copy)]
 pub struct Taken {
     pub ok: bool,
     pub next: usize,

@@ -1,4 +1,6 @@
 // The columns of cells, and the cell that each stands for.
+#![tactic(auto)]
+
 ghost use Rattle.std.specs.Prelude.{◌≡◌, ◌<◌};
 ghost use Rattle.layout.specs.Layout.{cells};
 ghost use Rattle.csv_line.specs.LineText.{column_count, code_at};

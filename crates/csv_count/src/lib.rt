@@ -1,4 +1,6 @@
 // The refusal of row text, and how its physical lines are counted.
+#![tactic(auto)]
+
 ghost use Rattle.std.specs.Prelude.{◌≡◌};
 ghost use Rattle.csv_count.specs.Count.{next_line};
 

@@ -1,4 +1,6 @@
 // The digits of a whole number: how many, the last one, and one byte as a number.
+#![tactic(auto)]
+
 ghost use Rattle.std.specs.Prelude.{◌≡◌, ◌+◌, ◌%◌};
 ghost use Rattle.csv_decimal.specs.Decimal.{width};
 

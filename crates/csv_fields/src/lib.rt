@@ -1,25 +1,27 @@
 // The fields of the row text that hold numbers and source lines, read from a slice.
+#![tactic(auto)]
+
 ghost use Rattle.std.specs.Prelude.{◌≡◌, ◌≤◌, ◌<◌, take};
 ghost use Rattle.csv_fields.specs.Read.{run, num, line_number};
 
 use layout::LINE_NUMBERS;
 
 // What a number field holds.
-#[derive(Drop)]
+#[derive(Clone, Copy)]
 pub enum Number {
     Value(f64),
     Bad,
 }
 
 // What a line number field holds.
-#[derive(Drop)]
+#[derive(Clone, Copy)]
 pub enum Line {
     At(u32),
     Bad,
 }
 
 // How many digits a text begins with, and the whole number they make.
-#[derive(Drop)]
+#[derive(Clone, Copy)]
 pub struct Scanned {
     pub count: usize,
     pub n: u64,

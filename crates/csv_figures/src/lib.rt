@@ -1,10 +1,12 @@
 // Numbers and source lines out: their text, stored into a slice from a place on.
+#![tactic(auto)]
+
 ghost use Rattle.std.specs.Prelude.{[], ◌∷◌, ◌+◌, ◌≤◌, ◌<◌, length};
 ghost use Rattle.csv_figures.specs.Out.{Wrote, Put};
 ghost use Rattle.csv_figures.specs.Write.{figures, whole_text, millionths_text};
 
 // Where a number was stored: up to a place, or not at all.
-#[derive(Drop)]
+#[derive(Clone, Copy)]
 pub enum Placed {
     Upto(usize),
     Refused,

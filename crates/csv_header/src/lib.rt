@@ -1,4 +1,6 @@
 // The two headers of row text: reading either, and writing the second.
+#![tactic(auto)]
+
 ghost use Rattle.std.specs.Prelude.{◌≡◌, ◌++◌, ◌+◌, ◌≤◌, length};
 ghost use Rattle.csv_words.specs.Words.{same};
 ghost use Rattle.csv_figures.specs.Out.{Wrote};

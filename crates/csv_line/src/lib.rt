@@ -1,4 +1,6 @@
 // Lines: their ends, and bytes behind one another.
+#![tactic(auto)]
+
 ghost use Rattle.std.specs.Prelude.{◌≡◌, ◌+◌, ◌≤◌, length};
 ghost use Rattle.csv_figures.specs.Out.{Wrote};
 ghost use Rattle.csv_line.specs.LineText.{crlf, end_of};
@@ -6,7 +8,7 @@ ghost use Rattle.csv_line.specs.LineText.{crlf, end_of};
 use csv_figures::put_byte;
 
 // Where the text of a line ends and its CRLF begins.
-#[derive(Drop)]
+#[derive(Clone, Copy)]
 pub enum End {
     Upto(usize),
     Bad,

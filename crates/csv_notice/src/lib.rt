@@ -1,4 +1,6 @@
 // The lines of standard error.
+#![tactic(auto)]
+
 ghost use Rattle.std.specs.Prelude.{◌+◌, ◌≤◌, length};
 ghost use Rattle.csv_figures.specs.Out.{Wrote};
 ghost use Rattle.csv_line.specs.Notice.{notice_text};

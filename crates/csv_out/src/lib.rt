@@ -1,5 +1,7 @@
 // What the row text program says to a header and to text that it cannot read: bytes that are added to what waits for
 // standard output, and bytes that are added to what waits for standard error. Nothing is written to a descriptor here.
+#![tactic(auto)]
+
 ghost use Rattle.std.specs.Prelude.{true, ◌+◌, ◌≤◌, length};
 ghost use Rattle.csv_line.specs.Notice.{notice_text};
 ghost use Rattle.csv_out.specs.Say.{notice_room, header_room, heading};
@@ -18,7 +20,7 @@ pub const CALL_ROOM: usize = ROW_ROOM * LENT_ROWS;
 
 // What the lines so far have left: `out` and `err` bytes wait to be written; `physical` is the number of the line read
 // next, and `source` the source line of the last block.
-#[derive(Drop)]
+#[derive(Clone, Copy)]
 pub struct Run {
     pub out: usize,
     pub err: usize,

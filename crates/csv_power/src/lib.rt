@@ -1,4 +1,6 @@
 // A whole number over a power of ten, rounded once.
+#![tactic(auto)]
+
 ghost use Rattle.std.specs.Prelude.{◌≡◌, ◌^◌, ◌<◌};
 ghost use Rattle.csv_decimal.specs.Decimal.{quotient};
 

@@ -1,4 +1,6 @@
 // A row in: from the text of a line to the words of a row.
+#![tactic(auto)]
+
 ghost use Rattle.std.specs.Prelude.{◌≡◌, length};
 ghost use Rattle.std.proofs.Math.Option.{get_or};
 ghost use Rattle.layout.specs.Layout.{row_words};

@@ -1,4 +1,6 @@
 // A call's reply: the source that it names, and what is said of it.
+#![tactic(auto)]
+
 ghost use Rattle.std.specs.Prelude.{◌≡◌, length};
 ghost use Rattle.layout.specs.Layout.{row_words};
 ghost use Rattle.row_cells.specs.Row.{line_of};

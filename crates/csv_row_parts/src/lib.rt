@@ -1,4 +1,6 @@
 // The head of a row's line, and its cells.
+#![tactic(auto)]
+
 ghost use Rattle.std.specs.Prelude.{◌≡◌, ◌∷◌, ◌+◌, ◌≤◌, ◌<◌, length};
 ghost use Rattle.layout.specs.Layout.{row_words};
 ghost use Rattle.floats.specs.Lists.{all};

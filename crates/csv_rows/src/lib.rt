@@ -1,4 +1,6 @@
 // Rows out: the text of each row's line, one after another.
+#![tactic(auto)]
+
 ghost use Rattle.std.specs.Prelude.{◌≡◌, ◌+◌, ◌*◌, ◌≤◌, length};
 ghost use Rattle.layout.specs.Layout.{row_words};
 ghost use Rattle.csv_write.specs.Writer.{row_room, row_text, writable, rows_text, rows_writable, Tried};

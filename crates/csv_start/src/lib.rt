@@ -1,4 +1,6 @@
 // How programs of row text start the flattener: axes X Y Z, no seed.
+#![tactic(auto)]
+
 ghost use Rattle.std.specs.Prelude.{◌≡◌};
 ghost use Rattle.call_reply.specs.Replies.{StateIs};
 ghost use Rattle.call_start.specs.Start.{start_spec};

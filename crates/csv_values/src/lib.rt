@@ -1,4 +1,6 @@
 // The number in a field: a sign, whole digits, decimals.
+#![tactic(auto)]
+
 ghost use Rattle.std.specs.Prelude.{◌≡◌, ◌≤◌, ◌<◌, cond, eqb};
 ghost use Rattle.csv_fields.specs.Read.{fraction, unsigned, number};
 

@@ -1,5 +1,7 @@
 // The words of the row text, from one table that the reader and the writer share: a motion word's place in it
 // is its code.
+#![tactic(auto)]
+
 ghost use Rattle.std.specs.Prelude.{◌≡◌, ◌+◌, ◌-◌, ◌*◌, ◌/◌, ◌%◌, ◌^◌, ◌≤◌, ◌<◌, length};
 ghost use Rattle.csv_figures.specs.Out.{Wrote};
 ghost use Rattle.csv_words.specs.Words.{word_at, plane_text, seek, motion_of, plane_of};
@@ -30,7 +32,7 @@ const WORDS: [u64; 19] = [
 ];
 
 // What a word field holds.
-#[derive(Drop)]
+#[derive(Clone, Copy)]
 pub enum Found {
     Code(usize),
     Nowhere,

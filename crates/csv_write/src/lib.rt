@@ -1,4 +1,6 @@
 // A row out: the columns that its line passes over, and its end.
+#![tactic(auto)]
+
 ghost use Rattle.std.specs.Prelude.{◌≡◌, ◌∷◌, ◌++◌, ◌+◌, ◌/◌, ◌%◌, ◌^◌, ◌≤◌, ◌<◌, eqb, length};
 ghost use Rattle.layout.specs.Layout.{row_words, c_offset};
 ghost use Rattle.csv_figures.specs.Out.{Wrote};
@@ -22,7 +24,7 @@ fn no_offsets(mask: u64) -> bool
 }
 
 // Where columns of absent cells are passed: the next column, and its place.
-#[derive(Drop)]
+#[derive(Clone, Copy)]
 pub struct Passed {
     pub at: usize,
     pub i: usize,

@@ -1,4 +1,6 @@
 // The chord sums of points, over the metric's channels `ms`.
+#![tactic(auto)]
+
 ghost use Rattle.std.specs.Prelude.{◌≡◌, ◌≤◌, ◌<◌, ◌*◌, length};
 ghost use Rattle.floats.specs.Lists.{filled, rows_of};
 ghost use Rattle.curve_metric.specs.Below.{Below};

@@ -1,4 +1,6 @@
 // The halving of a stretch of a curve: its samples counted by owner, with what the writing will remember.
+#![tactic(auto)]
+
 ghost use Rattle.curve_walk.specs.Walks.{own_of, samples_in};
 ghost use Rattle.curve_walk.specs.Asks.{Stretch, Counted, Counts, Stored, Cursor};
 ghost use Rattle.curve_walk.specs.Lefts.{lefts_in};

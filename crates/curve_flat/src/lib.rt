@@ -1,4 +1,6 @@
 // The curve's point at a parameter, and whether a chord will do for a stretch of it.
+#![tactic(auto)]
+
 ghost use Rattle.std.specs.Prelude.{◌≡◌, length, replicate};
 ghost use Rattle.floats.specs.Numbers.{f0};
 ghost use Rattle.floats.specs.Lists.{filled};

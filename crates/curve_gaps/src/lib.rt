@@ -1,9 +1,11 @@
 // A point and a chord, channel by channel: what each channel adds, and the squared distance over two and three.
+#![tactic(auto)]
+
 ghost use Rattle.std.specs.Prelude.{◌≡◌, ◌≤◌, ◌<◌, length};
 ghost use Rattle.curve_gaps.specs.Gaps.{gap_of, toward_of, missed_of, foot_of, dist_two, dist_three};
 
 // One channel of a point and a chord: the point's number, where the chord starts, and how far it goes.
-#[derive(Drop)]
+#[derive(Clone, Copy)]
 pub struct Gap {
     pub p: f64,
     pub a: f64,

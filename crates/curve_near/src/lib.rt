@@ -1,4 +1,6 @@
 // Whether a point is near a chord, over the metric's channels `ms`.
+#![tactic(auto)]
+
 ghost use Rattle.std.specs.Prelude.{◌≡◌, ◌≤◌, length};
 ghost use Rattle.curve_metric.specs.Below.{Below};
 ghost use Rattle.curve_metric.specs.Metric.{along, deviation2_of};

@@ -1,4 +1,6 @@
 // What the counting walk does at one sample: counts it for its owner, and remembers the halvings left.
+#![tactic(auto)]
+
 ghost use Rattle.std.specs.Prelude.{◌≡◌, ◌≤◌, ◌+◌, ◌^◌, set};
 ghost use Rattle.curve_metric.specs.Walk.{depth};
 ghost use Rattle.curve_walk.specs.Walks.{own_of};

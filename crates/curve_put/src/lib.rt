@@ -1,4 +1,6 @@
 // What the writing walk does at one sample: writes it, and asks whether the counting stopped there.
+#![tactic(auto)]
+
 ghost use Rattle.std.specs.Prelude.{◌≡◌, [], ◌∷◌, ◌&&◌, ◌≤◌, ◌+◌, ◌^◌, ltb, eqb, length, get_or};
 ghost use Rattle.curve_walk.specs.Asks.{Written};
 

@@ -165,21 +165,21 @@ the_fit d ms pts = fit_of (cubic_kind d.kind) (rows d pts) (chords (rows d pts) 
 none-flat : (k : ℕ) → flatten {A = List Float} (upto (λ (i : ℕ). []) k) ≡ []
 unfolding upto flatten
 none-flat zero = refl
-none-flat (suc k) = Rattle.floats.specs.Joins.flatten-snoc (upto (λ (i : ℕ). []) k) [] ∙ mathlib.Core.List.append-nil _ ∙ none-flat k
+none-flat (suc k) = Rattle.floats.specs.Joins.flatten_snoc (upto (λ (i : ℕ). []) k) [] ∙ mathlib.Core.List.append-nil _ ∙ none-flat k
 
 module _ {d : Drawing} {k : Kept} {ms : List ℕ} {pts ws ks cs : List Float} (r : Ready d (Form.Fit k) ms pts ws ks cs) where
   fit-runs : drawn_runs d ms pts ws ≡ fit_runs (cubic_kind d.kind) ms d.tol (rows d pts)
   unfolding drawn_runs
   fit-runs = rw r.laid.kind
 
-  runs_of : (b : Bool) → ltb (length (kept d ms pts)) 2 ≡ b → fit_runs (cubic_kind d.kind) ms d.tol (rows d pts)
+  runs_of_lem : (b : Bool) → ltb (length (kept d ms pts)) 2 ≡ b → fit_runs (cubic_kind d.kind) ms d.tol (rows d pts)
       ≡ cond b (upto (λ (i : ℕ). []) (d.n - 1)) (upto (fit_run (the_fit d ms pts) ms d.tol (rows d pts) (chords (rows d pts) ms)) (d.n - 1))
   unfolding fit_runs
-  runs_of b e = rw (length-rows pts d.ch d.n, e)
+  runs_of_lem b e = rw (length-rows pts d.ch d.n, e)
 
   -- nothing kept but the start
   empty_runs : k.points < 2 → drawn_runs d ms pts ws ≡ upto (λ (i : ℕ). []) (d.n - 1)
-  empty_runs h = fit-runs ∙ runs_of true (lt-ltb (length (kept d ms pts)) 2 (omega (arith, r.laid.tables.fit.count)))
+  empty_runs h = fit-runs ∙ runs_of_lem true (lt-ltb (length (kept d ms pts)) 2 (omega (arith, r.laid.tables.fit.count)))
 
   pub empty-counted : k.points < 2 → (l : List ℕ) {xs : List ℕ} → xs ≡ filled (λ (i : ℕ). 0) (d.n - 1) l → xs ≡ filled (run_length d ms pts ws) (d.n - 1) l
   empty-counted h l ex = ex ∙ filled-below (λ (i : ℕ). 0) (run_length d ms pts ws) (d.n - 1) l (λ j g.
@@ -220,7 +220,7 @@ module _ {d : Drawing} {k : Kept} {ms : List ℕ} {pts ws ks cs : List Float} (r
 
     full_runs : drawn_runs d ms pts ws ≡ upto (fit_run_at (shape_of d (Form.Fit k)) ms pts ks cs) (d.n - 1)
     full_runs =
-        fit-runs ∙ runs_of false (le-ltb (length (kept d ms pts)) 2 (omega (arith, r.laid.tables.fit.count)))
+        fit-runs ∙ runs_of_lem false (le-ltb (length (kept d ms pts)) 2 (omega (arith, r.laid.tables.fit.count)))
         ∙ sym (upto-below (fit_run_at (shape_of d (Form.Fit k)) ms pts ks cs) _ (d.n - 1) fit-run)
 
     pub fit-counted : {s : Shape} → s ≡ shape_of d (Form.Fit k) → (l : List ℕ) {xs ys : List ℕ} → xs ≡ filled (λ (i : ℕ). 0) (d.n - 1) l

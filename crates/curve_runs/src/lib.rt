@@ -1,4 +1,6 @@
 // The samples of a spline of any kind, counted by block and written.
+#![tactic(auto)]
+
 pub mod runs;
 
 ghost use Rattle.std.specs.Prelude.{◌≡◌};

@@ -1,4 +1,6 @@
 // The samples of a fit, stretch by stretch between the programmed points.
+#![tactic(auto)]
+
 pub mod count;
 pub mod write;
 

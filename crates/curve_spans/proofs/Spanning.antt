@@ -79,9 +79,9 @@ module _ (ev : Float → List Float) (ms : List ℕ) (tol : Float) where
       → Counted own 1 (span_samples ev ms tol (j + 1)) l r' xs'
   count-more j q0 q1 et eu e0 e1 a b = counted-two (spans_more j q0 q1 et eu e0 e1) a b
 
-  pub count_room : {s : Shape} (ks : List Float) (j : ℕ) {l : List ℕ} {r : ℕ} {xs : List ℕ} → 2 ≤ s.n → j ≤ most_points → Fresh s l
+  pub count_room_lem : {s : Shape} (ks : List Float) (j : ℕ) {l : List ℕ} {r : ℕ} {xs : List ℕ} → 2 ≤ s.n → j ≤ most_points → Fresh s l
       → Counted (own_of s ks) 1 (span_samples ev ms tol j) l r xs → Counts s r depth xs
-  count_room {s} ks j {l} {r} {xs} two h f t =
+  count_room_lem {s} ks j {l} {r} {xs} two h f t =
       let i = end_in s ks 1 (span_samples ev ms tol j) (omega arith) in
       let n : length xs ≡ length l = ap length t.is ∙ counted-length (own_of s ks) 1 (span_samples ev ms tol j) l in
       let m : j * 2 ^ depth ≤ most_points * 2 ^ depth = mul-le-mul_right (2 ^ depth) h in

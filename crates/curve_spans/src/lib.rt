@@ -1,3 +1,5 @@
 // The samples of a B-spline, knot span by knot span.
+#![tactic(auto)]
+
 pub mod count;
 pub mod write;

@@ -1,4 +1,6 @@
 // The halving of a stretch of a curve once more: its samples written, stopping where the count did.
+#![tactic(auto)]
+
 ghost use Rattle.std.specs.Prelude.{◌≡◌, false, cond, ◌≤◌, ◌+◌, ltb, length};
 ghost use Rattle.curve_metric.specs.Walk.{flat};
 ghost use Rattle.curve_walk.specs.Walks.{encode, eval_of, samples_in, points_of};

@@ -85,11 +85,11 @@ few-run : {tol : ℕ} {gs : List ℕ} {s : Standing} {st store : List ℕ} (cs :
     → (closing_after (run answer st store cs) rows).reply.code ≡ 0
     → is_spline s.motion ≡ true → length s.curve + length (together s.motion (run answer st store cs).events) ≤ most_held
 unfolding run together
-few-run {st = st} {store = store} [] rows t z y = omega (arith, few_open t (saved st store (close-accepted st store rows z).0))
-few-run {st = st} {store = store} (c ∷ cs) rows t z y =
+few-run {tol = tol} {gs = gs} {s = s} {st = st} {store = store} [] rows t z y = omega (arith, few_open t (saved st store (close-accepted st store rows z).0))
+few-run {tol = tol} {gs = gs} {s = s} {st = st} {store = store} (c ∷ cs) rows t z y =
     let w = step t c in
     few-step t (run answer (answer st store c).state (answer st store c).store cs).events (taken (answer st store c) c) w.next w.how
-    (few-run cs rows w.stands z) y
+    (few-run {s = (step t c).next} cs rows w.stands z) y
 
 -- ---- the accepted events
 sound-step : {gs : List ℕ} {s : Standing} {st store : List ℕ} (es l : List Event) (n : Standing) → How gs s st store l n
@@ -103,8 +103,8 @@ sound-step es l n (closes p) few rest = by-close rest
 pub sound-run : {tol : ℕ} {gs : List ℕ} {s : Standing} {st store : List ℕ} (cs : List Call) (rows : List ℕ) → Stands tol gs s st store
     → (closing_after (run answer st store cs) rows).reply.code ≡ 0 → Sound gs s (run answer st store cs).events
 unfolding run
-sound-run [] rows t z = over
-sound-run {st = st} {store = store} (c ∷ cs) rows t z =
+sound-run {tol = tol} {gs = gs} {s = s} {st = st} {store = store} [] rows t z = over
+sound-run {tol = tol} {gs = gs} {s = s} {st = st} {store = store} (c ∷ cs) rows t z =
     let w = step t c in
     sound-step (run answer (answer st store c).state (answer st store c).store cs).events (taken (answer st store c) c) w.next w.how
-    (few-run cs rows w.stands z) (sound-run cs rows w.stands z)
+    (few-run {s = (step t c).next} cs rows w.stands z) (sound-run {s = (step t c).next} cs rows w.stands z)

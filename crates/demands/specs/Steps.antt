@@ -273,5 +273,5 @@ run-groups {tol} {gs} {s} {st} {store} (c ∷ cs) rows t z =
     let a : After = answer st store c in
     let w : Step tol gs s st store a c = step t c in
     append_assoc (wrote a) (run answer a.state a.store cs).out (wrote (closing_after (run answer a.state a.store cs) rows))
-    ∙ ap (λ (l : List ℕ). wrote a ++ l) (run-groups cs rows w.stands z)
+    ∙ ap (λ (l : List ℕ). wrote a ++ l) (run-groups {s = (step t c).next} cs rows w.stands z)
     ∙ sym (w.adds (run answer a.state a.store cs).events)

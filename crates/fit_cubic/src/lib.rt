@@ -1,4 +1,6 @@
 // The slopes of the natural cubic spline: flatten.rs's `natural_cubic_slopes`.
+#![tactic(auto)]
+
 ghost use Rattle.std.specs.Prelude.{◌≡◌, ◌≤◌, ◌<◌, ◌+◌, length};
 ghost use Rattle.floats.specs.Lists.{filled, Agrees};
 ghost use Rattle.layout.specs.Layout.{most_points};

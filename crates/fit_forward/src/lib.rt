@@ -1,4 +1,6 @@
 // The forward pass of the natural cubic's equations.
+#![tactic(auto)]
+
 ghost use Rattle.std.specs.Prelude.{◌≡◌, ◌≤◌, ◌<◌, length};
 ghost use Rattle.floats.specs.Lists.{filled};
 ghost use Rattle.fit_slopes.specs.Slopes.{diag, rhs};

@@ -1,2 +1,3 @@
 // ASPLINE and CSPLINE: curves of numbers through the points. What a fit is, which points it keeps, how it lies in memory, and the
 // laws of it; no code.
+#![tactic(auto)]

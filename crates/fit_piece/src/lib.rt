@@ -1,4 +1,6 @@
 // The piece of a prepared fit that t lies in, by halving or by a hint.
+#![tactic(auto)]
+
 ghost use Rattle.std.specs.Prelude.{◌≡◌, true, ◌≤◌, ◌<◌, ◌+◌, length};
 ghost use Rattle.fit_knots.specs.Fit.{piece_of};
 ghost use Rattle.fit_knots.specs.Memory.{Rising};

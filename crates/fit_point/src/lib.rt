@@ -1,4 +1,6 @@
 // A prepared fit is evaluated: the piece that t lies in, and each channel's cubic there.
+#![tactic(auto)]
+
 ghost use Rattle.std.specs.Prelude.{◌≡◌, ◌≤◌, ◌<◌, ◌+◌, ◌*◌, length, replicate};
 ghost use Rattle.floats.specs.Numbers.{f0, at};
 ghost use Rattle.floats.specs.Lists.{upto, filled};
@@ -19,7 +21,7 @@ fn cell(xs: &[f64], i: usize, n: usize, j: usize) -> f64
 }
 
 // What the ends of a piece, y and z, and its slopes there, m and k, are multiplied by at one place of it.
-#[derive(Drop)]
+#[derive(Clone, Copy)]
 pub struct Blend {
     pub y: f64,
     pub m: f64,

@@ -1,4 +1,6 @@
 // ASPLINE and CSPLINE: the points kept, and the fit through them.
+#![tactic(auto)]
+
 pub mod kept;
 
 ghost use Rattle.std.specs.Prelude.{◌≤◌, length};

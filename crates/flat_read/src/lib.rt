@@ -1,4 +1,6 @@
 // A line of flattened row text in: the row that its first 14 fields are, with the mark that the last one is.
+#![tactic(auto)]
+
 ghost use Rattle.std.specs.Prelude.{◌≡◌, length};
 ghost use Rattle.std.proofs.Math.Option.{get_or};
 ghost use Rattle.layout.specs.Layout.{row_words};
@@ -8,7 +10,7 @@ ghost use Rattle.flat_read.specs.Flat.{marked_end, marked_row, read_flat};
 use layout::R_MARK;
 
 // Where the row of a line ends and its mark begins: a row that was programmed, or a sample.
-#[derive(Drop)]
+#[derive(Clone, Copy)]
 pub enum Marked {
     Plain(usize),
     Sample(usize),

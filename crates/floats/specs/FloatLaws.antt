@@ -53,7 +53,7 @@ under f s m e t =
     ltb→lt (suc m * up e) most (and_r (eqb (suc m % 2) 1 && ltb (suc m) (2 ^ prec f) && leb (down e) (2 ^ low f)) (ltb (suc m * up e) most) t)
 
 pow_le_inv : (a b : ℕ) → 2 ^ a ≤ 2 ^ b → a ≤ b
-pow_le_inv a b h = ⊎_elim (λ l. absurd (not-le_of_lt (pow-lt l) h)) (λ l. l) (Rattle.floats.specs.Fill.lt-or-le b a)
+pow_le_inv a b h = ⊎_elim (λ l. absurd (not-le_of_lt (pow-lt l) h)) (λ l. l) (Rattle.floats.specs.Fill.lt_or_le b a)
 
 -- the exponent, in units of the format's smallest value
 lift : (f : Format) → (e : ℤ) → down e ≤ 2 ^ low f → (j : ℕ) × (up e * 2 ^ low f ≡ 2 ^ j * down e)
@@ -371,7 +371,7 @@ whole_lt_of a b (fin false m e) (fin false n d) p q =
     ltb-scale a b k p = ⊎_elim
         (λ l. lt-ltb (a * k) (b * k) (mul-lt-mul_of_pos_right l p) ∙ sym (lt-ltb a b l))
         (λ l. le-ltb (a * k) (b * k) (mul-le-mul_right k l) ∙ sym (le-ltb a b l))
-        (Rattle.floats.specs.Fill.lt-or-le a b)
+        (Rattle.floats.specs.Fill.lt_or_le a b)
 
 pub whole-lt : (a b : ℕ) → a ≤ far → b ≤ far → lt (whole a) (whole b) ≡ ltb a b
 whole-lt a b h l = whole_lt_of a b (whole a) (whole b) (whole-value a h) (whole-value b l)

@@ -1,4 +1,6 @@
 // Numbers and their bits, with nothing asked of either, and their sizes.
+#![tactic(auto)]
+
 ghost use Rattle.std.specs.Prelude.{◌≡◌};
 ghost use Rattle.floats.specs.Numbers.{abs_of, larger_of, held_in};
 ghost use Rattle.std.specs.Float.Ieee as Ieee;

@@ -1,4 +1,6 @@
 // The layout: each number of a row, a saved state and a store, named once, as specs/Layout has them.
+#![tactic(auto)]
+
 ghost use Rattle.std.specs.Prelude.{◌≡◌, ◌/◌, eqb, length};
 ghost use Rattle.layout.specs.Layout.{row_words, state_words};
 

@@ -1,4 +1,6 @@
 // What a motion word says: the one place that judges its number.
+#![tactic(auto)]
+
 ghost use Rattle.std.specs.Prelude.{◌≡◌};
 ghost use Rattle.motion.specs.Motion.{kind_of, spline_kind, other_kind, basis_kind, cubic_kind, curve_kind, is_rapid};
 
@@ -9,7 +11,7 @@ pub const G1: u64 = 2;
 
 pub const LAST_MOTION: u64 = 31;
 
-#[derive(Drop)]
+#[derive(Clone, Copy)]
 pub enum Kind {
     Same,
     Linear,
@@ -22,6 +24,7 @@ pub enum Kind {
     Refused,
 }
 
+#[tactic(auto, unfolding(crate::specs::Motion::kind_of))]
 pub fn kind_of(motion: u64) -> Kind
     ensures { result ≡ kind_of motion }
 {

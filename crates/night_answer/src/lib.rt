@@ -1,4 +1,6 @@
 // What a call's answer does to a try of a night: its rows' text, the blocks that it names as still curved, and its refusal.
+#![tactic(auto)]
+
 ghost use Rattle.std.specs.Prelude.{◌≡◌, length, ◌+◌, ◌<◌, ◌^◌};
 ghost use Rattle.night_answer.specs.Answer.{counted, stands_on, done_by};
 ghost use Rattle.night_answer.specs.Answers.{turned_away, AnswerFits, Answers};
@@ -12,7 +14,7 @@ use night_refusal::turned_down;
 use tally_call::K_CLOSE;
 
 // A try behind an answer, and the reply as it is told.
-#[derive(Drop)]
+#[derive(Clone, Copy)]
 pub struct Heard {
     pub run: TryRun,
     pub reply: Reply,

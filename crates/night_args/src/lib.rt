@@ -1,4 +1,6 @@
 // The fields of an argument, and how many tolerances a list of them has.
+#![tactic(auto)]
+
 ghost use Rattle.std.specs.Prelude.{◌≡◌, ◌+◌, ◌≤◌, length, drop};
 ghost use Rattle.csv_cells.specs.Taking.{reach};
 ghost use Rattle.night_args.specs.Tolerances.{count_of};

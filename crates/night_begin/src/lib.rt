@@ -1,4 +1,6 @@
 // How a try of a night begins: its start is made and told to the tally, and the numbers of the try behind it.
+#![tactic(auto)]
+
 ghost use Rattle.std.specs.Prelude.{◌≡◌};
 ghost use Rattle.night_begin.specs.Begin.{fresh, first_course};
 ghost use Rattle.night_begin.specs.Starts.{StartTold};

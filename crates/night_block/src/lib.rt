@@ -1,4 +1,6 @@
 // A line of row text as a block of a night: its row with a carry, by which the first row of its group is told from the others.
+#![tactic(auto)]
+
 ghost use Rattle.std.specs.Prelude.{◌≡◌, length};
 ghost use Rattle.std.proofs.Math.Option.{get_or};
 ghost use Rattle.floats.specs.Lists.{is_some};

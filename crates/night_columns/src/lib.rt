@@ -1,4 +1,6 @@
 // The columns of a night's table of tries, and reading the field of one.
+#![tactic(auto)]
+
 ghost use Rattle.std.specs.Prelude.{◌≡◌};
 ghost use Rattle.night_columns.specs.Columns.{is_text, may_lack};
 ghost use Rattle.night_columns.specs.Read.{whole_of, empty_at, column_of};
@@ -40,7 +42,7 @@ pub const COLUMNS: usize = 28;
 const DIGITS: usize = 10;
 
 // A whole number, or none.
-#[derive(Drop)]
+#[derive(Clone, Copy)]
 pub enum Whole {
     Is(u64),
     Bad,

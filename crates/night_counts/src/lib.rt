@@ -1,4 +1,6 @@
 // How many jobs of a night have a bit in their mark.
+#![tactic(auto)]
+
 ghost use Rattle.std.specs.Prelude.{◌≡◌, ◌<◌, ◌≤◌, length};
 ghost use Rattle.row_cells.specs.Bits.{has};
 ghost use Rattle.night_counts.specs.Counts.{count_with};

@@ -1,5 +1,7 @@
 // The numbers of a try of a night, and what changes them but a call's answer: the tally, the block that is pushed, the line that is
 // counted.
+#![tactic(auto)]
+
 ghost use Rattle.std.specs.Prelude.{◌≡◌};
 ghost use Rattle.night_course.specs.Course.{with_course, if_told, at_source, next_course};
 
@@ -18,7 +20,7 @@ pub const CLOSED: u64 = 3;
 pub const UNTOLD: u64 = 4;
 
 // Which try it is: its job, and its number in the job.
-#[derive(Drop)]
+#[derive(Clone, Copy)]
 pub struct Ticket {
     pub job: u64,
     pub number: u64,
@@ -26,7 +28,7 @@ pub struct Ticket {
 
 // The numbers of a try: the physical line that is read next, the source line of the last block, the motion in force in
 // what was written, how many blocks were named as still curved, the first refusal and its line, and how it stands.
-#[derive(Drop)]
+#[derive(Clone, Copy)]
 pub struct Course {
     pub physical: u64,
     pub source: u64,
@@ -38,7 +40,7 @@ pub struct Course {
 }
 
 // A try, with the bytes of rows and of named blocks that wait to be written.
-#[derive(Drop)]
+#[derive(Clone, Copy)]
 pub struct TryRun {
     pub ticket: Ticket,
     pub course: Course,

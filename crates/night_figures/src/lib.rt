@@ -1,4 +1,6 @@
 // The figures of a try: what the words of its job's tally are more behind it than they were before.
+#![tactic(auto)]
+
 ghost use Rattle.std.specs.Prelude.{◌≡◌};
 ghost use Rattle.night_figures.specs.Figures.{capped, since, figure_of};
 

@@ -1,4 +1,6 @@
 // How many jobs of a night are in each lot.
+#![tactic(auto)]
+
 ghost use Rattle.std.specs.Prelude.{◌≡◌, eqb, ◌≤◌, length};
 ghost use Rattle.night_tried.specs.Tried.{tries_of};
 ghost use Rattle.night_lots.specs.Lot.{lot_of};

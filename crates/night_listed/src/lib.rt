@@ -1,4 +1,6 @@
 // The lines that name the blocks of a call that stay curved, for a night's list of them.
+#![tactic(auto)]
+
 ghost use Rattle.std.specs.Prelude.{◌≡◌, ◌+◌, ◌*◌, ◌≤◌, length};
 ghost use Rattle.layout.specs.Layout.{row_words};
 ghost use Rattle.still_curved.specs.Curved.{row_at, seen_of};
@@ -10,7 +12,7 @@ use night_naming::put_line;
 use still_curved::{Seen, still_curved};
 
 // The place behind the lines, the motion in force behind the rows, and how many lines there are.
-#[derive(Drop)]
+#[derive(Clone, Copy)]
 pub struct Lines {
     pub at: usize,
     pub motion: u64,
@@ -18,7 +20,7 @@ pub struct Lines {
 }
 
 // The same behind the rows so far, and whether the last of them stays curved.
-#[derive(Drop)]
+#[derive(Clone, Copy)]
 pub struct Walk {
     pub at: usize,
     pub motion: u64,

@@ -1,4 +1,6 @@
 // Which of five lots a job of a night is in.
+#![tactic(auto)]
+
 ghost use Rattle.std.specs.Prelude.{◌≡◌, cond};
 ghost use Rattle.row_cells.specs.Bits.{has};
 ghost use Rattle.tally_words.specs.Words.{b_first, b_closed};

@@ -1,4 +1,6 @@
 // What a night knows of each job: the bits of its try word, which a try's line alone gives.
+#![tactic(auto)]
+
 ghost use Rattle.std.specs.Prelude.{◌≡◌, cond};
 ghost use Rattle.row_cells.specs.Bits.{has};
 ghost use Rattle.tally_words.specs.Words.{b_closed, b_first};

@@ -1,4 +1,6 @@
 // Whether the block of a row that stays curved is named at that row, and with which warning.
+#![tactic(auto)]
+
 ghost use Rattle.std.specs.Prelude.{◌≡◌, ◌&&◌, not, ◌+◌, ◌*◌, ◌≤◌, ◌<◌, length, get_or};
 ghost use Rattle.layout.specs.Layout.{row_words};
 ghost use Rattle.still_curved.specs.Curved.{row_at};

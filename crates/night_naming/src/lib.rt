@@ -1,4 +1,6 @@
 // The line that names a block that stays curved.
+#![tactic(auto)]
+
 ghost use Rattle.std.specs.Prelude.{[], ◌∷◌, ◌++◌, ◌+◌, ◌≤◌, ◌<◌, length};
 ghost use Rattle.csv_figures.specs.Write.{whole_text};
 ghost use Rattle.csv_words.specs.Words.{word_at};

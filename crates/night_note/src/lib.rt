@@ -1,4 +1,6 @@
 // What is told to a night's tally: a call with what its reply said, and text that cannot be read, which is told as a push refused by 10.
+#![tactic(auto)]
+
 ghost use Rattle.night_note.specs.Notes.{NoteIs, UnreadTold};
 
 use call_reply::{Reply, plain_reply};

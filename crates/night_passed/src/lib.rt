@@ -1,4 +1,6 @@
 // Whether a try passed, by the words of its job's tally.
+#![tactic(auto)]
+
 ghost use Rattle.std.specs.Prelude.{◌≡◌, ◌+◌, ◌<◌, get_or};
 ghost use Rattle.tally_words.specs.Words.{w_slots, job_words};
 ghost use Rattle.night_passed.specs.Passed.{passed_of};

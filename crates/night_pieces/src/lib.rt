@@ -1,4 +1,6 @@
 // The pieces that a line of tries is written of.
+#![tactic(auto)]
+
 ghost use Rattle.std.specs.Prelude.{◌≡◌, ◌∷◌, ◌+◌, ◌*◌, ◌≤◌, length};
 ghost use Rattle.csv_figures.specs.Out.{Wrote};
 ghost use Rattle.csv_figures.specs.Write.{whole_text};

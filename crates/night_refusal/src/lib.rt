@@ -1,4 +1,6 @@
 // A refusal in a try of a night: the first of a try is kept, and how the try stands behind it.
+#![tactic(auto)]
+
 ghost use Rattle.std.specs.Prelude.{◌≡◌};
 ghost use Rattle.night_refusal.specs.Refusal.{stands_then, turned_down};
 

@@ -1,4 +1,6 @@
 // The lines that a night prints at its end, as bytes.
+#![tactic(auto)]
+
 ghost use Rattle.std.specs.Prelude.{◌≡◌, ◌+◌, ◌≤◌, ◌<◌, length};
 ghost use Rattle.night_columns.specs.Columns.{columns};
 

@@ -1,4 +1,6 @@
 // The rest of a line of tries, behind its tolerance.
+#![tactic(auto)]
+
 ghost use Rattle.std.specs.Prelude.{◌≡◌, ◌+◌, ◌≤◌, length};
 ghost use Rattle.night_columns.specs.Columns.{columns};
 ghost use Rattle.night_rest.specs.Rest.{rest_room, PutRest};

@@ -1,4 +1,6 @@
 // Which FILEs of a night may be named so, by their bytes.
+#![tactic(auto)]
+
 ghost use Rattle.std.specs.Prelude.{◌≡◌};
 ghost use Rattle.night_stands.specs.Standing.{byte_stands, may_stand};
 

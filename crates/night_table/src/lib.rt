@@ -1,4 +1,6 @@
 // A line of a night's table of tries: its text, and reading one back.
+#![tactic(auto)]
+
 ghost use Rattle.std.specs.Prelude.{◌≡◌, ◌+◌, ◌≤◌, length};
 ghost use Rattle.night_columns.specs.Columns.{columns};
 ghost use Rattle.night_table.specs.Lines.{line_room, PutLine, Taken};

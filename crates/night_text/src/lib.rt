@@ -1,4 +1,6 @@
 // What the text of a line of a night is: the header, a block, or text that cannot be read.
+#![tactic(auto)]
+
 ghost use Rattle.std.specs.Prelude.{◌≡◌, length};
 ghost use Rattle.layout.specs.Layout.{row_words};
 ghost use Rattle.night_text.specs.Text.{says, text_says};
@@ -7,7 +9,7 @@ use csv_header::is_header;
 use night_block::read_block;
 
 // A block's row is in the slice that was lent for it.
-#[derive(Drop)]
+#[derive(Clone, Copy)]
 pub enum LineIs {
     Unread,
     Header,

@@ -1,4 +1,6 @@
 // A push or a close of a night that was made is told to the tally here, with what its reply said.
+#![tactic(auto)]
+
 ghost use Rattle.std.specs.Prelude.{length};
 ghost use Rattle.night_answer.specs.Answers.{AnswerFits};
 ghost use Rattle.night_told.specs.Tellings.{CallTold};

@@ -1,4 +1,6 @@
 // A tolerance of a night by its text: whether it is one, and its bits.
+#![tactic(auto)]
+
 ghost use Rattle.std.specs.Prelude.{◌≡◌};
 ghost use Rattle.night_tolerance.specs.Tolerance.{is_tolerance, bits_of};
 

@@ -1,4 +1,6 @@
 // How often a job of a night was tried, and by which file.
+#![tactic(auto)]
+
 ghost use Rattle.std.specs.Prelude.{◌≡◌};
 ghost use Rattle.night_tried.specs.Tried.{tried_word, tries_of, same_file};
 

@@ -1,4 +1,6 @@
 // What a row of flattened rows is drawn as.
+#![tactic(auto)]
+
 ghost use Rattle.std.specs.Prelude.{◌≡◌, length};
 ghost use Rattle.layout.specs.Layout.{row_words};
 ghost use Rattle.picture_class.specs.Class.{straight_of, class_of, letter_of};
@@ -8,7 +10,7 @@ use motion::is_rapid;
 use still_curved::still_curved;
 
 // A rapid move, a move at feed, a sample that was computed for a curve, and a row that still is a curve.
-#[derive(Drop)]
+#[derive(Clone, Copy)]
 pub enum Class {
     Rapid,
     Feed,
@@ -17,7 +19,7 @@ pub enum Class {
 }
 
 // The class of a row, and the motion that is in force behind it.
-#[derive(Drop)]
+#[derive(Clone, Copy)]
 pub struct Judged {
     pub motion: u64,
     pub class: Class,

@@ -1,4 +1,6 @@
 // How the box of a picture's points is fitted into the area of the picture.
+#![tactic(auto)]
+
 ghost use Rattle.std.specs.Prelude.{◌≡◌, ◌≤◌, ◌<◌};
 ghost use Rattle.picture_span.specs.Span.{widest, extent};
 ghost use Rattle.picture_fit.specs.Fit.{area_wide, least, at_least, scale_by, drawn, fit_by, fit_of, most_scale, Small};
@@ -25,7 +27,7 @@ const UNIT: u64 = 1000000000000;
 const FINE_UNIT: u64 = 10000000000000000;
 
 // A scale: a number of millionths, of which one stands for a unit a millimetre, or where it is fine for 10^-4 of that.
-#[derive(Drop)]
+#[derive(Clone, Copy)]
 pub struct Scale {
     pub millionths: u64,
     pub fine: bool,
@@ -65,7 +67,7 @@ fn drawn(units: u64, v: u64, w: u64) -> u64
 }
 
 // Where the box is drawn: its scale, and the place of its lower left corner in the picture.
-#[derive(Drop)]
+#[derive(Clone, Copy)]
 pub struct Fit {
     pub scale: Scale,
     pub left: u64,

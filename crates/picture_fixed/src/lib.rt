@@ -1,4 +1,6 @@
 // The fixed text of a picture: its start, and its last words. Each function stores its text from n on.
+#![tactic(auto)]
+
 ghost use Rattle.std.specs.Prelude.{◌+◌, ◌≤◌, length};
 ghost use Rattle.picture_piece.specs.Grew.{Grew};
 ghost use Rattle.picture_fixed.specs.Rooms.{start_room, close_room};

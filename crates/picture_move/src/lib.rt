@@ -1,4 +1,6 @@
 // The text of a move: a line more of the path that is open, or a new path.
+#![tactic(auto)]
+
 ghost use Rattle.std.specs.Prelude.{◌+◌, ◌≤◌, length};
 ghost use Rattle.csv_figures.specs.Out.{Wrote};
 ghost use Rattle.picture_path.specs.PathText.{move_room, move_text};

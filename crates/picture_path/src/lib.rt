@@ -1,4 +1,6 @@
 // The pieces of a path's text: its beginning at a point, lines to points, its end; and which path is open.
+#![tactic(auto)]
+
 ghost use Rattle.std.specs.Prelude.{◌≡◌, ◌+◌, ◌≤◌, length};
 ghost use Rattle.csv_figures.specs.Out.{Wrote};
 ghost use Rattle.picture_path.specs.PathText.{line_text, open_text, end_text, goes_on, one_more, path_after};
@@ -11,7 +13,7 @@ use picture_point::{Point, put_point};
 const LONGEST: u64 = 1000;
 
 // The path that is open: the letter of its class, 0 where none is, and its points.
-#[derive(Drop)]
+#[derive(Clone, Copy)]
 pub struct Path {
     pub letter: u8,
     pub points: u64,

@@ -1,4 +1,6 @@
 // The pen: where it is, what is counted, and what a row draws.
+#![tactic(auto)]
+
 ghost use Rattle.std.specs.Prelude.{◌≡◌, ◌+◌, ◌≤◌, length};
 ghost use Rattle.layout.specs.Layout.{row_words};
 ghost use Rattle.picture_path.specs.PathText.{move_room};
@@ -18,7 +20,7 @@ use picture_spot::{Spot, both_known, shows, spot_after};
 const MOST_COUNT: u64 = 9999999999;
 
 // The motion in force, the pen's place, the path that is open, the box of its places so far, and the rows of each class.
-#[derive(Drop)]
+#[derive(Clone, Copy)]
 pub struct Pen {
     pub motion: u64,
     pub across: Spot,
@@ -188,7 +190,7 @@ fn point_of(pen: Pen) -> Point
 }
 
 // The pen behind a row, and the place behind what the row draws.
-#[derive(Drop)]
+#[derive(Clone, Copy)]
 pub struct Drawn {
     pub pen: Pen,
     pub at: usize,

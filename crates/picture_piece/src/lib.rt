@@ -1,4 +1,6 @@
 // The pieces of a picture's text: a text, and a number behind it, stored from n on.
+#![tactic(auto)]
+
 ghost use Rattle.std.specs.Prelude.{◌+◌, ◌≤◌, ◌<◌, length};
 ghost use Rattle.picture_place.specs.Place.{place_room};
 ghost use Rattle.picture_fit.specs.Fit.{most_scale};

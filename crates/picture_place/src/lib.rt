@@ -1,5 +1,7 @@
 // A coordinate of a picture, as a whole number of millionths of a millimetre: what the text of a row has, exactly. It is
 // counted from ORIGIN on, so that none is negative.
+#![tactic(auto)]
+
 ghost use Rattle.std.specs.Prelude.{◌≡◌, ◌+◌, ◌≤◌, length};
 ghost use Rattle.csv_figures.specs.Out.{Wrote};
 ghost use Rattle.picture_place.specs.Place.{farthest, near, place_of, place_text, place_room, across};

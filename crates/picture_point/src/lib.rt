@@ -1,4 +1,6 @@
 // The text of a point: its two coordinates.
+#![tactic(auto)]
+
 ghost use Rattle.std.specs.Prelude.{◌+◌, ◌≤◌, length};
 ghost use Rattle.csv_figures.specs.Out.{Wrote};
 ghost use Rattle.picture_point.specs.PointText.{point_text};
@@ -7,7 +9,7 @@ use csv_figures::put_byte;
 use picture_place::put_place;
 
 // The places of a point on the picture's two axes.
-#[derive(Drop)]
+#[derive(Clone, Copy)]
 pub struct Point {
     pub across: u64,
     pub up: u64,

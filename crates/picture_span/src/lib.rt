@@ -1,4 +1,6 @@
 // What a picture is of, its axes and its counts; and the box of its points, one span for each axis.
+#![tactic(auto)]
+
 ghost use Rattle.std.specs.Prelude.{◌≡◌, ◌≤◌};
 ghost use Rattle.picture_span.specs.Span.{widest, lower_of, higher_of, no_span, widened, is_empty, extent};
 
@@ -6,7 +8,7 @@ ghost use Rattle.picture_span.specs.Span.{widest, lower_of, higher_of, no_span, 
 const WIDEST: u64 = 2000000000000000;
 
 // Rows of each class of a picture.
-#[derive(Drop)]
+#[derive(Clone, Copy)]
 pub struct Counts {
     pub rapid: u64,
     pub feed: u64,
@@ -15,21 +17,21 @@ pub struct Counts {
 }
 
 // The codes of the axes of a picture: what goes to the right, and what goes up.
-#[derive(Drop)]
+#[derive(Clone, Copy)]
 pub struct Plane {
     pub across: usize,
     pub up: usize,
 }
 
 // The places between which points lie: none where `to` is below `from`.
-#[derive(Drop)]
+#[derive(Clone, Copy)]
 pub struct Span {
     pub from: u64,
     pub to: u64,
 }
 
 // The box of a picture's points.
-#[derive(Drop)]
+#[derive(Clone, Copy)]
 pub struct Frame {
     pub across: Span,
     pub up: Span,

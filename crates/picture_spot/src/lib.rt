@@ -1,4 +1,6 @@
 // Where the pen is on one axis, and whether it is known.
+#![tactic(auto)]
+
 ghost use Rattle.std.specs.Prelude.{◌≡◌, ◌<◌, length};
 ghost use Rattle.layout.specs.Layout.{row_words, cells};
 ghost use Rattle.picture_spot.specs.Spot.{shows_code, spot_after, both_known};
@@ -8,7 +10,7 @@ use picture_place::place_of;
 use row_cells::has_bit;
 
 // Where the pen is on one axis, once a row has shown it.
-#[derive(Drop)]
+#[derive(Clone, Copy)]
 pub struct Spot {
     pub known: bool,
     pub at: u64,

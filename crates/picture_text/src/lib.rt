@@ -1,5 +1,7 @@
 // What is known of a picture only at its end: the counts and the box, as a legend, and the transform that fits the path into
 // the area, in a style of its own. Each function stores its text from n on.
+#![tactic(auto)]
+
 ghost use Rattle.std.specs.Prelude.{◌+◌, ◌≤◌, ◌<◌, length};
 ghost use Rattle.picture_fit.specs.Fit.{most_scale, Small};
 ghost use Rattle.picture_piece.specs.Grew.{Grew};

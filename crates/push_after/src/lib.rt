@@ -1,4 +1,6 @@
 // The state and the store after a block.
+#![tactic(auto)]
+
 ghost use Rattle.std.specs.Prelude.{◌≡◌, ◌≤◌};
 ghost use Rattle.layout.specs.Layout.{most_held};
 ghost use Rattle.saved_state.specs.State.{held};

@@ -1,4 +1,6 @@
 // What a block is refused for at a state, or the block resolved.
+#![tactic(auto)]
+
 ghost use Rattle.std.specs.Prelude.{◌≡◌, ◌&&◌, ◌/◌, min, leb, length};
 ghost use Rattle.layout.specs.Layout.{row_words, most_held};
 ghost use Rattle.motion.specs.Motion.{spline_kind};
@@ -11,7 +13,7 @@ use row_check::check_row;
 use saved_check::saved_check;
 
 // What a push is due: the number of its refusal, or its block.
-#[derive(Drop)]
+#[derive(Clone, Copy)]
 pub enum Due {
     Refused(u64),
     Push(Resolved),

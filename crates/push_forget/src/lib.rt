@@ -1,4 +1,6 @@
 // What a state forgets when its curve ends.
+#![tactic(auto)]
+
 ghost use Rattle.std.specs.Prelude.{◌≡◌, ℕ, ◌+◌, length};
 ghost use Rattle.floats.specs.Lists.{upto, spliced};
 ghost use Rattle.layout.specs.Layout.{axis_codes, w_start, state_words};

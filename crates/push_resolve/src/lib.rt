@@ -1,4 +1,6 @@
 // A block at a state: what it comes to, resolved once.
+#![tactic(auto)]
+
 ghost use Rattle.std.specs.Prelude.{◌≡◌, ◌&&◌, not, cond, ◌≤◌, eqb};
 ghost use Rattle.motion.specs.Motion.{is_other, last_motion};
 ghost use Rattle.row_cells.specs.Bits.{has};
@@ -13,7 +15,7 @@ use saved_state::state::geometric_mask;
 
 // What a block comes to at a state: the motion then in force, its kind, the plane; whether the held spline goes out first
 // and how many blocks stay held; whether its word is to be warned of; the mask of the geometric axes.
-#[derive(Drop)]
+#[derive(Clone, Copy)]
 pub struct Resolved {
     pub kind: Kind,
     pub motion: u64,

@@ -1,4 +1,6 @@
 // What a block's own rows come to at the positions before it.
+#![tactic(auto)]
+
 ghost use Rattle.std.specs.Prelude.{◌≡◌};
 ghost use Rattle.arc_rows.specs.Plan.{pass_plan};
 ghost use Rattle.push_rows.specs.Own.{Ready, none_plan, OwnPlanned, TurnPlanned};

@@ -1,4 +1,6 @@
 // The end of a push, where nothing can refuse any more.
+#![tactic(auto)]
+
 ghost use Rattle.std.specs.Prelude.{◌≡◌, cond};
 ghost use Rattle.call_reply.specs.Replies.{PushIs};
 ghost use Rattle.push_settle.specs.Settle.{Settles, settled};

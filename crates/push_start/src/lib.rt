@@ -1,4 +1,6 @@
 // The curve start in the state: the first block that is buffered opens it.
+#![tactic(auto)]
+
 ghost use Rattle.std.specs.Prelude.{◌≡◌, cond, ℕ, ◌+◌, ◌<◌, length, eqb};
 ghost use Rattle.std.proofs.Math.Option.{get_or};
 ghost use Rattle.floats.specs.Lists.{upto, spliced};

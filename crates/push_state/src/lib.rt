@@ -1,4 +1,6 @@
 // A block that is buffered, in the state: it opens the curve or goes on with it, sets the degree and is counted.
+#![tactic(auto)]
+
 ghost use Rattle.std.specs.Prelude.{◌≡◌, ◌≤◌, min, max, length};
 ghost use Rattle.floats.specs.Numbers.{num};
 ghost use Rattle.whole.specs.Whole.{trunc_count};

@@ -1,4 +1,6 @@
 // The steps by which a block changes the state, one a function.
+#![tactic(auto)]
+
 ghost use Rattle.std.specs.Prelude.{◌≡◌, cond, ◌<◌, ◌≤◌, length, set, get_or};
 ghost use Rattle.layout.specs.Layout.{axis_codes, w_motion, w_plane, w_warned, state_words, most_held};
 ghost use Rattle.saved_state.specs.State.{held, geometric_mask};

@@ -1,4 +1,6 @@
 // The rows of a block of its own, written.
+#![tactic(auto)]
+
 ghost use Rattle.std.specs.Prelude.{◌≡◌, ◌<◌};
 ghost use Rattle.floats.specs.Lists.{flatten, spliced};
 ghost use Rattle.push_rows.specs.Own.{Writes, own_rows};

@@ -1,4 +1,6 @@
 // The fields of a line.
+#![tactic(auto)]
+
 ghost use Rattle.std.specs.Prelude.{◌+◌, ◌-◌, ◌<◌, ◌≤◌, length, ◌≡◌};
 
 pub const DECIMAL: u64 = 10;
@@ -7,7 +9,7 @@ pub const HEX: u64 = 16;
 
 // What was read of a line: its number, and the place behind it. A field's is behind its blank; the line's end
 // counts as a blank, so that a whole line ends at its length + 1.
-#[derive(Drop)]
+#[derive(Clone, Copy)]
 pub struct Part {
     pub ok: bool,
     pub value: u64,

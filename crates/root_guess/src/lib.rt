@@ -1,5 +1,7 @@
 // A guess at the digits of a square root, from a table and a parabola, for crate root to check.
 // No contract says how good it is: only that its parts are small enough to go on with.
+#![tactic(auto)]
+
 ghost use Rattle.std.specs.Prelude.{◌^◌, ◌≤◌, ◌<◌};
 
 // with 31 digits below the point

@@ -2,6 +2,8 @@
 // that leaves of the number gives the lower. The result is nearly always the nearest, which is checked exactly.
 // The check is a branch, so that a caller need not wait for it. Where it refuses, the next number is tried, and
 // then a digit at a time. So no proof rests on how good the guess is.
+#![tactic(auto)]
+
 ghost use Rattle.std.specs.Prelude.{◌≡◌, false, ◌⊎◌, ℕ, ◌+◌, ◌-◌, ◌*◌, ◌^◌, ◌≤◌, ◌<◌};
 ghost use Rattle.root_near.specs.Nearest.{Nearest};
 

@@ -1,4 +1,5 @@
 // The table of the guess at a square root.
+#![tactic(auto)]
 
 // For the nine leading digits, the parabola that is nearly 1 / sqrt there: tools/root-table made the words and
 // says how the three coefficients lie in one. A `match`, since LLVM makes a table of it in read-only memory,

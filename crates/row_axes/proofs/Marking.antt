@@ -1,7 +1,7 @@
 -- LAWS. The axes of a list of codes, marked one after another. Assumes nothing.
 use Prim.Native.Nat.{ℕ, ◌+◌, ◌<◌, ◌≤◌}
 use mathlib.Core.Path.{◌≡◌, sym, ◌∙◌, ap}
-use mathlib.Core.Bool.{Bool, false, ◌||◌, cond, or_false, or-true}
+use mathlib.Core.Bool.{Bool, false, ◌||◌, cond, or-false, or-true}
 use mathlib.Core.List.{List}
 use native.Mathlib.Omega.{arith}
 use native.Mathlib.Numerals.{add-one}
@@ -55,4 +55,4 @@ module _ (codes : List ℕ) (i m : ℕ) (s : Marking codes i m) where
 
   pub marked : length codes ≤ i → m ≡ mask_sum (λ (k : ℕ). member k codes) axis_codes
   marked h = mask-of m axis_codes (λ (k : ℕ). member k codes) s.small (λ k l.
-      sym (or_false (has m k)) ∙ ap (λ (b : Bool). has m k || b) (sym (member-end k codes i h)) ∙ s.marks k l)
+      sym (or-false (has m k)) ∙ ap (λ (b : Bool). has m k || b) (sym (member-end k codes i h)) ∙ s.marks k l)

@@ -1,4 +1,6 @@
 // The axes in a list of codes, as a mask.
+#![tactic(auto)]
+
 ghost use Rattle.std.specs.Prelude.{◌≡◌, cond, ℕ, ltb};
 ghost use Rattle.floats.specs.Lists.{member};
 ghost use Rattle.layout.specs.Layout.{axis_codes};

@@ -1,7 +1,7 @@
 -- LAWS. The bits of `&`, of `|`, of a bit set by `|`, and of what a number lacks of all ones. Assumes nothing.
 use Rattle.std.specs.Prelude.{ℕ, zero, suc, ◌+◌, ◌-◌, ◌/◌, ◌%◌, ◌^◌, ◌<◌, min, max, ◌≡◌, refl, Bool, true, false, ◌&&◌, ◌||◌, not, eqb}
 use Rattle.std.proofs.Common.{sym, ◌∙◌, ap, arith, pow-suc, eq-eqb, ne_eqb, eqb-true}
-use Rattle.std.proofs.Math.Bool.{or-true, or_false}
+use Rattle.std.proofs.Math.Bool.{or-true, or-false}
 use Rattle.std.specs.Int.Bits.{bit_and, bit_or, and_step, or_step}
 use Rattle.std.proofs.lemmas.Nat.{and_shr, or_shr, or_lt}
 use Rattle.std.proofs.Math.Pow.{pow-lt}
@@ -67,7 +67,7 @@ or_power p k n l u =
     (λ t. let e : j ≡ k = eqb-true j k t in
     rw e (ap (λ (a : Bool). has p k || a) (power-same k) ∙ or-true (has p k) ∙ sym (with-same p k)))
     (λ t. let d = eqb-false j k t in
-    ap (λ (a : Bool). has p j || a) (power-other k j d) ∙ or_false (has p j) ∙ sym (with-other p k j d)))
+    ap (λ (a : Bool). has p j || a) (power-other k j d) ∙ or-false (has p j) ∙ sym (with-other p k j d)))
 
 -- ---- what a number lacks of all ones
 both-sum : (f : ℕ → Bool) (n : ℕ) → mask_sum f n + mask_sum (λ (k : ℕ). not (f k)) n + 1 ≡ 2 ^ n

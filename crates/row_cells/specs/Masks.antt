@@ -1,7 +1,7 @@
 -- LAWS. Single bits, masks put together bit by bit, and the axes that a mask has. Assumes nothing.
 use Rattle.std.specs.Prelude.{ℕ, zero, suc, ◌+◌, ◌-◌, ◌*◌, ◌/◌, ◌%◌, ◌^◌, ◌<◌, ◌≤◌, ◌≡◌, refl, Bool, true, false, cond, ◌&&◌, ◌||◌, List, [], ◌∷◌, ◌++◌, eqb, ltb, length}
 use Rattle.std.proofs.Common.{sym, ◌∙◌, ap, ap₂, subst, ⊎_elim, arith, add-one, div-lt_iff_lt-mul, mul_comm, pow-suc, lt_of_lt_of_le, eq-or-lt_of_le, le_of_suc-le-suc, mod-eq_of_lt, pow_pos, pow-add, pow_mono, shr-shr, eqb-true, eq-eqb, ne_eqb, ltb-true, ltb-false, lt-ltb, le-ltb}
-use Rattle.std.proofs.Math.Bool.{and-false, or_false, or-true}
+use Rattle.std.proofs.Math.Bool.{and-false, or-false, or-true}
 use Rattle.std.proofs.lemmas.Bool.{false≢true, eqb-false}
 use Rattle.std.proofs.Math.Option.{Option, none, some}
 use Rattle.std.proofs.Math.Nat.{add-div_right, add-mul-div_right, div-div-eq-div-mul, pow-succ', zero-div, mod-one, div-eq_of_lt}
@@ -234,7 +234,7 @@ member-upto k (suc n) =
     ∙ rw (member-upto k n)
     (by_bit (eqb n k)
     (λ b. let e : n ≡ k = eqb-true n k b in rw b (or-true (ltb k n) ∙ sym (lt-ltb k (suc n) (omega arith))))
-    (λ b. rw b (or_false (ltb k n) ∙ by_bit (ltb k n)
+    (λ b. rw b (or-false (ltb k n) ∙ by_bit (ltb k n)
     (λ l. l ∙ sym (lt-ltb k (suc n) (omega (arith, ltb-true k n l))))
     (λ l. l ∙ sym (le-ltb k (suc n) (omega (arith, ltb-false k n l, eqb-false n k b)))))))
 

@@ -27,10 +27,10 @@ map-upto g f zero = refl
 map-upto g f (suc n) = map_snoc g (upto f n) (f n) ∙ rw (map-upto g f n)
 
 module _ (line motion plane mark carry : ℕ) (f : ℕ → Option ℕ) (n : ℕ) where
-  pub row_words : row_of line motion plane mark carry (upto f n)
+  pub row_words_lem : row_of line motion plane mark carry (upto f n)
       ≡ (line ∷ motion ∷ plane ∷ mark ∷ carry ∷ mask_sum (λ (k : ℕ). is_some (f k)) n ∷ []) ++ upto (λ (k : ℕ). Option.get_or (f k) 0) n
   unfolding row_of
-  row_words = rw (mask-upto f n, map-upto (λ (c : Option ℕ). Option.get_or c 0) f n)
+  row_words_lem = rw (mask-upto f n, map-upto (λ (c : Option ℕ). Option.get_or c 0) f n)
 
   pub row-length : length (row_of line motion plane mark carry (upto f n)) ≡ r_cells + n
   unfolding row_of
@@ -76,7 +76,7 @@ pub out-words : (r : List ℕ)
     → out_row r ≡ (line_of r ∷ motion_of r ∷ plane_of r ∷ 0 ∷ carry_of r ∷ present_of r % cell_masks ∷ []) ++ upto (cell_word r) cells
 unfolding out_row
 out-words r =
-    row_words (line_of r) (motion_of r) (plane_of r) 0 (carry_of r) (cell r) cells
+    row_words_lem (line_of r) (motion_of r) (plane_of r) 0 (carry_of r) (cell r) cells
     ∙ ap (λ (p : ℕ). (line_of r ∷ motion_of r ∷ plane_of r ∷ 0 ∷ carry_of r ∷ p ∷ []) ++ upto (cell_word r) cells)
     (mask-same _ _ cells (λ k h. cell-there r k) ∙ mask-has (present_of r) cells)
 

@@ -1,4 +1,6 @@
 // The bits of masks, and the plane words. The definitions of a row as words are in specs/.
+#![tactic(auto)]
+
 ghost use Rattle.std.specs.Prelude.{◌≡◌, ◌<◌};
 ghost use Rattle.row_cells.specs.Bits.{has, with_bit, lowest, others};
 

@@ -1,4 +1,6 @@
 // What an incoming row is refused for: its shape, its numbers, its TURN.
+#![tactic(auto)]
+
 ghost use Rattle.std.specs.Prelude.{◌≡◌, length};
 ghost use Rattle.layout.specs.Layout.{row_words};
 ghost use Rattle.row_cells.specs.Codes.{plane_ok};

@@ -1,4 +1,6 @@
 // A row's words laid down: those before its cells, and its cells by a mask.
+#![tactic(auto)]
+
 ghost use Rattle.std.specs.Prelude.{◌≡◌, ◌+◌, ◌≤◌, length};
 ghost use Rattle.floats.specs.Lists.{upto, spliced};
 ghost use Rattle.layout.specs.Layout.{cells, r_cells};
@@ -9,7 +11,7 @@ use layout::{CELLS, R_CARRY, R_LINE, R_MARK, R_MOTION, R_PLANE, R_PRESENT};
 use row_cells::{lowest_bit, other_bits};
 
 // The words of a row before its cells.
-#[derive(Drop)]
+#[derive(Clone, Copy)]
 pub struct Head {
     pub line: u64,
     pub motion: u64,

@@ -9,7 +9,7 @@ use Rattle.layout.specs.Layout.{cells, row_words}
 use Rattle.row_cells.specs.Bits.{mask_sum}
 use Rattle.row_cells.specs.Row.{cell, shown, line_of, plane_of, carry_of, row_of}
 use Rattle.row_cells.specs.Masks.{mask-same}
-use Rattle.row_cells.specs.RowLaws.{row_words, row-length, row-cell, cell-there, shown-there}
+use Rattle.row_cells.specs.RowLaws.{row_words_lem, row-length, row-cell, cell-there, shown-there}
 use Rattle.row_made.specs.Made.{rides, with_riders, made_row, made_cell, made_has, made_word}
 
 pub made-is : (gs r : List ℕ) (first : Bool) (motion : ℕ) (marked : Bool) (f : ℕ → Option ℕ)
@@ -47,5 +47,5 @@ pub made-words : (gs r : List ℕ) (first : Bool) (motion : ℕ) (marked : Bool)
     ++ upto (made_word gs r first (shown mask ws)) cells
 made-words gs r first motion marked mask ws =
     made-is gs r first motion marked (shown mask ws)
-    ∙ row_words _ _ _ _ _ (made_cell gs r first (shown mask ws)) cells
+    ∙ row_words_lem _ _ _ _ _ (made_cell gs r first (shown mask ws)) cells
     ∙ rw (mask-same _ (made_has gs r first mask) cells (λ k h. made-has gs r first mask ws k))

@@ -164,8 +164,8 @@ module _ (gs mask : ℕ) (g : gs < axis_masks) (m : mask < axis_masks) (r : List
         let no : has mask k ≡ false = has-past mask axis_codes k m (omega arith) in
         own-cell (and_f _ (lt-leb k last_code (omega arith))) (has-past (riders gs) list_codes k riders-small l) (rw no)
 
-    first_cell : k < cells → laid_word ≡ made_word (axes_of gs) r true (shown mask ws) k
-    first_cell h =
+    first_cell_lem : k < cells → laid_word ≡ made_word (axes_of gs) r true (shown mask ws) k
+    first_cell_lem h =
         by_bit (ltb k list_codes)
         (λ b. code-cell h (ltb-true k list_codes b))
         (λ b. past-cell (ltb-false k list_codes b))
@@ -176,7 +176,7 @@ module _ (gs mask : ℕ) (g : gs < axis_masks) (m : mask < axis_masks) (r : List
   first-written l n o ws at w e h p s =
       s.is l (over_word w (cells_part r) zeros) h p
       ∙ ap (λ (v : ℕ). spliced l at (upto (over_word (bit_and mask gs) ws (over_word v (cells_part r) zeros)) cells)) e
-      ∙ ap (spliced l at) (upto-below _ _ cells (λ k b. first_cell ws k b))
+      ∙ ap (spliced l at) (upto-below _ _ cells (λ k b. first_cell_lem ws k b))
 
 -- ---- the words before the cells, then the cells
 pub made-written : (l m n : List ℕ) (i : ℕ) (h : Head) (r : List ℕ) (made : Made) (ws : List ℕ) → i + r_cells ≤ length l

@@ -1,4 +1,6 @@
 // What rides along in a made row, and the words before its cells.
+#![tactic(auto)]
+
 ghost use Rattle.std.specs.Prelude.{◌≡◌, cond, ◌<◌, length};
 ghost use Rattle.std.specs.Int.Bits.{bit_and};
 ghost use Rattle.layout.specs.Layout.{axis_masks, cells, row_words};
@@ -13,7 +15,7 @@ use row_lay::Head;
 
 // What a row is made of beside a block's row and the point's words: the masks of the geometric axes and of the point,
 // whether it is the group's first, which has the motion, and whether it is marked.
-#[derive(Drop)]
+#[derive(Clone, Copy)]
 pub struct Made {
     pub axes: u64,
     pub mask: u64,

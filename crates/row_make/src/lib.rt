@@ -1,4 +1,6 @@
 // A made row, written word by word.
+#![tactic(auto)]
+
 ghost use Rattle.std.specs.Prelude.{◌≡◌, ◌+◌, ◌≤◌, length};
 ghost use Rattle.floats.specs.Lists.{spliced};
 ghost use Rattle.layout.specs.Layout.{cells, row_words};

@@ -1,4 +1,6 @@
 // The numbers of an incoming row: whether those that are there are in range, and its TURN.
+#![tactic(auto)]
+
 ghost use Rattle.std.specs.Prelude.{◌≡◌, ◌&&◌, ◌<◌, length};
 ghost use Rattle.layout.specs.Layout.{cell_masks, row_words};
 ghost use Rattle.row_numbers.specs.RowNumbers.{within, above1000, numbers_ok, turn_ok};

@@ -1,4 +1,6 @@
 // A row that goes out unchanged.
+#![tactic(auto)]
+
 ghost use Rattle.std.specs.Prelude.{◌≡◌, ◌+◌, ◌≤◌, length};
 ghost use Rattle.floats.specs.Lists.{spliced};
 ghost use Rattle.layout.specs.Layout.{row_words};

@@ -1,4 +1,6 @@
 // Whether rows have room.
+#![tactic(auto)]
+
 ghost use Rattle.std.specs.Prelude.{◌≡◌};
 ghost use Rattle.row_room.specs.Room.{has_room};
 

@@ -1,4 +1,6 @@
 // Whether a saved state and the rows that its store holds are in order: refusals 9 and 8.
+#![tactic(auto)]
+
 ghost use Rattle.std.specs.Prelude.{◌≡◌};
 ghost use Rattle.saved_state.specs.State.{saved_check};
 

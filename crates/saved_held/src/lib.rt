@@ -1,4 +1,6 @@
 // Whether the words of a saved state about a held spline are in order.
+#![tactic(auto)]
+
 ghost use Rattle.std.specs.Prelude.{◌≡◌, ◌&&◌, length, leb};
 ghost use Rattle.layout.specs.Layout.{state_words};
 ghost use Rattle.saved_state.specs.State.{held_ok, from_degree};

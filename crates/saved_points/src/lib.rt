@@ -1,4 +1,6 @@
 // Whether a point of a saved state is in order: its axes geometric, its numbers in range.
+#![tactic(auto)]
+
 ghost use Rattle.std.specs.Prelude.{◌≡◌, true, ◌<◌, ◌≤◌, get_or};
 ghost use Rattle.floats.specs.Lists.{all};
 ghost use Rattle.layout.specs.Layout.{axis_codes, axis_masks, w_start};

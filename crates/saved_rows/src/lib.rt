@@ -1,4 +1,6 @@
 // Whether the rows that a store holds could be pushed, and go with the state's motion.
+#![tactic(auto)]
+
 ghost use Rattle.std.specs.Prelude.{◌≡◌, ◌+◌, ◌*◌, ◌≤◌, length, eqb};
 ghost use Rattle.floats.specs.Lists.{all};
 ghost use Rattle.layout.specs.Layout.{row_words, state_words};

@@ -1,4 +1,6 @@
 // Whether the words of a saved state are in order: refusal 9.
+#![tactic(auto)]
+
 ghost use Rattle.std.specs.Prelude.{◌≡◌};
 ghost use Rattle.saved_state.specs.State.{from_known, from_motion, state_ok};
 ghost use Rattle.saved_state.specs.Asks.{Listed};

@@ -1,4 +1,6 @@
 // The channels of a spline, written in order of first programming.
+#![tactic(auto)]
+
 ghost use Rattle.std.specs.Prelude.{◌≡◌, [], ◌∷◌, ◌+◌, ◌*◌, ◌≤◌, length, take};
 ghost use Rattle.floats.specs.Lists.{keep};
 ghost use Rattle.layout.specs.Layout.{row_words, axis_codes};

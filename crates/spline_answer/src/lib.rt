@@ -1,1 +1,2 @@
 // What a held spline comes to, as definitions alone.
+#![tactic(auto)]

@@ -1,4 +1,6 @@
 // The held rows of a spline: whether one has a point, and the place of a code among the channels.
+#![tactic(auto)]
+
 ghost use Rattle.std.specs.Prelude.{◌≡◌, ◌&&◌, ◌+◌, ◌*◌, ◌≤◌, ltb, length};
 ghost use Rattle.floats.specs.Lists.{member};
 ghost use Rattle.layout.specs.Layout.{row_words, axis_codes};

@@ -1,4 +1,6 @@
 // The curve of the held blocks: gathered, prepared, counted and written.
+#![tactic(auto)]
+
 ghost use Rattle.std.specs.Prelude.{◌≡◌, [], ℕ, ◌+◌, ◌*◌, ◌-◌, ◌≤◌, ◌<◌, length, get_or};
 ghost use Rattle.floats.specs.Lists.{upto, filled, flatten, spliced};
 ghost use Rattle.layout.specs.Layout.{axis_codes};

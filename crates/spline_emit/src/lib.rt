@@ -1,4 +1,6 @@
 // The emission of a held spline: its rows, counted and written.
+#![tactic(auto)]
+
 ghost use Rattle.std.specs.Prelude.{◌≡◌, ◌*◌, ◌≤◌, length};
 ghost use Rattle.layout.specs.Layout.{row_words};
 ghost use Rattle.spline_channels.specs.Gathers.{Once};

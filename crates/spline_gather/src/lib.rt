@@ -1,4 +1,6 @@
 // The points and weights of a held spline, gathered block by block.
+#![tactic(auto)]
+
 ghost use Rattle.std.specs.Prelude.{◌≡◌, ◌+◌, ◌*◌, ◌≤◌, ◌<◌, length};
 ghost use Rattle.floats.specs.Numbers.{num};
 ghost use Rattle.floats.specs.Lists.{upto};

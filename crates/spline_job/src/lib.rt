@@ -1,4 +1,6 @@
 // What an emission is asked, the numbers of its curve, and the curve to draw.
+#![tactic(auto)]
+
 ghost use Rattle.std.specs.Prelude.{◌≡◌};
 ghost use Rattle.spline_job.specs.Jobs.{drawing_of};
 
@@ -7,7 +9,7 @@ use motion::kind_of;
 
 // What an emission is asked: the held spline's word, degree and tolerance, the axes of its start, its blocks, and the rows
 // that are to have room behind it.
-#[derive(Drop)]
+#[derive(Clone, Copy)]
 pub struct Job {
     pub motion: u64,
     pub degree: u64,
@@ -18,7 +20,7 @@ pub struct Job {
 }
 
 // The channels, the metric's places and the points of a gathered curve, by their number.
-#[derive(Drop)]
+#[derive(Clone, Copy)]
 pub struct Curve {
     pub ch: usize,
     pub metric: usize,

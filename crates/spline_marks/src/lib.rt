@@ -1,4 +1,6 @@
 // The motion and the mark of a row that a held block becomes.
+#![tactic(auto)]
+
 ghost use Rattle.std.specs.Prelude.{◌≡◌, ◌<◌};
 ghost use Rattle.layout.specs.Layout.{most_held};
 ghost use Rattle.spline_marks.specs.Marks.{raw_mark, raw_motion};

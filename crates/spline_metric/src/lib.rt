@@ -1,4 +1,6 @@
 // The places of the channels that deviation and chords sum.
+#![tactic(auto)]
+
 ghost use Rattle.std.specs.Prelude.{[], ◌∷◌, ℕ, ◌+◌, ◌≤◌, ◌<◌, length};
 ghost use Rattle.floats.specs.Lists.{upto, keep};
 ghost use Rattle.spline_metric.specs.Metric.{metric_of};

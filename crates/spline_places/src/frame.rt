@@ -7,7 +7,7 @@ ghost use Rattle.spline_channels.specs.Channels.{place_of};
 use layout::AXIS_CODES;
 use spline_channels::place_of;
 
-#[derive(Drop)]
+#[derive(Clone, Copy)]
 pub struct Frame {
     // masks of the geometric axes and of the channels
     pub axes: u64,

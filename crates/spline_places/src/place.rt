@@ -8,7 +8,7 @@ ghost use Rattle.spline_places.specs.Places.{most_rows, Few, Behind};
 
 use spline_channels::{block, has_point};
 
-#[derive(Drop)]
+#[derive(Clone, Copy)]
 pub struct Place {
     pub rows: usize,
     pub samples: usize,

@@ -98,11 +98,11 @@ module _ (job : Job) (axes words store : List ℕ) (h : Holds axes words store j
   points-is : g.n - 1 ≡ length (runs_of (spline_in job axes words store))
   points-is = omega (arith, ga.count, many_runs job axes words store h)
 
-  counted_of : (l counts : List ℕ) (total : Place) → job.held ≤ length counts
+  counted_of_lem : (l counts : List ℕ) (total : Place) → job.held ≤ length counts
       → counts ≡ filled (λ (i : ℕ). length (get_or (drawn_runs (drawing_of job g) (take g.metric ms) pts ws) i [])) (g.n - 1) l
       → total ≡ place_to (geometric_of axes) counts (block_at store) job.held
       → Counted (spline_in job axes words store) (block_at store) job.held counts total
-  counted_of l counts total k e ep = counted_is job axes words store h counts total k
+  counted_of_lem l counts total k e ep = counted_is job axes words store h counts total k
       (λ j lt. ap (λ (x : List ℕ). get_or x j 0) e
       ∙ at-filled (λ (i : ℕ). length (get_or (drawn_runs (drawing_of job g) (take g.metric ms) pts ws) i [])) l (g.n - 1) j 0 (rw points-is lt)
       ∙ ap (λ (x : List (List (List Float))). length (get_or x j [])) (runs_are job axes words store g chans ms pts ws ga))
@@ -120,7 +120,7 @@ module _ (job : Job) (axes words store : List ℕ) (h : Holds axes words store j
     drawing = ed;
     drawn = dr;
     recalled = rc;
-    counted = counted_of l counts total k (rw ed at e) ep;
+    counted = counted_of_lem l counts total k (rw ed at e) ep;
     few = rw ep (omega (arith, h.many, (place-few counts few (geometric_of axes) (block_at store) job.held).0));
     wide = wide;
   }

@@ -1,4 +1,6 @@
 // An emission before its first row is written: gathered, prepared and counted.
+#![tactic(auto)]
+
 ghost use Rattle.std.specs.Prelude.{◌≡◌, [], ℕ, ◌*◌, ◌-◌, ◌≤◌, length, get_or};
 ghost use Rattle.floats.specs.Lists.{filled};
 ghost use Rattle.curve_drawing.specs.Runs.{drawn_runs};
@@ -14,7 +16,7 @@ use spline_job::{Curve, Job, drawing_of};
 use spline_places::place::{Place, total};
 
 // What is known of an emission before its first row is written: the curve, what its tables hold, and all rows.
-#[derive(Drop)]
+#[derive(Clone, Copy)]
 pub struct Emission {
     pub job: Job,
     pub curve: Curve,

@@ -1,4 +1,6 @@
 // One point of a spline: its values, each its own or the last, and its weight.
+#![tactic(auto)]
+
 ghost use Rattle.std.specs.Prelude.{◌≡◌, ◌+◌, ◌≤◌, ◌<◌, length};
 ghost use Rattle.std.proofs.Math.Option.{get_or};
 ghost use Rattle.layout.specs.Layout.{row_words, cells};

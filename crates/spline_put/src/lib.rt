@@ -1,4 +1,6 @@
 // The emission of the spline that a state and its store hold.
+#![tactic(auto)]
+
 ghost use Rattle.std.specs.Prelude.{◌≡◌, ◌≤◌};
 ghost use Rattle.spline_write.specs.Emits.{most_own};
 ghost use Rattle.saved_state.specs.State.{saved_check};

@@ -1,4 +1,6 @@
 // Rows written into their places, from the last to the first, so that no sample is written over before it is read.
+#![tactic(auto)]
+
 ghost use Rattle.std.specs.Prelude.{◌≡◌, ◌*◌, ◌≤◌, ◌<◌, length};
 ghost use Rattle.layout.specs.Layout.{row_words};
 ghost use Rattle.row_cells.specs.Codes.{geometric_of};

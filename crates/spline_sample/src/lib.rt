@@ -1,4 +1,6 @@
 // One row of a held block: of a sample, or of the block alone.
+#![tactic(auto)]
+
 ghost use Rattle.std.specs.Prelude.{◌≡◌, ◌+◌, ◌*◌, ◌≤◌, ◌<◌, length, replicate};
 ghost use Rattle.floats.specs.Lists.{filled};
 ghost use Rattle.layout.specs.Layout.{axis_codes, axis_masks, row_words};

@@ -1,4 +1,6 @@
 // A planned emission, written: its samples, then its rows.
+#![tactic(auto)]
+
 ghost use Rattle.std.specs.Prelude.{◌≡◌, ◌*◌, ◌-◌, ◌≤◌, length};
 ghost use Rattle.floats.specs.Lists.{upto, flatten, spliced};
 ghost use Rattle.layout.specs.Layout.{row_words};

@@ -1,4 +1,6 @@
 // Which rows stay curved: the motion in force at a row, and whether the row shows a curve.
+#![tactic(auto)]
+
 ghost use Rattle.std.specs.Prelude.{◌≡◌, get_or};
 ghost use Rattle.motion.specs.Motion.{is_curve};
 ghost use Rattle.still_curved.specs.Curved.{motion_after, shows, seen_of};
@@ -10,7 +12,7 @@ use motion::{is_curve, kind_of};
 const PATH_MASK: u64 = AXIS_MASKS - 1 + ((1 << (C_CR + 1) as u64) - LIST_MASKS);
 
 // What a row is seen as: the motion in force at it, and whether it stays curved.
-#[derive(Drop)]
+#[derive(Clone, Copy)]
 pub struct Seen {
     pub motion: u64,
     pub curved: bool,

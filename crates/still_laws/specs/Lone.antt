@@ -43,6 +43,7 @@ record Leader (rows : List ℕ) (i : ℕ) : Type 0 where
 
 leader : {rows : List (List ℕ)} → Every Long rows → Led rows → (i : ℕ) → mark_of (row_at (flatten rows) i) ≡ 1 → Leader (flatten rows) i
 unfolding flatten
+leader nil led i q = elim led [ ]
 leader (more {x} {xs} l ls) (here e) i q =
     record { place = 0; upto = omega arith; word = ap motion_of (row_first x (flatten xs) l.words) ∙ e }
 leader (more {x} {xs} l ls) (there u led) zero q =

@@ -1,4 +1,6 @@
 // A tally of told calls: it is started, told a call of a job, and asked for its two rates. It makes no call itself.
+#![tactic(auto)]
+
 ghost use Rattle.std.specs.Prelude.{◌≡◌};
 ghost use Rattle.call_reply.specs.Replies.{StateIs};
 ghost use Rattle.tally.specs.Tally.{start_spec, note_spec, rates_spec};
@@ -12,7 +14,7 @@ use tally_words::{B_CLOSED, B_FINAL, B_FIRST, TALLY_WORDS, clear};
 // 0 or the refusal; jobs whose first try passed, and jobs with a closed try; jobs whose final try passed, and jobs with a
 // closed try.
 #[repr(C)]
-#[derive(Drop)]
+#[derive(Clone, Copy)]
 pub struct Rates {
     pub code: u64,
     pub first_passed: u64,

@@ -1,4 +1,6 @@
 // A told call: whether told numbers are one, and which.
+#![tactic(auto)]
+
 ghost use Rattle.std.specs.Prelude.{◌≡◌, ◌+◌, ◌*◌, ◌≤◌, length};
 ghost use Rattle.layout.specs.Layout.{row_words};
 ghost use Rattle.tally_call.specs.Calls.{mark_at};
@@ -16,7 +18,7 @@ pub const K_CLOSE: u64 = 3;
 pub const TOO_FEW_PLACES: u64 = 7;
 
 // What a tally takes of a call: its kind, what it replied, and how many of the rows that it wrote are marked.
-#[derive(Drop)]
+#[derive(Clone, Copy)]
 pub struct Call {
     pub kind: u64,
     pub code: u64,
@@ -26,14 +28,14 @@ pub struct Call {
 }
 
 // The marks of lent rows: one of them is no mark, or so many are set.
-#[derive(Drop)]
+#[derive(Clone, Copy)]
 pub enum Marks {
     Wrong,
     Counted(u64),
 }
 
 // Told numbers: no call, or this one.
-#[derive(Drop)]
+#[derive(Clone, Copy)]
 pub enum Told {
     Bad,
     Is(Call),

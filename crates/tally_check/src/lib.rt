@@ -1,4 +1,6 @@
 // Whether the words of a tally are in order, and the jobs that passed.
+#![tactic(auto)]
+
 ghost use Rattle.std.specs.Prelude.{◌≡◌, ℕ, ◌<◌, ◌≤◌, length};
 ghost use Rattle.floats.specs.Lists.{all};
 ghost use Rattle.tally_words.specs.Words.{most_jobs, tally_words, jobs_in, try_at, try_ok, tally_ok, jobs_with};

@@ -1,4 +1,6 @@
 // What a told call adds to each figure of its job.
+#![tactic(auto)]
+
 ghost use Rattle.std.specs.Prelude.{◌≡◌, ◌<◌};
 ghost use Rattle.tally_call.specs.Calls.{if_done, figure};
 

@@ -2,7 +2,7 @@
 use Rattle.std.specs.Prelude.{ℕ, ◌+◌, ◌*◌, ◌≡◌, refl, eqb}
 use Rattle.std.proofs.Common.{sym, ◌∙◌, arith}
 use Rattle.std.proofs.Math.Path.{ap}
-use mathlib.Core.Bool.{Bool, true, false, ◌||◌, not, cond, or_assoc, or_false}
+use mathlib.Core.Bool.{Bool, true, false, ◌||◌, not, cond, or_assoc, or-false}
 use mathlib.Core.List.{List, [], ◌∷◌, ◌++◌, append-nil}
 use borrow.Author.Tests.{eq-eqb, ne_eqb}
 use Rattle.floats.specs.Lists.{member, any_of}
@@ -46,12 +46,12 @@ member-with j x js =
     by_bit (member x js)
     (λ m. rw m (by_bit (eqb x j)
     (λ b. let e : x ≡ j = borrow.Author.Tests.eqb-true x j b in let n : member j js ≡ true = rw e at m in rw (b, n))
-    (λ b. rw b (sym (or_false (member j js))))))
-    (λ m. rw m (member_append j js (x ∷ []) ∙ ap (λ (b : Bool). member j js || b) (or_false (eqb x j))))
+    (λ b. rw b (sym (or-false (member j js))))))
+    (λ m. rw m (member_append j js (x ∷ []) ∙ ap (λ (b : Bool). member j js || b) (or-false (eqb x j))))
 
 pub jobs_told : (j : ℕ) (seen : List ℕ) (ts : List JobCall) → member j (jobs_from seen ts) ≡ (member j seen || told j ts)
 unfolding jobs_from told any_of
-jobs_told j seen [] = sym (or_false (member j seen))
+jobs_told j seen [] = sym (or-false (member j seen))
 jobs_told j seen (t ∷ ts) =
     jobs_told j (with_job t.job seen) ts
     ∙ ap (λ (b : Bool). b || told j ts) (member-with j t.job seen)

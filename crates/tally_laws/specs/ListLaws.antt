@@ -1,7 +1,7 @@
 -- LAWS. Lists, counting and seeking. Assumes nothing.
 use Rattle.std.specs.Prelude.{ℕ, zero, suc, ◌+◌, ◌<◌, ◌≤◌, ◌≡◌, refl, Bool, true, false, ◌||◌, List, [], ◌∷◌, ◌++◌, length, get_or, eqb, ltb}
 use Rattle.std.proofs.Common.{sym, ◌∙◌, ap, ap₂, ⊎_elim, eq-or-lt_of_le, arith, ltb-true, ltb-false, eq-eqb, ne_eqb}
-use Rattle.std.proofs.Math.Bool.{or_assoc, or_false}
+use Rattle.std.proofs.Math.Bool.{or_assoc, or-false}
 use Rattle.floats.specs.Lists.{keep, member, any_of}
 use Rattle.floats.specs.Truth.{by_bit, or_t, or_f}
 use Rattle.tally_words.specs.Words.{bit, count_if}
@@ -31,7 +31,7 @@ any_append p (x ∷ xs) ys = ap (λ (b : Bool). p x || b) (any_append p xs ys) �
 
 pub any_snoc : {A : Type 0} (p : A → Bool) (xs : List A) (y : A) → any_of p (xs ++ (y ∷ [])) ≡ (any_of p xs || p y)
 unfolding any_of
-any_snoc p xs y = any_append p xs (y ∷ []) ∙ ap (λ (b : Bool). any_of p xs || b) (or_false (p y))
+any_snoc p xs y = any_append p xs (y ∷ []) ∙ ap (λ (b : Bool). any_of p xs || b) (or-false (p y))
 
 pub keep_same : (p q : ℕ → Bool) (xs : List ℕ) → ((j : ℕ) → member j xs ≡ true → p j ≡ q j) → keep p xs ≡ keep q xs
 unfolding keep member

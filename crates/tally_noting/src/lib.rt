@@ -1,4 +1,6 @@
 // A call noted in a tally: the slot's words written, and the jobs counted.
+#![tactic(auto)]
+
 ghost use Rattle.std.specs.Prelude.{◌≡◌, true, ◌+◌, ◌^◌, ◌<◌, ◌≤◌, length};
 ghost use Rattle.floats.specs.Lists.{upto, spliced, all};
 ghost use Rattle.call_reply.specs.Replies.{StateIs};

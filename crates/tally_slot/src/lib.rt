@@ -1,4 +1,6 @@
 // The slot of a job, and whether its figures stay within 64 bits.
+#![tactic(auto)]
+
 ghost use Rattle.std.specs.Prelude.{◌≡◌, ◌+◌, ◌^◌, ◌<◌, ◌≤◌, length, ltb};
 ghost use Rattle.floats.specs.Lists.{all};
 ghost use Rattle.tally_words.specs.Words.{most_jobs, job_words, tally_words, figures};

@@ -1,4 +1,6 @@
 // What a told call does to a try.
+#![tactic(auto)]
+
 ghost use Rattle.std.specs.Prelude.{◌≡◌, ◌||◌, cond};
 ghost use Rattle.row_cells.specs.Bits.{has};
 ghost use Rattle.tally_words.specs.Words.{b_closed, b_first, b_failing};

@@ -1,4 +1,6 @@
 // The words of a tally, each named once as specs/Words has them; when words are no tally; counting by their bits.
+#![tactic(auto)]
+
 ghost use Rattle.std.specs.Prelude.{◌≡◌, ◌||◌, ◌<◌, ◌≤◌, length};
 ghost use Rattle.row_cells.specs.Bits.{has};
 ghost use Rattle.tally_words.specs.Words.{most_jobs, b_first, b_final, tally_words, slot_at, try_at, try_ok, empty_tally, bit};

@@ -1,4 +1,6 @@
 // Where a line ends: the search for the first LF.
+#![tactic(auto)]
+
 ghost use Rattle.std.specs.Prelude.{◌+◌, ◌≤◌, length, ◌≡◌, false};
 ghost use Rattle.text_cut.specs.Cut.{lf, cut, between};
 ghost use Rattle.text_cut.specs.Seek.{near, Free, Seeking};

@@ -1,4 +1,6 @@
 // Sine, cosine, and the remainder by tau: the step lists of docs/TRIG.md.
+#![tactic(auto)]
+
 ghost use Rattle.std.specs.Prelude.{◌≡◌};
 ghost use Rattle.trig.specs.Trig.{sin_of, cos_of, sin_turned, cos_turned, sin_steps, cos_steps, euclid};
 
@@ -36,7 +38,7 @@ const C5: f64 = -1.1359934159146366e-11;
 
 pub const TAU: f64 = 6.283185307179586;
 
-#[derive(Drop)]
+#[derive(Clone, Copy)]
 pub struct Angle {
     pub sin: f64,
     pub cos: f64,

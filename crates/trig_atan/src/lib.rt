@@ -1,4 +1,6 @@
 // Two-argument arc tangent and arc cosine: the step lists of docs/TRIG.md.
+#![tactic(auto)]
+
 ghost use Rattle.std.specs.Prelude.{◌≡◌};
 ghost use Rattle.trig.specs.Trig.{atan_from, atan_right, atan_left, atan_up, atan2_steps, acos_steps};
 

@@ -1,4 +1,6 @@
 // Whole numbers from a float, for every float: rounded up, nearest with halves up, truncated.
+#![tactic(auto)]
+
 ghost use Rattle.std.specs.Prelude.{◌≡◌};
 ghost use Rattle.whole.specs.Whole.{ceil_count, half_up_count, trunc_count};
 

@@ -1,0 +1,16 @@
+use Rattle.arc_numbers.specs.Arc.{turned}
+use Rattle.arc_numbers.proofs.turned.Goals as goal
+
+pub returns-then-cw : goal.returns-then-cw
+unfolding turned
+returns-then-cw c =
+    rw (c.in-Number.is, c.if-cw.true, c.nearest_u64_to_f64-n.ensures, c.half_up_count.ensures)
+
+pub returns-else-cw : goal.returns-else-cw
+unfolding turned
+returns-else-cw c =
+    rw (c.in-Number.is, c.if-cw.false, c.nearest_u64_to_f64-n.ensures, c.half_up_count.ensures)
+
+pub returns-in-Absent : goal.returns-in-Absent
+unfolding turned
+returns-in-Absent c = rw c.in-Absent.is

@@ -1,0 +1,4 @@
+use Rattle.bspline_low.proofs.low.top_two.Goals as goal
+
+pub returns : goal.returns
+returns c = cc

@@ -1,0 +1,16 @@
+use Prim.Native.Nat.{◌-◌}
+use native.Mathlib.Omega.{arith}
+use Rattle.csv_words.specs.Chars.{starts, stores, ends}
+use Rattle.csv_words.proofs.put_chars.Goals as goal
+
+pub loop-j-init : goal.loop-j-init
+loop-j-init c = starts _ _ _ _
+
+pub loop-j-preserved : goal.loop-j-preserved
+loop-j-preserved c = stores _ _ _ _ _ _ _ _ c.loop-j.invariant c.loop-j-test.true c.byte.ensures
+
+pub shape_of-out : goal.shape_of-out
+shape_of-out c = c.loop-j.invariant.same
+
+pub returns : goal.returns
+returns c = ends _ _ _ _ _ _ _ c.loop-j.invariant (omega arith)

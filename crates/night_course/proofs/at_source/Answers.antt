@@ -1,0 +1,4 @@
+use Rattle.night_course.proofs.at_source.Goals as goal
+
+pub returns : goal.returns
+returns c = c.with_course.ensures

@@ -1,0 +1,4 @@
+use Rattle.night_jobs.proofs.is_in.Goals as goal
+
+pub returns : goal.returns
+returns c = rw (c.lot_of.ensures, c.tries_of.ensures)

@@ -1,0 +1,9 @@
+use mathlib.Core.Path.{sym, ◌∙◌}
+use Rattle.floats.specs.Truth.{cond-t, cond-f}
+use Rattle.night_lots.proofs.failed_lot.Goals as goal
+
+pub returns-then-has_bit : goal.returns-then-has_bit
+returns-then-has_bit c = sym (cond-t _ _ (sym c.has_bit.ensures ∙ c.if-has_bit.true))
+
+pub returns : goal.returns
+returns c = sym (cond-f _ _ (sym c.has_bit.ensures ∙ c.if-has_bit.false))

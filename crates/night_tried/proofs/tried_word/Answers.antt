@@ -1,0 +1,7 @@
+use mathlib.Core.Path.{refl}
+use Rattle.night_tried.specs.Tried.{tried_word}
+use Rattle.night_tried.proofs.tried_word.Goals as goal
+
+pub returns : goal.returns
+unfolding tried_word
+returns c = refl

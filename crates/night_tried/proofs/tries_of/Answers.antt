@@ -1,0 +1,7 @@
+use mathlib.Core.Path.{refl}
+use Rattle.night_tried.specs.Tried.{tries_of}
+use Rattle.night_tried.proofs.tries_of.Goals as goal
+
+pub returns : goal.returns
+unfolding tries_of
+returns c = refl

@@ -1,0 +1,4 @@
+use Rattle.picture_pen.proofs.first_pen.Goals as goal
+
+pub returns : goal.returns
+returns c = rw (c.no_span-across.ensures, c.no_span-up.ensures)

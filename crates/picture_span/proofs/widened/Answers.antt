@@ -1,0 +1,4 @@
+use Rattle.picture_span.proofs.widened.Goals as goal
+
+pub returns : goal.returns
+returns c = rw (c.lower.ensures, c.higher.ensures)

@@ -1,0 +1,44 @@
+use mathlib.Core.Path.{◌∙◌}
+use native.Mathlib.Omega.{arith}
+use Rattle.push_steps.proofs.Tracks.{tracked-long, tracked-none, tracked-axis, tracked-fewer, tracked-more, tracked}
+use Rattle.push_steps.proofs.track.Goals as goal
+
+pub loop-rest-init : goal.loop-rest-init
+loop-rest-init c = let p = c.requires in (tracked-none _ _ p.1, p.0)
+
+pub overflow_add-k : goal.overflow_add-k
+overflow_add-k c = omega (arith, tracked-axis _ _ c.loop-rest.invariant.0 (omega arith) c.lowest_bit-k.ensures)
+
+pub offset_bounds-row-k : goal.offset_bounds-row-k
+offset_bounds-row-k c = omega (arith, tracked-axis _ _ c.loop-rest.invariant.0 (omega arith) c.lowest_bit-k.ensures)
+
+pub bounds-row-k : goal.bounds-row-k
+bounds-row-k c =
+    let b2 = c in
+    let b4 = b2 in
+    omega (arith, tracked-axis _ _ b4.loop-rest.invariant.0 (omega arith) b2.lowest_bit-k.ensures, b4.loop-rest.invariant.1.wide)
+
+pub place-requires : goal.place-requires
+place-requires c =
+    let b2 = c in
+    let b4 = b2 in
+    (tracked-long _ _ b4.loop-rest.invariant.0 ∙ b4.loop-rest.invariant.1.long, tracked-axis _ _ b4.loop-rest.invariant.0 (omega arith) b2.lowest_bit-k.ensures)
+
+pub loop-rest-smaller : goal.loop-rest-smaller
+loop-rest-smaller c =
+    let b6 = c in
+    let b8 = b6 in
+    omega (arith, tracked-fewer _ _ b8.loop-rest.invariant.0 (omega arith) b6.lowest_bit-k.ensures)
+
+pub loop-rest-preserved : goal.loop-rest-preserved
+loop-rest-preserved c =
+    let b3 = c in
+    let b6 = b3 in
+    let b8 = b6 in
+    (tracked-more _ _ b8.loop-rest.invariant.0 (omega arith) b6.lowest_bit-k.ensures c.other_bits-rest.ensures b3.place.ensures, b8.loop-rest.invariant.1)
+
+pub shape_of-state : goal.shape_of-state
+shape_of-state c = tracked-long _ _ c.loop-rest.invariant.0
+
+pub returns : goal.returns
+returns c = tracked _ _ c.loop-rest.invariant.0 (omega arith)

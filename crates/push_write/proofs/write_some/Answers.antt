@@ -1,0 +1,11 @@
+use native.Mathlib.Omega.{arith}
+use Rattle.push_write.proofs.Writing.{passed_on}
+use Rattle.push_write.proofs.write_some.Goals as goal
+
+pub put_row-requires : goal.put_row-requires
+put_row-requires c =
+    let b6 = c in
+    (b6.requires.0.ready.block.wide, omega (arith, b6.requires.0.room))
+
+pub returns-in-Pass : goal.returns-in-Pass
+returns-in-Pass c = passed_on _ _ _ _ _ _ (omega arith) c.in-Pass.is c.put_row.ensures

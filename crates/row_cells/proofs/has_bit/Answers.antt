@@ -1,0 +1,7 @@
+use mathlib.Core.Path.{refl}
+use Rattle.row_cells.specs.Bits.{has}
+use Rattle.row_cells.proofs.has_bit.Goals as goal
+
+pub returns : goal.returns
+unfolding has
+returns c = refl

@@ -1,0 +1,8 @@
+use Rattle.row_lay.proofs.Laying.{Laying}
+use Rattle.row_lay.proofs.lay_cells.Given as goal
+
+abbrev pub invariant-loop-rest : goal.invariant-loop-rest
+invariant-loop-rest l = Laying l.mask l.words l.at l.rest l.initial.rows l.rows
+
+abbrev pub decreases-loop-rest : goal.decreases-loop-rest
+decreases-loop-rest l = l.rest

@@ -1,0 +1,7 @@
+use mathlib.Core.Path.{refl}
+use Rattle.row_numbers.specs.RowNumbers.{within}
+use Rattle.row_numbers.proofs.within_range.Goals as goal
+
+pub returns : goal.returns
+unfolding within
+returns c = refl

@@ -1,0 +1,10 @@
+use mathlib.Core.Path.{sym, ap, ◌∙◌}
+use mathlib.Core.Bool.{not}
+use Rattle.spline_channels.specs.ChannelLaws.{not_new, maybe_new}
+use Rattle.spline_adding.proofs.is_new.Goals as goal
+
+pub returns-then-not-programs : goal.returns-then-not-programs
+returns-then-not-programs c = not_new _ _ _ (sym c.programs.ensures ∙ c.if-not-programs.true)
+
+pub returns : goal.returns
+returns c = ap not c.is_listed.ensures ∙ maybe_new _ _ _ (sym c.programs.ensures ∙ c.if-not-programs.false)

@@ -1,0 +1,5 @@
+use Rattle.spline_channels.specs.ChannelLaws.{block-is}
+use Rattle.spline_channels.proofs.block.Goals as goal
+
+pub returns : goal.returns
+returns c = block-is c.args.store.now c.args.i

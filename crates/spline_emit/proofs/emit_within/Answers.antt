@@ -1,0 +1,11 @@
+use native.Mathlib.Omega.{arith}
+use Rattle.spline_emission.specs.SizeLaws.{numbers-few}
+use Rattle.spline_emit.proofs.emit_within.Goals as goal
+
+pub overflow_mul-held : goal.overflow_mul-held
+overflow_mul-held c =
+    let few = numbers-few c.requires.0 in
+    rw c.count_channels-ch.ensures (omega (arith, few))
+
+pub emit_for-requires : goal.emit_for-requires
+emit_for-requires c = record { held_bound = rw c.count_channels-ch.ensures (omega arith); holds = c.requires }

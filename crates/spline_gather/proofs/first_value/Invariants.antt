@@ -1,0 +1,14 @@
+use mathlib.Core.Path.{◌≡◌}
+use Prim.Native.Nat.{◌≤◌}
+use Rattle.floats.specs.Numbers.{num}
+use Rattle.floats.specs.Lists.{upto}
+use Rattle.spline_points.specs.Points.{first_cell}
+use Rattle.spline_channels.specs.Channels.{block_at}
+use Rattle.spline_points.specs.Curve.{first_or}
+use Rattle.spline_gather.proofs.first_value.Given as goal
+
+abbrev pub invariant-loop-i : goal.invariant-loop-i
+invariant-loop-i l = (l.i ≤ l.held) × (num (first_cell l.k (upto (block_at l.store) l.held)) ≡ first_or l.k l.value (upto (block_at l.store) l.i))
+
+abbrev pub decreases-loop-i : goal.decreases-loop-i
+decreases-loop-i l = l.i

@@ -1,0 +1,5 @@
+use Rattle.motion.specs.MotionLaws.{curve-told}
+use Rattle.still_curved.proofs.curves.Goals as goal
+
+pub returns : goal.returns
+returns c = curve-told _ _ _ c.kind_of.ensures c.is_curve.ensures

@@ -1,0 +1,41 @@
+use native.Mathlib.Omega.{arith}
+use Rattle.tally_words.specs.Counting.{bit-small}
+use Rattle.tally_call.specs.Calls.{try_number}
+use Rattle.tally_try.proofs.try_number.Goals as goal
+
+pub overflow_mul-result-2 : goal.overflow_mul-result-2
+overflow_mul-result-2 c = omega (arith, bit-small c.args.first _ c.number_of-2.ensures)
+
+pub overflow_add-result : goal.overflow_add-result
+overflow_add-result c = omega (
+  arith,
+  bit-small c.args.closed _ c.number_of.ensures,
+  bit-small c.args.first _ c.number_of-2.ensures,
+)
+
+pub overflow_mul-result-3 : goal.overflow_mul-result-3
+overflow_mul-result-3 c = omega (arith, bit-small c.args.last _ c.number_of-3.ensures)
+
+pub overflow_add-result-2 : goal.overflow_add-result-2
+overflow_add-result-2 c = omega (
+  arith,
+  bit-small c.args.closed _ c.number_of.ensures,
+  bit-small c.args.first _ c.number_of-2.ensures,
+  bit-small c.args.last _ c.number_of-3.ensures,
+)
+
+pub overflow_mul-result-4 : goal.overflow_mul-result-4
+overflow_mul-result-4 c = omega (arith, bit-small c.args.bad _ c.number_of-4.ensures)
+
+pub overflow_add-result-3 : goal.overflow_add-result-3
+overflow_add-result-3 c = omega (
+  arith,
+  bit-small c.args.closed _ c.number_of.ensures,
+  bit-small c.args.first _ c.number_of-2.ensures,
+  bit-small c.args.last _ c.number_of-3.ensures,
+  bit-small c.args.bad _ c.number_of-4.ensures,
+)
+
+pub returns : goal.returns
+unfolding try_number
+returns c = rw (c.number_of.ensures, c.number_of-2.ensures, c.number_of-3.ensures, c.number_of-4.ensures)

@@ -1,0 +1,6 @@
+use Rattle.trig.specs.Trig.{acos_steps}
+use Rattle.trig_atan.proofs.acos.Goals as goal
+
+pub returns : goal.returns
+unfolding acos_steps
+returns c = rw (← c.root.ensures) c.atan2.ensures
