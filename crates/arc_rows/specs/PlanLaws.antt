@@ -10,7 +10,7 @@ use Rattle.row_cells.specs.Codes.{plane_u, plane_v}
 use Rattle.row_cells.specs.Bits.{has, mask_sum}
 use Rattle.row_cells.specs.Row.{number, shown, present_of, axes_of}
 use Rattle.row_cells.specs.Masks.{member-small}
-use Rattle.row_cells.specs.RowLaws.{shown-there}
+use Rattle.row_cells.proofs.RowLaws.{shown-there}
 use Rattle.arc_centre.specs.Types.{ends_is}
 use Rattle.arc_numbers.specs.Types.{arc_is}
 use Rattle.arc_centre.specs.declared.Ends as EndsOf

@@ -6,7 +6,7 @@ use Rattle.floats.specs.Lists.{upto, keep, flatten}
 use Rattle.floats.specs.Joins.{flatten_snoc, keep_append, keep-here, keep-none}
 use Rattle.layout.specs.Layout.{most_points}
 use Rattle.curve_metric.specs.Walk.{Sample, depth, samples}
-use Rattle.curve_metric.specs.WalkLaws.{samples-end}
+use Rattle.curve_metric.proofs.WalkLaws.{samples-end}
 use Rattle.curve_metric.specs.Ends.{EndsWith, ends-one, ends_append, ends-map}
 use Rattle.bspline_tables.specs.Basis.{Bspline, degree_of, spans_of, basis_of, eval_basis, basis_samples, owner_from, Owned, owned, run_of, basis_runs}
 use Rattle.bspline_tables.specs.BasisLaws.{point_is, run_at, owner_in}

@@ -39,7 +39,7 @@ use Rattle.spline_put.specs.Emitted.{Put}
 use Rattle.spline_put.specs.EmittedLaws.{room-left, room-short, put_refused, put_written}
 use Rattle.push_rows.specs.Few.{few-own}
 use Rattle.push_check.specs.declared.Due.TheVariants.{Refused, Push}
-use Rattle.push_check.specs.DueLaws.{due-refused, due-push}
+use Rattle.push_check.proofs.DueLaws.{due-refused, due-push}
 use Rattle.push_settle.specs.Settle.{Passed, Settles, settled}
 
 -- what a push that passes its checks has

@@ -1,11 +1,9 @@
 -- LAWS. Where a line is refused, or the end is, nothing goes to standard output. Assumes nothing.
-use Rattle.std.specs.Prelude.{ℕ, ◌≡◌, refl, Bool, true, false, cond, List, [], ◌++◌, eqb, take}
+use Rattle.std.specs.Prelude.{ℕ, ◌≡◌, refl, Bool, true, false, cond, List, [], ◌++◌, eqb}
 use Rattle.std.proofs.lemmas.Bool.{false≢true}
 use Rattle.std.proofs.Math.Option.{Option, none, some}
 use Rattle.csv_words.specs.Words.{same}
-use Rattle.csv_line.specs.declared.End.{End}
-use Rattle.csv_line.specs.declared.End.TheVariants as End
-use Rattle.csv_line.specs.LineText.{end_of, crlf}
+use Rattle.csv_line.specs.LineText.{crlf}
 use Rattle.csv_header.specs.Header.{header, header_out}
 use Rattle.csv_read.specs.Reader.{read_row}
 use Rattle.csv_write.specs.Writer.{rows_text, rows_writable}
@@ -13,13 +11,13 @@ use Rattle.csv_count.specs.Count.{bad_text}
 use Rattle.csv_out.specs.Say.{Say, refusal, heading}
 use Rattle.csv_answer.specs.Answer.{answer, warning_text}
 use Rattle.csv_out.specs.SayLaws.{says}
-use Rattle.csv_spec.specs.Line.{Stand, Step, unread, on_row, on_read, on_text, on_end, csv_line, csv_close, csv_end}
+use Rattle.csv_spec.specs.Line.{Stand, Step, unread, on_row, on_read, on_text, csv_close, csv_end}
 
 -- what is said, where it is a refusal, has no bytes for standard output
 abbrev Quiet : Say → Type 0
 Quiet p = p.refused ≡ true → p.out ≡ []
 
-abbrev StepQuiet : Step → Type 0
+abbrev pub StepQuiet : Step → Type 0
 StepQuiet d = d.stand.refused ≡ true → d.out ≡ []
 
 done_quiet : (o e : List ℕ) → Quiet (says false o e)
@@ -43,7 +41,7 @@ answer_quiet source code count warning rows =
     let done = done_quiet (rows_text rows count) (warning_text source warning) in
     picked_quiet (eqb code 0) _ _ (picked_quiet (rows_writable rows count) _ _ done (refusal_quiet source bad_text)) (refusal_quiet source code)
 
-unread_quiet : (s : Stand) → StepQuiet (unread s)
+pub unread_quiet : (s : Stand) → StepQuiet (unread s)
 unfolding unread refusal
 unread_quiet s e = refl
 
@@ -59,20 +57,11 @@ read_quiet : (s : Stand) (o : Option (List ℕ)) → (on_read s o).stand.refused
 read_quiet s none e = unread_quiet s e
 read_quiet s (some row) e = row_quiet s row e
 
-text_quiet : (s : Stand) (t : List ℕ) → StepQuiet (on_text s t)
+pub text_quiet : (s : Stand) (t : List ℕ) → StepQuiet (on_text s t)
 unfolding on_text
 text_quiet s t = either_quiet (eqb s.physical 1) _ _ (heading_quiet s.physical t) (read_quiet s (read_row t))
 
-end_quiet : (s : Stand) (l : List ℕ) (x : End) → (on_end s l x).stand.refused ≡ true → (on_end s l x).out ≡ []
-end_quiet s l End.Bad e = unread_quiet s e
-end_quiet s l (End.Upto n) e = text_quiet s (take n l) e
-
--- a refused line writes no row
-pub line_quiet : (s : Stand) (l : List ℕ) → (csv_line s l).stand.refused ≡ true → (csv_line s l).out ≡ []
-unfolding csv_line
-line_quiet s l e = end_quiet s l (end_of l) e
-
--- nor does a refused end
+-- a refused end writes no row
 pub close_quiet : (s : Stand) (left : ℕ) → (csv_end s left).stand.refused ≡ true → (csv_end s left).out ≡ []
 unfolding csv_end csv_close
 close_quiet s left =

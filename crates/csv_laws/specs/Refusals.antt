@@ -1,13 +1,12 @@
 -- LAWS. A run over more input: what the lines before said stays, and a refusal adds no row and ends it. Assumes nothing.
 use Rattle.std.specs.Prelude.{ℕ, ◌≡◌, refl, Bool, true, false, cond, List, [], ◌∷◌, ◌++◌, length}
-use Rattle.std.proofs.Common.{sym, ap, ◌∙◌, append-nil}
-use Rattle.text_cut.specs.Cut.{cut, lines_from, rest_from}
+use Rattle.std.proofs.Common.{sym, ap, ◌∙◌}
+use Rattle.text_cut.specs.Cut.{lines_from, rest_from}
 use Rattle.text_cut.specs.CutLaws.{lines-pieces, rest-pieces}
 use Rattle.csv_spec.specs.Line.{Stand, Step, csv_line}
 use Rattle.csv_spec.specs.Csv.{and_then, still, csv_lines, csv_finish, csv_rest, begun, Whole, csv_spec, Begins}
-use Rattle.csv_spec.specs.CsvLaws.{then_assoc, then-still, finish_then, refused-lines, rest-whole, rest-refused}
+use Rattle.csv_spec.proofs.CsvLaws.{then_assoc, then-still, finish_then, refused-lines}
 use Rattle.csv_laws.specs.Output.{lines_said}
-use Rattle.csv_laws.specs.Quiet.{line_quiet}
 
 -- some lines, and then others
 lines_then : (s : Stand) (xs ys : List (List ℕ)) → csv_lines s (xs ++ ys) ≡ and_then (csv_lines s xs) (csv_lines (csv_lines s xs).stand ys)
@@ -78,17 +77,3 @@ whole-lines s a b e =
     ∙ ap (λ (p : List ℕ). and_then d (csv_finish (csv_lines d.stand (lines_from p b)) (length (rest_from [] (a ++ b))))) e
     ∙ ap (λ (r : List ℕ). and_then d (csv_finish (csv_lines d.stand (lines_from [] b)) (length r)))
     (rest-pieces a b [] ∙ ap (λ (p : List ℕ). rest_from p b) e)
-
-pub refusal-adds-none : (a l later : List ℕ) → rest_from [] a ≡ [] → cut l ≡ length l → (lines_said a).stand.refused ≡ false
-    → (csv_line (lines_said a).stand l).stand.refused ≡ true
-    → csv_spec (a ++ (l ++ later)) ≡ record { out = (lines_said a).out; err = (lines_said a).err ++ (csv_line (lines_said a).stand l).err; refused = true }
-unfolding csv_spec
-refusal-adds-none a l later e w f r =
-    let d = lines_said a in
-    let x = csv_line d.stand l in
-    let rest : csv_rest d.stand (l ++ later) ≡ x =
-    rest-whole d.stand l later f w ∙ ap (λ (y : Step). and_then x y) (rest-refused x.stand later r) ∙ then-still x in
-    let out : d.out ++ x.out ≡ d.out = ap (λ (o : List ℕ). d.out ++ o) (line_quiet d.stand l r) ∙ append-nil d.out in
-    ap whole (whole-lines begun a (l ++ later) e ∙ ap (λ (y : Step). and_then d y) rest)
-    ∙ ap (λ (o : List ℕ). record { out = o; err = d.err ++ x.err; refused = x.stand.refused }) out
-    ∙ ap (λ (b : Bool). record { out = d.out; err = d.err ++ x.err; refused = b }) r

@@ -6,7 +6,7 @@ use Rattle.text_cut.specs.Cut.{cut}
 use Rattle.csv_status.specs.Status.{goes_on, ended}
 use Rattle.csv_spec.specs.Line.{Stand, Step, csv_line}
 use Rattle.csv_spec.specs.Csv.{and_then, still, csv_rest, begun, Whole, csv_spec, Begins}
-use Rattle.csv_spec.specs.CsvLaws.{then_assoc, then-still, rest-whole, rest_end, rest-refused}
+use Rattle.csv_spec.proofs.CsvLaws.{then_assoc, then-still, rest-whole, rest_end, rest-refused}
 use Rattle.csv_run.specs.Steps.{Slices, standing}
 use Rattle.csv_reading.specs.declared.Reading.{Reading}
 use Rattle.csv_reading.specs.Reading.{first_reading, going_of, unread}

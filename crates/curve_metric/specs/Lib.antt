@@ -3,6 +3,5 @@ pub mod Ends
 pub mod Metric
 pub mod Points
 pub mod Walk
-pub mod WalkLaws
 pub mod Widest
 pub mod Written

@@ -10,7 +10,7 @@ use Rattle.curve_walk.specs.declared.Form.TheVariants.{Basis, Fit}
 use Rattle.curve_walk.specs.declared.Kept.{Kept}
 use Rattle.curve_walk.specs.declared.Shape.{Shape}
 use Rattle.curve_walk.specs.Asks.{Recalls}
-use Rattle.curve_walk.specs.Remembering.{stored_recalls, recalls_as}
+use Rattle.curve_walk.proofs.Remembering.{stored_recalls, recalls_as}
 use Rattle.curve_segments.specs.Lefts.{fit_lefts}
 use Rattle.curve_walk.specs.Lefts.{joined}
 use Rattle.curve_spans.specs.Lefts.{spline_lefts}

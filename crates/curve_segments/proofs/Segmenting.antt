@@ -15,7 +15,7 @@ use Rattle.floats.specs.Lists.{upto, flatten, row}
 use Rattle.floats.specs.Fill.{Filling, filling-more, at-filled, past-filled, lt_or_le}
 use Rattle.floats.specs.Parts.{part, length_part, part-row}
 use Rattle.curve_metric.specs.Walk.{Sample, samples, depth}
-use Rattle.curve_metric.specs.WalkLaws.{samples_le}
+use Rattle.curve_metric.proofs.WalkLaws.{samples_le}
 use Rattle.curve_metric.specs.Points.{row_fits_lem}
 use Rattle.curve_walk.specs.declared.Form.{Form}
 use Rattle.curve_walk.specs.declared.Form.TheVariants.{Basis, Fit}
@@ -24,11 +24,11 @@ use Rattle.curve_walk.specs.Walks.{encode, eval_of, own_in, own_of, bumped, coun
 use Rattle.curve_walk.specs.Asks.{Stretch, Counted, Counts, Written, Fresh}
 use Rattle.curve_walk.specs.Lefts.{lefts_of}
 use Rattle.curve_walk.specs.Writing.{encode_append, written_none, written-two, room-second}
-use Rattle.curve_walk.specs.Remembering.{lefts-led}
+use Rattle.curve_walk.proofs.Remembering.{lefts-led}
 use Rattle.curve_segments.specs.Stretches.{fit_run_at}
 use Rattle.curve_segments.specs.Lefts.{fit_lefts}
 use Rattle.curve_segments.specs.Asks.{IsFit, Segments, FreshAt}
-use Rattle.curve_walk.specs.Joining.{flat-more}
+use Rattle.curve_walk.proofs.Joining.{flat-more}
 
 -- ---- places: the points of a stretch in the list of points
 

@@ -14,13 +14,13 @@ use Rattle.floats.specs.Joins.{flatten_snoc}
 use Rattle.layout.specs.Layout.{most_points}
 use Rattle.curve_metric.specs.Below.{Below}
 use Rattle.curve_metric.specs.Walk.{Sample, samples, depth}
-use Rattle.curve_metric.specs.WalkLaws.{samples_le}
+use Rattle.curve_metric.proofs.WalkLaws.{samples_le}
 use Rattle.curve_walk.specs.declared.Shape.{Shape}
 use Rattle.curve_walk.specs.Walks.{encode, point_at, own_of, end_owner, counted, points_of}
 use Rattle.curve_walk.specs.Asks.{Tables, Stretch, Counted, Counts, Written, Fresh}
 use Rattle.curve_walk.specs.Counting.{counted-two, counted_le, counted-length, end_in}
 use Rattle.curve_walk.specs.Lefts.{lefts_of}
-use Rattle.curve_walk.specs.Remembering.{lefts-led}
+use Rattle.curve_walk.proofs.Remembering.{lefts-led}
 use Rattle.curve_walk.specs.Writing.{encode_append, written_none, written-two, room-second}
 use Rattle.curve_spans.specs.Stretches.{span_samples}
 use Rattle.curve_spans.specs.Lefts.{span_lefts}

@@ -5,7 +5,7 @@ use Rattle.std.proofs.Math.Nat.{pow-succ'}
 use Rattle.std.specs.Float.Ieee.{lt}
 use Rattle.bspline_tables.specs.Tables.{advanced, greville_at}
 use Rattle.curve_metric.specs.Walk.{Sample, samples, flat, middle}
-use Rattle.curve_metric.specs.WalkLaws.{samples-zero, samples-flat, samples-halves, samples_le}
+use Rattle.curve_metric.proofs.WalkLaws.{samples-zero, samples-flat, samples-halves, samples_le}
 use Rattle.curve_walk.specs.declared.Form.{Form}
 use Rattle.curve_walk.specs.declared.Form.TheVariants.{Basis, Fit}
 use Rattle.curve_walk.specs.declared.Shape.{Shape}

@@ -5,5 +5,3 @@ pub mod Forms
 pub mod Points
 pub mod Counting
 pub mod Writing
-pub mod Remembering
-pub mod Joining

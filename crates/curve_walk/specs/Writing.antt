@@ -8,7 +8,7 @@ use Rattle.floats.specs.Fill.{length-upto, at-upto}
 use Rattle.floats.specs.Splice.{Splicing, spliced-spliced, length-spliced, spliced-none}
 use Rattle.floats.specs.Joins.{flatten_append, flatten-one}
 use Rattle.curve_metric.specs.Walk.{Sample, samples, flat, middle}
-use Rattle.curve_metric.specs.WalkLaws.{samples-zero, samples-flat, samples-halves}
+use Rattle.curve_metric.proofs.WalkLaws.{samples-zero, samples-flat, samples-halves}
 use Rattle.curve_walk.specs.Walks.{encode, points_of}
 use Rattle.curve_walk.specs.Asks.{Written}
 

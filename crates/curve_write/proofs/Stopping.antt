@@ -11,7 +11,7 @@ use Rattle.curve_walk.specs.Walks.{encode, points_of}
 use Rattle.curve_walk.specs.Lefts.{lefts_of}
 use Rattle.curve_walk.specs.Asks.{Written, Recalls, Cursor}
 use Rattle.curve_walk.specs.Writing.{points-zero, points-flat, points-halves, one-room, room-first, room-second, written_as, written-two}
-use Rattle.curve_walk.specs.Remembering.{lefts-zero, lefts-flat, lefts-halves, recalls_first, recalls_second, cursor_one, cursor_half, cursor_other, passed-one}
+use Rattle.curve_walk.proofs.Remembering.{lefts-zero, lefts-flat, lefts-halves, recalls_first, recalls_second, cursor_one, cursor_half, cursor_other, passed-one}
 
 -- a stretch's points
 abbrev run : (Float → List Float) → List ℕ → Float → ℕ → Float → List Float → Float → List Float → List (List Float)

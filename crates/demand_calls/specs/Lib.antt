@@ -5,6 +5,4 @@ pub mod Runs
 pub mod Safe
 pub mod Judged
 pub mod Laws
-pub mod RunLaws
-pub mod SafeLaws
 pub mod PlaceLaws

@@ -9,7 +9,7 @@ use Rattle.floats.specs.Lists.{keep, any_of}
 use Rattle.floats.specs.Truth.{by_bit, cond-t, cond-f}
 use Rattle.motion.specs.Motion.{is_basis}
 use Rattle.row_cells.specs.Row.{motion_of, has_point, out_row}
-use Rattle.row_cells.specs.RowLaws.{out-point}
+use Rattle.row_cells.proofs.RowLaws.{out-point}
 use Rattle.row_check.specs.CheckLaws.{check-shape, shape-present}
 use Rattle.push_resolve.specs.Blocks.{or_now}
 use Rattle.demand_calls.specs.Every.{Every, nil, more}

@@ -14,7 +14,7 @@ use Rattle.saved_state.specs.StateLaws.{good, good-few, axes-few, point-small}
 use Rattle.saved_state.specs.Checked.{saved-ok, saved_rows, saved-store}
 use Rattle.push_resolve.specs.Blocks.{kept, motion_then}
 use Rattle.push_check.specs.Refusal.{is_full, push_check}
-use Rattle.push_check.specs.DueLaws.{full-room}
+use Rattle.push_check.proofs.DueLaws.{full-room}
 
 -- ---- a state that is not refused
 pub state-words : (st : List ℕ) → state_ok st ≡ true → length st ≡ state_words

@@ -27,7 +27,7 @@ use Rattle.row_numbers.specs.RowNumbers.{within}
 use Rattle.row_check.specs.Check.{row_check}
 use Rattle.row_cells.specs.Row.{number, motion_of, plane_of, present_of, out_row}
 use Rattle.row_check.specs.CheckLaws.{check-motion, check-plane, check-shape, check-within, out-check}
-use Rattle.row_cells.specs.RowLaws.{out-motion, length-out}
+use Rattle.row_cells.proofs.RowLaws.{out-motion, length-out}
 use Rattle.floats.specs.Truth.{or_t, or_f, and_i, and_left, and_right, cond-t, cond-f, all-at, all_more, all_intro, by_bit}
 use Rattle.row_cells.specs.Masks.{has-none, with-other, with-lt}
 use Rattle.saved_state.specs.State.{plain_degree, axis_count, motion_now, plane_now, degree, held, geometric, tol_ok, codes_ok, axes_ok, point_at_ok, point_ok, held_ok}
@@ -42,7 +42,7 @@ use Rattle.push_start.specs.OpenedLaws.{SameAxes, same_trans, same_set, same-pla
 use Rattle.push_state.specs.PushLaws.{same-to}
 use Rattle.push_start.specs.OpenedLaws.{placed-keeps, forgotten-keeps, held-forgotten, start_words}
 use Rattle.push_start.specs.OpenedLaws.{length-start_words, no_words, none-at}
-use Rattle.push_check.specs.DueLaws.{full-room}
+use Rattle.push_check.proofs.DueLaws.{full-room}
 use Rattle.saved_state.specs.Checked.{saved-ok, saved_rows}
 use Rattle.demand_state.specs.Lengths.{emptied, laid, push_state-steps, told, worded}
 use Rattle.demand_state.specs.StateWords.{buffered-held, buffered-low, opened-degree, opened_in, opened-low, placed-mask, placed-value, push_else}

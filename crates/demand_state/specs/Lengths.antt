@@ -11,7 +11,7 @@ use Rattle.layout.specs.Layout.{axis_codes, c_sd, row_words, w_motion, w_plane, 
 use Rattle.motion.specs.Motion.{is_spline}
 use Rattle.row_cells.specs.Bits.{has, with_bit}
 use Rattle.row_cells.specs.Row.{motion_of, present_of, number, out_row}
-use Rattle.row_cells.specs.RowLaws.{length-out}
+use Rattle.row_cells.proofs.RowLaws.{length-out}
 use Rattle.floats.specs.Truth.{by_bit}
 use Rattle.saved_state.specs.State.{plain_degree, held, degree, position, geometric, placed}
 use Rattle.push_resolve.specs.Blocks.{emits, kept, motion_then, plane_then, news}

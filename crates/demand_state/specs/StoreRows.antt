@@ -11,7 +11,7 @@ use Rattle.floats.specs.Lists.{upto, spliced}
 use Rattle.floats.specs.Fill.{upto-below}
 use Rattle.layout.specs.Layout.{row_words}
 use Rattle.row_cells.specs.Row.{out_row}
-use Rattle.row_cells.specs.RowLaws.{length-out}
+use Rattle.row_cells.proofs.RowLaws.{length-out}
 use Rattle.saved_state.specs.State.{held_row}
 
 -- a run that ends within the first n elements is the same run of the whole list

@@ -23,8 +23,8 @@ use Rattle.call_answer.specs.Answer.{answer_as}
 use Rattle.demand_calls.specs.Laws.{none-some, cond_both}
 use Rattle.demand_groups.specs.Group.{Formed, Bare, Carries, Group}
 use Rattle.demand_groups.specs.InRange.{shown-bits}
-use Rattle.demand_groups.specs.Shapes.{upto_shaped, made-line, made-mark, made-formed, made-shows, made-bare, made-carries, out_shaped, programmed}
-use Rattle.demand_groups.specs.Shapes.{same_number}
+use Rattle.demand_groups.proofs.Shapes.{upto_shaped, made-line, made-mark, made-formed, made-shows, made-bare, made-carries, out_shaped, programmed}
+use Rattle.demand_groups.proofs.Shapes.{same_number}
 use Rattle.demand_state.specs.Accepted.{Fine}
 
 module _ (gs r : List ℕ) (fine : Fine r) (small : (k : ℕ) → member k gs ≡ true → k < axis_codes) (plane : ℕ) (pos : ℕ → Option ℕ) where

@@ -24,7 +24,7 @@ use Rattle.demands.specs.Demands.{Demand1}
 use Rattle.demand_state.specs.Refusals.{saved-number, push-number}
 use Rattle.demands.specs.RowLengths.{push_rows-long, close_rows-long}
 use Rattle.demand_calls.specs.Places.{places}
-use Rattle.demand_calls.specs.SafeLaws.{done_safe, few-turned, kept_safe, kept-state, new-state, plain-turned}
+use Rattle.demand_calls.proofs.SafeLaws.{done_safe, few-turned, kept_safe, kept-state, new-state, plain-turned}
 
 -- ---- start and seed
 start_safe : (st : List ℕ) (tol : ℕ) (axes : List ℕ) → SafeState (start_spec st tol axes) st

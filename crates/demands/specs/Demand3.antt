@@ -11,7 +11,7 @@ use Rattle.demand_calls.specs.Runs.{Event, seed, block, closed, blocks_of, wrote
 use Rattle.demand_groups.specs.Written.{Piece, Written, groups}
 use Rattle.demand_state.specs.Fresh.{small-axes}
 use Rattle.demand_standing.specs.Standing.{Standing, at_first, with_block, with_seed, with_close}
-use Rattle.demand_standing.specs.Stands.{Stands, fresh-stands}
+use Rattle.demand_standing.proofs.Stands.{Stands, fresh-stands}
 use Rattle.demands.specs.Demands.{Demand3, answer}
 use Rattle.demands.specs.Each.{ranged_first, each_group}
 use Rattle.demands.specs.Pending.{to_come, come_empty}

@@ -29,7 +29,7 @@ use Rattle.demands.specs.ArcGroups.{own_shaped}
 use Rattle.demands.specs.Pieces.{spline_with, piece_of, pieces_from}
 use Rattle.demands.specs.Sound.{Sound, over, by-seed, by-block, by-close, together-fine}
 use Rattle.demands.specs.SplineGroups.{held_shaped}
-use Rattle.demand_groups.specs.Shapes.{came_shaped}
+use Rattle.demand_groups.proofs.Shapes.{came_shaped}
 use Rattle.demand_groups.specs.Written.{Grouped}
 use Rattle.demand_standing.specs.Together.{last-point}
 

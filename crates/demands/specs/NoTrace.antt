@@ -3,7 +3,7 @@ use Rattle.std.specs.Prelude.{ℕ, ◌≡◌, refl, false, List}
 use Rattle.std.proofs.lemmas.Bool.{eqb-false}
 use Rattle.call_answer.specs.Push.{push_spec}
 use Rattle.call_answer.specs.Close.{close_spec}
-use Rattle.demand_calls.specs.RunLaws.{traceless}
+use Rattle.demand_calls.proofs.RunLaws.{traceless}
 use Rattle.demand_calls.specs.Runs.{Call, pushing, seeding, closing, accepts}
 use Rattle.demands.specs.Demand1.{demand1}
 use Rattle.demands.specs.Demands.{answer, NoTrace}

@@ -7,7 +7,7 @@ use Rattle.motion.specs.Motion.{spline_kind}
 use Rattle.motion.specs.declared.Kind.{Kind}
 use Rattle.motion.specs.declared.Kind.TheVariants.{Same, Linear, Clockwise, Counter, Akima, Basis, Cubic, Other, Refused}
 use Rattle.row_cells.specs.Row.{out_row, has_point}
-use Rattle.row_cells.specs.RowLaws.{length-out}
+use Rattle.row_cells.proofs.RowLaws.{length-out}
 use Rattle.row_made.specs.MadeLaws.{length-made}
 use Rattle.demand_calls.specs.Every.{Every, nil, more}
 use Rattle.demand_calls.specs.Laws.{cond_both, every_append, every_upto, every_flatten}

@@ -14,7 +14,7 @@ use Rattle.demand_calls.specs.Every.{Every, nil, more}
 use Rattle.demand_calls.specs.Runs.{Event, seed, block, closed, Call, taken, run}
 use Rattle.demand_state.specs.Accepted.{Saved, saved, Pushed, Fine, held-most}
 use Rattle.demand_standing.specs.Standing.{Standing, motion_with, goes_on, with_block, with_seed, with_close, together}
-use Rattle.demand_standing.specs.Stands.{Stands}
+use Rattle.demand_standing.proofs.Stands.{Stands}
 use Rattle.demand_standing.specs.Together.{goes_on_lem, ends-here}
 use Rattle.demands.specs.Answers.{close-accepted}
 use Rattle.demands.specs.Demands.{answer}

@@ -40,8 +40,8 @@ use Rattle.demand_calls.specs.Every.{Every}
 use Rattle.demand_calls.specs.Laws.{some_same, none-some, every_head, every_tail, every_keep}
 use Rattle.demand_groups.specs.Group.{Bare, Group}
 use Rattle.demand_groups.specs.InRange.{in_range, tidy_eq, num-bits, shown-bits}
-use Rattle.demand_groups.specs.Shapes.{one_shaped, upto_shaped, made-line, made-mark, made-formed, made-shows, made-bare, made-carries, out_shaped}
-use Rattle.demand_groups.specs.Shapes.{programmed, same_number}
+use Rattle.demand_groups.proofs.Shapes.{one_shaped, upto_shaped, made-line, made-mark, made-formed, made-shows, made-bare, made-carries, out_shaped}
+use Rattle.demand_groups.proofs.Shapes.{programmed, same_number}
 use Rattle.demand_state.specs.Accepted.{Fine}
 use Rattle.demands.specs.SplinePoints.{channels-listed, Word, word-modest, word_fits, Words, start-words, all_words, all-weights}
 use Rattle.demands.specs.SplineRuns.{fit_length, fit-ends, points-length, PointOf, point-of, place-of, Placed, point-number}

@@ -14,7 +14,7 @@ use Rattle.floats.specs.Truth.{by_bit, cond-t, cond-f}
 use Rattle.curve_metric.specs.Metric.{point_of, chords}
 use Rattle.curve_metric.specs.Walk.{Sample}
 use Rattle.curve_metric.specs.Ends.{EndsWith, ends-one, ends-map}
-use Rattle.curve_metric.specs.WalkLaws.{samples-end}
+use Rattle.curve_metric.proofs.WalkLaws.{samples-end}
 use Rattle.fit_knots.specs.Fit.{Fit, kept_to, eval_fit, fit_run, fit_runs}
 use Rattle.spline_answer.specs.Words.{place_of, next_point, points_from}
 

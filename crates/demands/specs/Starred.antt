@@ -123,45 +123,30 @@ bent =
     ∷ closing (replicate (3 * row_words) 7) ∷ [])
 
 -- 0, -1, NaN and infinity are refused by 1
-tolerances : map started (0 ∷ 0xbff0000000000000 ∷ 0x7ff8000000000000 ∷ 0x7ff0000000000000 ∷ []) ≡ 1 ∷ 1 ∷ 1 ∷ 1 ∷ []
+pub tolerances : map started (0 ∷ 0xbff0000000000000 ∷ 0x7ff8000000000000 ∷ 0x7ff0000000000000 ∷ []) ≡ 1 ∷ 1 ∷ 1 ∷ 1 ∷ []
 unfolding started Start.start_spec State.tol_ok
 tolerances = refl
 
 -- 1,000 turns pass, 1,000.4 do not
-turns : map turning (0x408f400000000000 ∷ 0x408f433333333333 ∷ []) ≡ 0 ∷ 5 ∷ []
+pub turns : map turning (0x408f400000000000 ∷ 0x408f433333333333 ∷ []) ≡ 0 ∷ 5 ∷ []
 unfolding asked turning row
 turns = refl
 
 -- CR 4.999 warns 3, CR 4.9999999995 does not
-chords_2 : map (chord 3) (0x4013fef9db22d0e5 ∷ 0x4013fffffff768fa ∷ []) ≡ 3 ∷ 0 ∷ []
+pub chords_2 : map (chord 3) (0x4013fef9db22d0e5 ∷ 0x4013fffffff768fa ∷ []) ≡ 3 ∷ 0 ∷ []
 unfolding asked chord from row
 chords_2 = refl
 
-chords_3 : map (chord 4) (0x4013fef9db22d0e5 ∷ 0x4013fffffff768fa ∷ []) ≡ 3 ∷ 0 ∷ []
+pub chords_3 : map (chord 4) (0x4013fef9db22d0e5 ∷ 0x4013fffffff768fa ∷ []) ≡ 3 ∷ 0 ∷ []
 unfolding asked chord from row
 chords_3 = refl
 
 -- 2 rows at tolerance 10, 1 at 30
-circles : map circle (w10 ∷ w30 ∷ []) ≡ 2 ∷ 1 ∷ []
+pub circles : map circle (w10 ∷ w30 ∷ []) ≡ 2 ∷ 1 ∷ []
 unfolding asked circle from row
 circles = refl
 
 -- a row with no axes, then (10,10), unmarked
-bspline : bent ≡ 0 ∷ 2 ∷ 0 ∷ row 2 2 [] ++ row 3 0 (0 ∷ w10 ∷ 1 ∷ w10 ∷ [])
+pub bspline : bent ≡ 0 ∷ 2 ∷ 0 ∷ row 2 2 [] ++ row 3 0 (0 ∷ w10 ∷ 1 ∷ w10 ∷ [])
 unfolding asked bent from row
 bspline = refl
-
--- the whole list
-pub starred : map started (0 ∷ 0xbff0000000000000 ∷ 0x7ff8000000000000 ∷ 0x7ff0000000000000 ∷ [])
-    ∷ map turning (0x408f400000000000 ∷ 0x408f433333333333 ∷ [])
-    ∷ map (chord 3) (0x4013fef9db22d0e5 ∷ 0x4013fffffff768fa ∷ [])
-    ∷ map (chord 4) (0x4013fef9db22d0e5 ∷ 0x4013fffffff768fa ∷ [])
-    ∷ map circle (w10 ∷ w30 ∷ [])
-    ∷ bent ∷ []
-    ≡ (1 ∷ 1 ∷ 1 ∷ 1 ∷ [])
-    ∷ (0 ∷ 5 ∷ [])
-    ∷ (3 ∷ 0 ∷ [])
-    ∷ (3 ∷ 0 ∷ [])
-    ∷ (2 ∷ 1 ∷ [])
-    ∷ (0 ∷ 2 ∷ 0 ∷ row 2 2 [] ++ row 3 0 (0 ∷ w10 ∷ 1 ∷ w10 ∷ [])) ∷ []
-starred = λ i. tolerances i ∷ turns i ∷ chords_2 i ∷ chords_3 i ∷ circles i ∷ bspline i ∷ []

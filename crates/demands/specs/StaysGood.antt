@@ -19,7 +19,7 @@ use Rattle.call_seed.specs.Seed.{seeded, seed_spec}
 use Rattle.push_check.specs.Refusal.{push_check}
 use Rattle.call_answer.specs.Push.{push_rows, push_done}
 use Rattle.call_answer.specs.Close.{close_rows, close_spec}
-use Rattle.demand_calls.specs.RunLaws.{run-keeps}
+use Rattle.demand_calls.proofs.RunLaws.{run-keeps}
 use Rattle.demand_state.specs.Begun.{fresh-saved, seeded-saved}
 
 -- ---- any call

@@ -31,8 +31,8 @@ use Rattle.demand_calls.specs.Places.{places}
 use Rattle.demand_calls.specs.Runs.{Event, seed, block, closed, Call, pushing, seeding, closing, accepts, wrote, event_of, taken, Ran, run}
 use Rattle.demand_state.specs.Accepted.{Saved, saved, Pushed, pushed, few-axes, past-place, past-start, state-words}
 use Rattle.demand_standing.specs.Standing.{Standing, motion_with, with_block, with_seed, with_close}
-use Rattle.demand_standing.specs.Stands.{Stands, some-length, Same, Changed, same, changed, motion-is, none_kept, push-stands, seed-stands, emptied-stands}
-use Rattle.demand_standing.specs.Stands.{none-stands}
+use Rattle.demand_standing.proofs.Stands.{Stands, some-length, Same, Changed, same, changed, motion-is, none_kept, push-stands, seed-stands, emptied-stands}
+use Rattle.demand_standing.proofs.Stands.{none-stands}
 use Rattle.demands.specs.Answers.{close_done, push-done, push-accepted, close-done, close-accepted, seed-left}
 use Rattle.demands.specs.Demand1.{demand1}
 use Rattle.demands.specs.Demands.{answer}

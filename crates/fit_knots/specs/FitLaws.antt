@@ -7,7 +7,7 @@ use Rattle.floats.specs.Lists.{upto}
 use Rattle.curve_metric.specs.Ends.{EndsWith, ends-one, ends_some, ends-map}
 use Rattle.curve_metric.specs.Metric.{point_of, chords}
 use Rattle.curve_metric.specs.Walk.{Sample, depth, samples}
-use Rattle.curve_metric.specs.WalkLaws.{samples-end}
+use Rattle.curve_metric.proofs.WalkLaws.{samples-end}
 use Rattle.fit_knots.specs.Fit.{Fit, kept_to, eval_fit, fit_run, fit_runs}
 
 -- ---- one run

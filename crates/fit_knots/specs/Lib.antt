@@ -5,6 +5,5 @@ pub mod Kept
 pub mod Memory
 pub mod Order
 pub mod Prepare
-pub mod KeptLaws
 pub mod PrepareLaws
 pub mod MemoryLaws

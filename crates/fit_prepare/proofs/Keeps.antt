@@ -10,7 +10,7 @@ use lib.Seq.{drop-cons, set_at, append_snoc, drop-set-lt}
 use lib.Ieee.{Float}
 use Rattle.fit_knots.specs.Fit.{kept_to}
 use Rattle.fit_knots.specs.Kept.{grown, last_of, Kept, Judged}
-use Rattle.fit_knots.specs.KeptLaws.{kept_in, last-kept}
+use Rattle.fit_knots.proofs.KeptLaws.{kept_in, last-kept}
 
 pub keep-first : (ts : List Float) (l : List ℕ) → 0 < length l → Kept ts 0 (set l 0 0) (set l 0 0) 1
 unfolding kept_to

@@ -11,7 +11,7 @@ use Rattle.floats.specs.Numbers.{at}
 use Rattle.curve_metric.specs.Below.{Below}
 use Rattle.fit_knots.specs.Fit.{kept_to, fit_of}
 use Rattle.fit_knots.specs.Kept.{Kept}
-use Rattle.fit_knots.specs.KeptLaws.{kept_in, kept-rising}
+use Rattle.fit_knots.proofs.KeptLaws.{kept_in, kept-rising}
 use Rattle.fit_knots.specs.Memory.{FitHeld}
 use Rattle.fit_knots.specs.Prepare.{TimesRise, FitReady}
 

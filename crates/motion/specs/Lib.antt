@@ -1,2 +1,1 @@
 pub mod Motion
-pub mod MotionLaws

@@ -33,7 +33,7 @@ use Rattle.night_note.specs.Notes.{UnreadTold}
 use Rattle.night_told.specs.Tellings.{CallTold}
 use Rattle.night_spec.specs.Try.{Stand, Step, still, and_then, unread, headed, on_row, on_close, on_text, on_end, on_read, counted, night_line, ends}
 use Rattle.night_spec.specs.Try.{closes, shuts, night_end}
-use Rattle.night_spec.specs.TryLaws.{then-still}
+use Rattle.night_spec.proofs.TryLaws.{then-still}
 use Rattle.night_turns.specs.Steps.{Slices, slices, standing, Stepped}
 use Rattle.night_turns.specs.StepLaws.{same-stand, step_as, nothing-done, row_step, close-step, unread-step}
 use Rattle.night_turns.specs.Turns.{deed_of}

@@ -94,13 +94,9 @@ module _ (t : Ticket) where
   unfolding closes
   shut-stays s e = rw e e
 
-  twice-shut : (s : Stand) → is_open (shuts t s).stand.course.stands ≡ false
+  pub twice-shut : (s : Stand) → is_open (shuts t s).stand.course.stands ≡ false
   unfolding shuts closes
   twice-shut s =
       by_bit (is_open s.course.stands)
       (λ a. rw a (by_bit (is_open (on_close t s).stand.course.stands) (λ b. rw b (again-shut s b)) (λ b. rw b b)))
       (λ a. rw (a, a) a)
-
-  pub ended-shut : (s : Stand) (behind : ℕ) → is_open (night_end t s behind).stand.course.stands ≡ false
-  unfolding night_end
-  ended-shut s behind = twice-shut (ends t s behind).stand

@@ -1,2 +1,1 @@
 pub mod Tried
-pub mod Rates

@@ -1,2 +1,1 @@
 pub mod Try
-pub mod TryLaws

@@ -2,4 +2,3 @@ pub mod Steps
 pub mod StepLaws
 pub mod Turns
 pub mod TurnLaws
-pub mod RunLaws

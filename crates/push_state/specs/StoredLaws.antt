@@ -5,7 +5,7 @@ use Rattle.motion.specs.Motion.{is_spline}
 use Rattle.push_resolve.specs.declared.Resolved.{Resolved}
 use Rattle.push_check.specs.Refusal.{is_full}
 use Rattle.push_resolve.specs.Asks.{Block}
-use Rattle.push_check.specs.DueLaws.{full-room}
+use Rattle.push_check.proofs.DueLaws.{full-room}
 use Rattle.push_resolve.specs.Resolved.{resolved}
 use Rattle.push_state.specs.Pushed.{push_store}
 use Rattle.push_state.specs.Stored.{Stores, store_with}

@@ -12,7 +12,7 @@ use lib.Ieee.Fits.{down_pos}
 use lib.Ieee.Bits.{is_true, is_false}
 use lib.Ieee.Exact.{HasValue, odd_sign}
 use Rattle.root.specs.Root.{sqrt}
-use Rattle.root.specs.Values.{fields}
+use Rattle.root.proofs.Values.{fields}
 
 pub of_zero : 0 ≡ to_bits binary64 (sqrt binary64 (of_bits binary64 0))
 unfolding to_bits sqrt of_bits

@@ -20,8 +20,8 @@ use Rattle.root_bound.specs.Greatest.{greatest, normal}
 use Rattle.root_near.specs.Squares.{square_of_sum}
 use Rattle.root.specs.Floor.{floor-root}
 use Rattle.root_near.specs.OneNearest.{cmp, nearest_is, apart, root_lo, root_hi}
-use Rattle.root.specs.Values.{normal-value}
-use Rattle.root.specs.Normal.{exponent, bounds, taken_is, root-value}
+use Rattle.root.proofs.Values.{normal-value}
+use Rattle.root.proofs.Normal.{exponent, bounds, taken_is, root-value}
 
 -- two tests that follow from each other
 pub same_test : (p q : Bool) → (T p → T q) → (T q → T p) → p ≡ q

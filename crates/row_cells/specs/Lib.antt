@@ -4,5 +4,4 @@ pub mod Row
 pub mod Masks
 pub mod BitOps
 pub mod BitWalk
-pub mod RowLaws
 pub mod Tested

@@ -10,7 +10,7 @@ use Rattle.motion.specs.Motion.{last_motion}
 use Rattle.row_cells.specs.Bits.{has}
 use Rattle.row_cells.specs.Codes.{plane_ok}
 use Rattle.row_cells.specs.Row.{cell, line_of, motion_of, plane_of, mark_of, present_of, raw_word, out_row}
-use Rattle.row_cells.specs.RowLaws.{length-out, out-cell, out-present, out_line, out-motion, out-plane, out-mark}
+use Rattle.row_cells.proofs.RowLaws.{length-out, out-cell, out-present, out_line, out-motion, out-plane, out-mark}
 use Rattle.row_numbers.specs.RowNumbers.{within, cell_ok, numbers_ok, above1000, turn_ok}
 use Rattle.row_check.specs.Check.{shape_ok, fields_ok, row_check}
 

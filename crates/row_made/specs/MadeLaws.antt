@@ -9,7 +9,7 @@ use Rattle.layout.specs.Layout.{cells, row_words}
 use Rattle.row_cells.specs.Bits.{mask_sum}
 use Rattle.row_cells.specs.Row.{cell, shown, line_of, plane_of, carry_of, row_of}
 use Rattle.row_cells.specs.Masks.{mask-same}
-use Rattle.row_cells.specs.RowLaws.{row_words_lem, row-length, row-cell, cell-there, shown-there}
+use Rattle.row_cells.proofs.RowLaws.{row_words_lem, row-length, row-cell, cell-there, shown-there}
 use Rattle.row_made.specs.Made.{rides, with_riders, made_row, made_cell, made_has, made_word}
 
 pub made-is : (gs r : List ℕ) (first : Bool) (motion : ℕ) (marked : Bool) (f : ℕ → Option ℕ)

@@ -16,7 +16,7 @@ use Rattle.row_cells.specs.Bits.{has, mask_sum}
 use Rattle.row_cells.specs.Row.{axes_of, cell, raw_word, present_of, shown}
 use Rattle.row_cells.specs.Masks.{has-past, below-bits, mask-of, member-small}
 use Rattle.row_cells.specs.BitOps.{has_and, has_or, has-not}
-use Rattle.row_cells.specs.RowLaws.{cell_word}
+use Rattle.row_cells.proofs.RowLaws.{cell_word}
 use Rattle.row_lay.specs.declared.Head.{Head}
 use Rattle.row_lay.specs.Over.{over_word, zeros}
 use Rattle.row_lay.specs.Asks.{Lays, Laid, head_words}

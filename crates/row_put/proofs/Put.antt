@@ -10,7 +10,7 @@ use Rattle.layout.specs.Layout.{cells, cell_masks, row_words, r_cells}
 use Rattle.row_cells.specs.Bits.{has}
 use Rattle.row_cells.specs.Row.{cell, present_of, out_row}
 use Rattle.row_cells.specs.Masks.{has_mod}
-use Rattle.row_cells.specs.RowLaws.{cell_word, out-words}
+use Rattle.row_cells.proofs.RowLaws.{cell_word, out-words}
 use Rattle.row_lay.specs.declared.Head.{Head}
 use Rattle.row_lay.specs.Over.{over_word, zeros}
 use Rattle.row_lay.specs.Asks.{head_words}

@@ -3,4 +3,3 @@ pub mod Gathers
 pub mod Keeps
 pub mod Append
 pub mod Flat
-pub mod ChannelLaws

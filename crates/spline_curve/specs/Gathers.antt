@@ -15,7 +15,7 @@ use Rattle.spline_channels.specs.Channels.{channels_from}
 use Rattle.spline_metric.specs.Metric.{metric_of}
 use Rattle.spline_channels.specs.Gathers.{Appended, Once, Codes}
 use Rattle.spline_points.specs.Gathers.{PointsAre}
-use Rattle.spline_channels.specs.ChannelLaws.{Good, channels-good, channels-few, geometric-few, once-distinct, distinct-keep, none-good}
+use Rattle.spline_channels.proofs.ChannelLaws.{Good, channels-good, channels-few, geometric-few, once-distinct, distinct-keep, none-good}
 use Rattle.spline_channels.specs.Keeps.{keep-upto-most, keep-most, member-at}
 use Rattle.spline_job.specs.declared.Curve.{Curve}
 use Rattle.spline_job.specs.declared.Job.{Job}

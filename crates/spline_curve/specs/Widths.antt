@@ -16,7 +16,7 @@ use Rattle.spline_channels.specs.Flat.{Sized, sized_append}
 use Rattle.spline_channels.specs.Keeps.{keep-most}
 use Rattle.curve_metric.specs.Metric.{point_of, chords}
 use Rattle.curve_metric.specs.Walk.{Sample, depth, middle, samples, flat}
-use Rattle.curve_metric.specs.WalkLaws.{samples_le}
+use Rattle.curve_metric.proofs.WalkLaws.{samples_le}
 use Rattle.fit_knots.specs.Fit.{Fit, kept_to, fit_of, piece_from, piece_of, eval_fit, fit_run, fit_runs}
 use Rattle.bspline_tables.specs.Basis.{Bspline, basis_of, spans_of, eval_basis, basis_samples, Owned, owned, owner_from, run_of, basis_runs}
 use Rattle.layout.specs.Layout.{most_points}

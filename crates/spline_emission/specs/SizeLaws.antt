@@ -2,7 +2,7 @@
 use Rattle.std.specs.Prelude.{ℕ, ◌+◌, ◌*◌, ◌≤◌, List}
 use Rattle.std.proofs.Common.{mul-le-mul, arith}
 use Rattle.layout.specs.Layout.{axis_codes, most_points}
-use Rattle.spline_channels.specs.ChannelLaws.{channels-few}
+use Rattle.spline_channels.proofs.ChannelLaws.{channels-few}
 use Rattle.spline_curve.specs.Asks.{Holds, channel_count}
 use Rattle.spline_emission.specs.Sizes.{numbers_of}
 

@@ -23,7 +23,7 @@ use Rattle.spline_channels.specs.Channels.{Spline, channels, point_rows, block_a
 use Rattle.spline_points.specs.Points.{start_point, points_from, weight_of}
 use Rattle.spline_metric.specs.Metric.{metric_of}
 use Rattle.spline_channels.specs.Flat.{Sized, sized-cons}
-use Rattle.spline_channels.specs.ChannelLaws.{channels-few}
+use Rattle.spline_channels.proofs.ChannelLaws.{channels-few}
 use Rattle.spline_points.specs.Curve.{points-sized, points-length}
 use Rattle.spline_places.specs.declared.frame.Frame.{Frame}
 use Rattle.spline_places.specs.declared.place.Place.{Place}

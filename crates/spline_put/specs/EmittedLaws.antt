@@ -10,7 +10,7 @@ use Rattle.floats.specs.Fill.{length-upto}
 use Rattle.layout.specs.Layout.{axis_codes, axis_masks, row_words, w_start, state_words, most_held, last_code, list_codes}
 use Rattle.row_cells.specs.Bits.{has}
 use Rattle.row_cells.specs.Row.{shown, has_point}
-use Rattle.row_cells.specs.RowLaws.{length-out}
+use Rattle.row_cells.proofs.RowLaws.{length-out}
 use Rattle.row_made.specs.MadeLaws.{length-made}
 use Rattle.floats.specs.Truth.{by_bit, cond-t, cond-f, all-at, and_right}
 use Rattle.floats.specs.Joins.{flatten_append}

@@ -6,7 +6,7 @@ use Rattle.floats.specs.Fill.{length-upto}
 use Rattle.layout.specs.Layout.{row_words}
 use Rattle.row_cells.specs.Row.{axes_of, out_row}
 use Rattle.row_made.specs.MadeLaws.{length-made}
-use Rattle.row_cells.specs.RowLaws.{length-out}
+use Rattle.row_cells.proofs.RowLaws.{length-out}
 use Rattle.spline_channels.specs.Flat.{Sized, sized_append, length-flatten}
 use Rattle.spline_places.specs.declared.frame.Frame.{Frame}
 use Rattle.spline_places.specs.Sizes.{size_of, samples_of}

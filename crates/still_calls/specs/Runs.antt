@@ -22,7 +22,7 @@ use Rattle.demand_calls.specs.Runs.{Call, pushing, seeding, closing, accepts, wr
 use Rattle.demand_state.specs.Accepted.{state-words, few-axes, saved, pushed}
 use Rattle.demand_state.specs.Lengths.{push_state-length}
 use Rattle.demand_state.specs.StateWords.{same-axes, push-low}
-use Rattle.demand_standing.specs.Stands.{fresh-stands}
+use Rattle.demand_standing.proofs.Stands.{fresh-stands}
 use Rattle.demands.specs.Answers.{close_done, push-done, push-accepted, close-done, close-accepted, seed-left}
 use Rattle.demands.specs.Demand3.{started}
 use Rattle.demands.specs.Demands.{answer}

@@ -6,7 +6,7 @@ use Rattle.floats.specs.Lists.{upto, flatten}
 use Rattle.layout.specs.Layout.{cell_masks}
 use Rattle.motion.specs.Motion.{g_one, last_motion, is_spline}
 use Rattle.row_cells.specs.Row.{motion_of, present_of, row_of, out_row, has_point}
-use Rattle.row_cells.specs.RowLaws.{out-motion, out-mark, out-point}
+use Rattle.row_cells.proofs.RowLaws.{out-motion, out-mark, out-point}
 use Rattle.row_made.specs.Made.{made_row}
 use Rattle.row_made.specs.MadeLaws.{made-is}
 use Rattle.demand_calls.specs.Every.{Every, nil}

@@ -1,5 +1,4 @@
 pub mod Statements
-pub mod Shows
 pub mod Straight
 pub mod Rows
 pub mod Joined

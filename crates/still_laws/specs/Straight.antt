@@ -5,7 +5,7 @@ use Rattle.std.proofs.lemmas.Bool.{false≢true, eqb-false}
 use Rattle.std.proofs.Math.Nat.{le_step}
 use Rattle.floats.specs.Truth.{by_bit, cond-f, and_i, and_right}
 use Rattle.motion.specs.Motion.{g_one, last_motion, curve_kind, is_curve}
-use Rattle.motion.specs.MotionLaws.{straight-kind}
+use Rattle.motion.proofs.MotionLaws.{straight-kind}
 use Rattle.row_cells.specs.Row.{motion_of}
 use Rattle.still_curved.specs.Curved.{row_at, motion_after, motion_behind, shows, still_curved}
 use Rattle.still_laws.specs.Statements.{NeverNone, AlwaysOne, CurvedOrStraight, NotBoth, EachRow}

@@ -1,13 +1,5 @@
 pub mod Jobs
 pub mod Statements
 pub mod ListLaws
-pub mod JobLaws
-pub mod Cut
 pub mod Turned
-pub mod Holds
-pub mod Counts
-pub mod Figures
-pub mod Full
-pub mod Firsts
-pub mod Adding
 pub mod Worked

@@ -3,7 +3,7 @@ use native.Mathlib.Omega.{arith}
 use Rattle.curve_walk.specs.Walks.{eval_of}
 use Rattle.curve_walk.specs.Points.{point-is, point-length, point-room}
 use Rattle.curve_walk.specs.Counting.{counted-zero, counted-flat, counted-halves, counts-one, counts-half, counts-other}
-use Rattle.curve_walk.specs.Remembering.{stored_zero, stored_flat, stored_halves, cursor_one, cursor_half, cursor_other}
+use Rattle.curve_walk.proofs.Remembering.{stored_zero, stored_flat, stored_halves, cursor_one, cursor_half, cursor_other}
 use Rattle.curve_walk.specs.Forms.{stretch-at}
 use Rattle.curve_count.proofs.Owners.{owners_of}
 use Rattle.curve_count.proofs.+count_walk.Goals as goal

@@ -3,7 +3,7 @@ use native.Mathlib.Omega.{arith}
 use lib.ListN.{length}
 use Rattle.curve_walk.specs.Walks.{eval_of}
 use Rattle.curve_walk.specs.Points.{point-is, point-length, point-room}
-use Rattle.curve_walk.specs.Remembering.{flat-known, flat-new, not-flat}
+use Rattle.curve_walk.proofs.Remembering.{flat-known, flat-new, not-flat}
 use Rattle.curve_walk.specs.Forms.{stretch-at}
 use Rattle.curve_write.proofs.Stopping.{leaf_zero, leaf_flat, halves_of, leaf_room, leaf_written, first-half, second-half, both_halves}
 use Rattle.curve_write.proofs.+write_walk.Goals as goal

@@ -1,6 +1,6 @@
 -- `night_try::whole_try` meets its contract. Assumes nothing.
 use Rattle.night_turns.specs.TurnLaws.{first-within}
-use Rattle.night_turns.specs.RunLaws.{try-ran}
+use Rattle.night_turns.proofs.RunLaws.{try-ran}
 use borrow.Author.Rules.{rules}
 use Rattle.night_try.proofs.whole_try.Statement.{statement}
 use Rattle.night_try.proofs.whole_try.Tie as tie

@@ -1,6 +1,6 @@
 use mathlib.Core.Path.{sym, ◌∙◌}
 use Rattle.push_resolve.specs.BlockLaws.{block}
-use Rattle.push_check.specs.DueLaws.{due-saved, due-row, due-full, due-block}
+use Rattle.push_check.proofs.DueLaws.{due-saved, due-row, due-full, due-block}
 use Rattle.saved_state.specs.Checked.{saved-ok}
 use Rattle.push_check.proofs.check_push.Goals as goal
 

@@ -1,7 +1,7 @@
 use mathlib.Core.Path.{sym, ap, ◌∙◌}
 use mathlib.Core.Bool.{not}
 use Rattle.floats.specs.Truth.{and_t, and_f}
-use Rattle.motion.specs.MotionLaws.{other-told}
+use Rattle.motion.proofs.MotionLaws.{other-told}
 use Rattle.push_resolve.proofs.is_news.Goals as goal
 
 pub returns-then-is_other : goal.returns-then-is_other

@@ -1,7 +1,7 @@
 use Prim.Native.Nat.{◌+◌, ◌-◌, ◌*◌, ◌/◌, ◌^◌}
 use mathlib.Core.Path.{◌≡◌, sym, ◌∙◌, subst}
 use native.Mathlib.Omega.{arith}
-use Rattle.root.specs.Normal.{exponent, Taken, bounds, taken_is, law}
+use Rattle.root.proofs.Normal.{exponent, Taken, bounds, taken_is, law}
 use Rattle.root.proofs.of_normal.Goals as goal
 
 digits_are : (c : goal.After-taken) → Taken c.args.b c.taken.result

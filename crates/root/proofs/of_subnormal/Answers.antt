@@ -8,8 +8,8 @@ use lib.Count.{count_leading_zeros, leading_top}
 use lib.Ieee.{binary64, to_bits, of_bits}
 use Rattle.root_near.specs.Nearest.{Nearest}
 use Rattle.root.specs.Root.{sqrt}
-use Rattle.root.specs.Rounded.{pow_lt_back}
-use Rattle.root.specs.Values.{root_pattern, low_value}
+use Rattle.root.proofs.Rounded.{pow_lt_back}
+use Rattle.root.proofs.Values.{root_pattern, low_value}
 use Rattle.root_near.specs.OneNearest.{root_hi}
 use Rattle.root.proofs.of_subnormal.Goals as goal
 use Rattle.root.proofs.of_subnormal.Goals.{then-shift-eq0, else-shift-eq0}

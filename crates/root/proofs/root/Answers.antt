@@ -4,7 +4,7 @@ use lib.Dec.{T}
 use lib.Ieee.{Float, binary64, fits, is_nan, to_bits, of_bits}
 use lib.Ieee.Bits.{of_bits-to_bits, nan_bits_is}
 use Rattle.root.specs.Root.{sqrt}
-use Rattle.root.specs.Holds.{sqrt-fits}
+use Rattle.root.proofs.Holds.{sqrt-fits}
 use Rattle.root.proofs.Signs.{rootless, rooted, number, no_number}
 use Rattle.root.proofs.root.Goals as goal
 

@@ -1,7 +1,7 @@
 use Prim.Native.Nat.{◌-◌}
 use native.Mathlib.Omega.{arith}
 use Rattle.floats.specs.Lists.{keep}
-use Rattle.spline_channels.specs.ChannelLaws.{channel_room, channel_step}
+use Rattle.spline_channels.proofs.ChannelLaws.{channel_room, channel_step}
 use Rattle.spline_channels.specs.Append.{appended_none, appended_all}
 use Rattle.spline_adding.proofs.add_channels.Goals as goal
 

@@ -3,7 +3,7 @@ use Prim.Native.Nat.{◌-◌}
 use native.Mathlib.Omega.{arith}
 use Rattle.floats.specs.Lists.{upto}
 use Rattle.spline_channels.specs.Channels.{channels_from}
-use Rattle.spline_channels.specs.ChannelLaws.{channels-room, channels-step}
+use Rattle.spline_channels.proofs.ChannelLaws.{channels-room, channels-step}
 use Rattle.spline_channels.specs.Append.{appended_none}
 use Rattle.spline_adding.proofs.channels_of.Goals as goal
 

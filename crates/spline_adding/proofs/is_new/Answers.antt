@@ -1,6 +1,6 @@
 use mathlib.Core.Path.{sym, ap, ◌∙◌}
 use mathlib.Core.Bool.{not}
-use Rattle.spline_channels.specs.ChannelLaws.{not_new, maybe_new}
+use Rattle.spline_channels.proofs.ChannelLaws.{not_new, maybe_new}
 use Rattle.spline_adding.proofs.is_new.Goals as goal
 
 pub returns-then-not-programs : goal.returns-then-not-programs

@@ -1,4 +1,4 @@
-use Rattle.spline_channels.specs.ChannelLaws.{block-is}
+use Rattle.spline_channels.proofs.ChannelLaws.{block-is}
 use Rattle.spline_channels.proofs.block.Goals as goal
 
 pub returns : goal.returns

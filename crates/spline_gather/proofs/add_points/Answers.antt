@@ -2,7 +2,7 @@ use mathlib.Core.Path.{◌≡◌, ap, ◌∙◌}
 use Prim.Native.Nat.{◌-◌}
 use native.Mathlib.Omega.{arith}
 use lib.ListN.{length}
-use Rattle.spline_channels.specs.ChannelLaws.{block-length}
+use Rattle.spline_channels.proofs.ChannelLaws.{block-length}
 use Rattle.spline_points.specs.Curve.{points_none, weights-none, points-room, points-step, weights-step}
 use Rattle.spline_gather.proofs.add_points.Goals as goal
 

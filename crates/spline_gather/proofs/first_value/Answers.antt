@@ -1,7 +1,7 @@
 use mathlib.Core.Path.{sym, ap, ◌∙◌}
 use native.Mathlib.Omega.{arith}
 use lib.ListN.{length}
-use Rattle.spline_channels.specs.ChannelLaws.{block-length}
+use Rattle.spline_channels.proofs.ChannelLaws.{block-length}
 use Rattle.spline_points.specs.Curve.{first-is, first_step, first-end}
 use Rattle.spline_gather.proofs.first_value.Goals as goal
 

@@ -1,7 +1,7 @@
 use mathlib.Core.Path.{refl, ap, ◌∙◌}
 use native.Mathlib.Omega.{arith}
 use lib.ListN.{length}
-use Rattle.spline_channels.specs.ChannelLaws.{block-length}
+use Rattle.spline_channels.proofs.ChannelLaws.{block-length}
 use Rattle.spline_rows.proofs.Backward.{backward_none}
 use Rattle.spline_rows.proofs.Spreading.{held-again, spread-again, spread_end}
 use Rattle.spline_rows.proofs.spread.Goals as goal

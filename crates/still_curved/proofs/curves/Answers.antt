@@ -1,4 +1,4 @@
-use Rattle.motion.specs.MotionLaws.{curve-told}
+use Rattle.motion.proofs.MotionLaws.{curve-told}
 use Rattle.still_curved.proofs.curves.Goals as goal
 
 pub returns : goal.returns

@@ -1,6 +1,6 @@
 use mathlib.Core.Path.{refl}
 use native.Mathlib.Omega.{arith}
-use Rattle.curve_walk.specs.Remembering.{stored_one, stored_as, cursor_one}
+use Rattle.curve_walk.proofs.Remembering.{stored_one, stored_as, cursor_one}
 use Rattle.curve_segments.proofs.Segmenting.{from_in, stretch_of_points, counts-at, one-counted, walk_counted, lefts-one, lefts_walk}
 use Rattle.curve_segments.proofs.count.count_segment.Goals as goal
 

@@ -8,13 +8,13 @@ use lib.Ieee.{Float}
 use Rattle.floats.specs.Lists.{filled}
 use Rattle.floats.specs.Fill.{filling-none}
 use Rattle.layout.specs.Layout.{most_points}
-use Rattle.curve_walk.specs.Remembering.{stored_length, stored_as}
+use Rattle.curve_walk.proofs.Remembering.{stored_length, stored_as}
 use Rattle.curve_segments.specs.Stretches.{fit_run_at}
 use Rattle.curve_segments.specs.Lefts.{fit_lefts}
 use Rattle.curve_walk.specs.Lefts.{joined}
 use Rattle.curve_segments.proofs.Segmenting.{run-few, lefts-few, filling-set, fresh_at}
 use Rattle.curve_segments.proofs.Hinting.{pieces_of, segments_as, fresh_as, run_as, lefts_as}
-use Rattle.curve_walk.specs.Joining.{stored_start, stored_more, cursor_part}
+use Rattle.curve_walk.proofs.Joining.{stored_start, stored_more, cursor_part}
 use Rattle.curve_segments.proofs.count.count_segments.Goals as goal
 
 pub overflow_sub-last : goal.overflow_sub-last

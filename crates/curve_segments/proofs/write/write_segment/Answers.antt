@@ -6,7 +6,7 @@ use lib.ListN.{length}
 use lib.Ieee.{Float}
 use Rattle.curve_walk.specs.Walks.{encode}
 use Rattle.curve_walk.specs.Writing.{one-room, written_as}
-use Rattle.curve_walk.specs.Remembering.{recalls_as, cursor_one, passed-one}
+use Rattle.curve_walk.proofs.Remembering.{recalls_as, cursor_one, passed-one}
 use Rattle.curve_segments.proofs.Segmenting.{from_in, stretch_of_points, run-one, run_walk, lefts-one, lefts_walk}
 use Rattle.curve_segments.proofs.write.write_segment.Goals as goal
 

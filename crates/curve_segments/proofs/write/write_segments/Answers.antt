@@ -8,12 +8,12 @@ use Rattle.floats.specs.Lists.{upto, flatten, spliced}
 use Rattle.layout.specs.Layout.{most_points}
 use Rattle.curve_walk.specs.Walks.{encode}
 use Rattle.curve_walk.specs.Writing.{written_as}
-use Rattle.curve_walk.specs.Remembering.{recalls_as}
+use Rattle.curve_walk.proofs.Remembering.{recalls_as}
 use Rattle.curve_segments.specs.Stretches.{fit_run_at}
 use Rattle.curve_segments.specs.Lefts.{fit_lefts}
 use Rattle.curve_segments.proofs.Segmenting.{runs_none, run_room, run-written, lefts-few}
 use Rattle.curve_segments.proofs.Hinting.{pieces_of, count_as, segments_as, run_as, lefts_as}
-use Rattle.curve_walk.specs.Joining.{passed_none, passed-more, recalls_part, cursor_part}
+use Rattle.curve_walk.proofs.Joining.{passed_none, passed-more, recalls_part, cursor_part}
 use Rattle.curve_segments.proofs.write.write_segments.Goals as goal
 
 pub overflow_sub-last : goal.overflow_sub-last

@@ -6,13 +6,13 @@ use Rattle.layout.specs.Layout.{most_points}
 use Rattle.curve_walk.specs.Walks.{eval_of, own_of, counted}
 use Rattle.curve_walk.specs.Forms.{basis-tables}
 use Rattle.curve_walk.specs.Points.{point-is, point-length, point-room}
-use Rattle.curve_walk.specs.Remembering.{stored_as, stored_length}
+use Rattle.curve_walk.proofs.Remembering.{stored_as, stored_length}
 use Rattle.curve_spans.specs.Stretches.{span_samples}
 use Rattle.curve_spans.specs.Lefts.{span_lefts}
 use Rattle.curve_walk.specs.Lefts.{joined}
 use Rattle.bspline_tables.specs.Spans.{whole_in}
 use Rattle.curve_spans.proofs.Spanning.{zero-time, first-point, stretch_of, span-lefts, span_few, count_none, count-more, count_room_lem}
-use Rattle.curve_walk.specs.Joining.{stored_start, stored_more, cursor_part}
+use Rattle.curve_walk.proofs.Joining.{stored_start, stored_more, cursor_part}
 use Rattle.curve_spans.proofs.count.count_spline.Goals as goal
 
 pub overflow_sub-spans : goal.overflow_sub-spans

@@ -8,13 +8,13 @@ use Rattle.layout.specs.Layout.{most_points}
 use Rattle.curve_walk.specs.Walks.{encode, eval_of, points_of}
 use Rattle.curve_walk.specs.Forms.{basis-tables}
 use Rattle.curve_walk.specs.Points.{point-is, point-length, point-room}
-use Rattle.curve_walk.specs.Remembering.{recalls_as}
+use Rattle.curve_walk.proofs.Remembering.{recalls_as}
 use Rattle.curve_spans.specs.Stretches.{span_samples}
 use Rattle.curve_spans.specs.Lefts.{span_lefts}
 use Rattle.bspline_tables.specs.Spans.{whole_in}
 use Rattle.curve_spans.proofs.Spanning.{zero-time, first-point, stretch_of, span-lefts, span_few}
 use Rattle.curve_spans.proofs.Spanning.{room-more, write_none, write_room, write_more}
-use Rattle.curve_walk.specs.Joining.{passed_none, passed-more, recalls_part, cursor_part}
+use Rattle.curve_walk.proofs.Joining.{passed_none, passed-more, recalls_part, cursor_part}
 use Rattle.curve_spans.proofs.write.write_spline.Goals as goal
 
 pub overflow_sub-spans : goal.overflow_sub-spans

@@ -2,7 +2,7 @@ use mathlib.Core.Path.{◌≡◌, refl, ap, ◌∙◌}
 use Prim.Native.Nat.{◌-◌}
 use native.Mathlib.Omega.{arith}
 use lib.ListN.{length}
-use Rattle.spline_channels.specs.ChannelLaws.{block-length}
+use Rattle.spline_channels.proofs.ChannelLaws.{block-length}
 use Rattle.spline_places.specs.Sizes.{place_to}
 use Rattle.spline_places.specs.SizeLaws.{place-step, place-room}
 use Rattle.spline_places.proofs.place.total.Goals as goal

@@ -1,0 +1,4 @@
+pub mod Long
+pub mod OutputLaws
+pub mod QuietLines
+pub mod RefusedLines
