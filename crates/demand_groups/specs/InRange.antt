@@ -1,6 +1,7 @@
 -- LAWS. A number that refusal 3 lets pass is finite and of modest size; and when two numbers are equal, counting -0 as 0. Assumes nothing.
 use Rattle.std.specs.Prelude.{ℕ, zero, suc, ◌+◌, ◌*◌, ◌/◌, ◌%◌, ◌^◌, ◌≤◌, ◌<◌, ◌≡◌, refl, Bool, true, false, T, leb, Float, pos}
-use Rattle.std.proofs.Common.{sym, ◌∙◌, ap, subst, arith, le_trans, mul-le-mul_right, mul_right_comm, le_of_mul-le-mul_right, le_of_eq, zero-mul, leb-true, eq-eqb, ne_eqb, pow_pos, pow-add, pow_mono}
+use Rattle.std.proofs.Common.{sym, ◌∙◌, ap, subst, arith, le_trans, mul-le-mul_right, mul_right_comm, le_of_mul-le-mul_right, le_of_eq, zero-mul}
+use Rattle.std.proofs.Common.{leb-true, eq-eqb, ne_eqb, pow_pos, pow-add, pow_mono}
 use Rattle.std.specs.Bool.{beq}
 use Rattle.std.proofs.Math.Bool.{or-true}
 use Rattle.std.specs.Float.{nan, inf, fin, binary64}

@@ -12,7 +12,8 @@ use Rattle.std.proofs.Math.ListN.{length, get_or}
 use Rattle.std.proofs.Math.Dec.{eqb}
 use borrow.Author.Tests.{eqb-true, eqb-false, eq-eqb}
 use Rattle.floats.specs.Lists.{upto, member, spliced}
-use Rattle.layout.specs.Layout.{w_axis_count, axis_codes, c_sd, row_words, w_axes, w_known, w_start, w_motion, w_plane, w_degree, w_held, state_words, list_codes}
+use Rattle.layout.specs.Layout.{w_axis_count, axis_codes, c_sd, row_words, w_axes, w_known, w_start, w_motion, w_plane, w_degree, w_held, state_words}
+use Rattle.layout.specs.Layout.{list_codes}
 use Rattle.layout.specs.Layout.{w_tolerance}
 use Rattle.motion.specs.Motion.{is_spline}
 use Rattle.row_cells.specs.Codes.{geometric_of}

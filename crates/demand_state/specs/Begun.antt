@@ -11,7 +11,8 @@ use Rattle.motion.specs.Motion.{last_motion}
 use Rattle.floats.specs.Lists.{member, all}
 use Rattle.floats.specs.Fill.{length-upto}
 use Rattle.floats.specs.Truth.{by_bit, cond-t, cond-f, and_i, all_ext}
-use Rattle.layout.specs.Layout.{w_tolerance, w_axis_count, row_words, w_axes, w_motion, w_plane, w_known, w_start, w_degree, w_held, state_words, most_degree, axis_codes}
+use Rattle.layout.specs.Layout.{w_tolerance, w_axis_count, row_words, w_axes, w_motion, w_plane, w_known, w_start, w_degree, w_held, state_words}
+use Rattle.layout.specs.Layout.{most_degree, axis_codes}
 use Rattle.layout.specs.Layout.{list_codes}
 use Rattle.row_cells.specs.Codes.{plane_xy, plane_yz}
 use Rattle.row_numbers.specs.RowNumbers.{within}

@@ -1,5 +1,5 @@
 -- LAWS. 8.13: the rows worked out by hand, as one theorem over the list. Assumes nothing.
-use Rattle.std.specs.Prelude.{ℕ, ◌≡◌, List, [], ◌∷◌, ◌++◌, map}
+use Rattle.std.specs.Prelude.{◌≡◌, [], ◌∷◌, ◌++◌, map}
 use Rattle.demands.specs.Starred.{w10, w30, row, started, turning, chord, circle, bent, tolerances, turns, chords_2, chords_3, circles, bspline}
 
 -- the whole list

@@ -17,7 +17,8 @@ use Rattle.row_cells.specs.Codes.{plane_u, plane_v}
 use Rattle.row_cells.specs.Row.{cell, line_of, mark_of}
 use Rattle.row_made.specs.Made.{made_row}
 use Rattle.floats.specs.Truth.{by_bit, cond-t, cond-f}
-use Rattle.arc_answer.specs.Arc.{Answer, passed, silent, Centre, centred, warned, Ends, Arc, wanted_of, count_of, last_cell, mid_cell, arc_row, arc_rows, from_centre}
+use Rattle.arc_answer.specs.Arc.{Answer, passed, silent, Centre, centred, warned, Ends, Arc, wanted_of, count_of, last_cell, mid_cell, arc_row}
+use Rattle.arc_answer.specs.Arc.{arc_rows, from_centre}
 use Rattle.arc_answer.specs.Arc.{from_start, arc_answer}
 use Rattle.call_answer.specs.Answer.{answer_as}
 use Rattle.demand_calls.specs.Laws.{none-some, cond_both}

@@ -1,6 +1,8 @@
 -- LAWS. The order of floats: `le` is transitive, and a difference above zero tells it. Assumes nothing.
-use Rattle.std.specs.Prelude.{◌≡◌, refl, ◌⊎◌, Bool, true, false, not, ◌&&◌, ◌||◌, cond, ℕ, zero, suc, ◌+◌, ◌-◌, ◌*◌, ◌^◌, ◌≤◌, ◌<◌, T, ltb, eqb, ℤ, negsuc, Float}
-use Rattle.std.proofs.Common.{sym, inl, inr, ⊎_elim, zero-mul, eq-or-lt_of_le, mul-pos, zero-lt-suc, arith, lt-ltb, le-ltb, eq-eqb, ltb-true, ltb-false, ltb→lt, eqb→eq}
+use Rattle.std.specs.Prelude.{◌≡◌, refl, ◌⊎◌, Bool, true, false, not, ◌&&◌, ◌||◌, cond, ℕ, zero, suc, ◌+◌, ◌-◌, ◌*◌, ◌^◌, ◌≤◌, ◌<◌, T, ltb, eqb, ℤ}
+use Rattle.std.specs.Prelude.{negsuc, Float}
+use Rattle.std.proofs.Common.{sym, inl, inr, ⊎_elim, zero-mul, eq-or-lt_of_le, mul-pos, zero-lt-suc, arith, lt-ltb, le-ltb, eq-eqb, ltb-true}
+use Rattle.std.proofs.Common.{ltb-false, ltb→lt, eqb→eq}
 use Rattle.std.specs.Float.{nan, inf, fin, Format, binary64}
 use Rattle.std.specs.Float.Ieee.{prec, emax, low, up, down, below, level, odd, units, round, sum, add, sub, neg, lt, eq, le, of_bits, of_fields}
 use Rattle.std.specs.Float.Ieee.Fits.{down_pos, and_l, and_r}

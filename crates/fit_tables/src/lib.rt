@@ -159,6 +159,7 @@ fn lay_most(
 }
 
 // The same in work memory for `size` numbers. It calls itself so that each memory has a frame of its own (crate spline_emit).
+#[inline(never)]
 fn lay_for(
     size: usize,
     cubic: bool,

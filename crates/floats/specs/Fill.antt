@@ -1,7 +1,8 @@
 -- LAWS. `upto` and `filled`: a slice that a loop fills from the front. Assumes nothing.
 use Rattle.std.specs.Prelude.{◌≡◌, ◌⊎◌, length, get_or, drop, set, Bool, true, false, ltb, Float}
 use Rattle.std.proofs.Math.Path.{refl}
-use Rattle.std.proofs.Common.{sym, ◌∙◌, ap, suc-mul, mul-le-mul_right, le_trans, eq-or-lt_of_le, ne_of_gt, inl, inr, arith, length-drop, length-set, ltb-true, ltb-false, get_or-set_same, get_or-set_other, get_or-append-add, get_or-drop, drop-set-lt, ext_get_or}
+use Rattle.std.proofs.Common.{sym, ◌∙◌, ap, suc-mul, mul-le-mul_right, le_trans, eq-or-lt_of_le, ne_of_gt, inl, inr, arith, length-drop, length-set}
+use Rattle.std.proofs.Common.{ltb-true, ltb-false, get_or-set_same, get_or-set_other, get_or-append-add, get_or-drop, drop-set-lt, ext_get_or}
 use mathlib.Core.List.{List, [], ◌∷◌, ◌++◌, append-nil}
 use Prim.Native.Nat.{ℕ, zero, suc, ◌+◌, ◌*◌, ◌-◌, ◌<◌, ◌≤◌}
 use Rattle.std.proofs.Math.Numerals.{add-one}
@@ -54,7 +55,8 @@ module _ {A : Type 0} (f : ℕ → A) where
   past-filled l n k d h =
       let e : k ≡ length (upto f n) + (k - n) = rw (length-upto n) (omega arith) in
       let g : n + (k - n) ≡ k = omega arith in
-      ap (λ (j : ℕ). get_or (filled f n l) j d) e ∙ get_or-append-add (upto f n) (drop n l) (k - n) d ∙ get_or-drop n l (k - n) d ∙ ap (λ (j : ℕ). get_or l j d) g
+      ap (λ (j : ℕ). get_or (filled f n l) j d) e ∙ get_or-append-add (upto f n) (drop n l) (k - n) d ∙ get_or-drop n l (k - n) d ∙ ap (λ (j : ℕ).
+          get_or l j d) g
 
 pub upto-same : {A : Type 0} (f g : ℕ → A) → ((k : ℕ) → f k ≡ g k) → (n : ℕ) → upto f n ≡ upto g n
 unfolding upto

@@ -1,6 +1,7 @@
 -- LAWS. `spliced`: words written over a list from a place on. Assumes nothing.
 use Rattle.std.specs.Prelude.{◌≡◌, refl, List, [], ◌∷◌, ◌++◌, ℕ, ◌+◌, ◌-◌, ◌<◌, ◌≤◌, length, get_or, take, drop, set}
-use Rattle.std.proofs.Common.{sym, ◌∙◌, ap, append_assoc, add-one, add_assoc, arith, length-append, length-drop, length-set, take-append-drop, length-take-le, take_at, drop-drop, get_or-take, get_or-drop, get_or-append-add}
+use Rattle.std.proofs.Common.{sym, ◌∙◌, ap, append_assoc, add-one, add_assoc, arith, length-append, length-drop, length-set, take-append-drop}
+use Rattle.std.proofs.Common.{length-take-le, take_at, drop-drop, get_or-take, get_or-drop, get_or-append-add}
 use Rattle.std.proofs.Math.ListN.{get_or-append}
 use Rattle.std.proofs.Math.Seq.{drop-append-add}
 use Rattle.std.proofs.lemmas.List.{set_split}

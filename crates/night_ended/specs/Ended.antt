@@ -23,7 +23,7 @@ use Rattle.night_course.specs.declared.Course.{Course}
 use Rattle.night_course.specs.Course.{is_open, if_told}
 use Rattle.night_refusal.specs.Refusal.{turned_down, stands_then}
 use Rattle.night_answer.specs.Answer.{heard, answered, done_by, stands_on}
-use Rattle.night_spec.specs.Try.{Stand, called, on_close, closes, shuts, ends, night_end}
+use Rattle.night_spec.specs.Try.{Stand, called, on_close, closes, shuts}
 
 -- ---- a close that leaves a try open was heard as refused by 10
 open_heard : (t : Ticket) (c : Course) (q : Reply) (rows : List ℕ) (k : ℕ) → is_open (if_told k (answered t c k_close q rows).course).stands ≡ true

@@ -1,6 +1,7 @@
 -- LAWS. Turns one after another do to what they read what the definition of a try says. Assumes nothing.
 use Rattle.std.specs.Prelude.{ℕ, ◌+◌, ◌-◌, ◌≤◌, ◌<◌, ◌^◌, ◌⊎◌, ◌≡◌, refl, List, [], ◌++◌, eqb, length, take, drop}
-use Rattle.std.proofs.Common.{zero-le, inl, inr, ⊎_elim, sym, ap, ap₂, ◌∙◌, subst, append-nil, append_assoc, arith, length-append, length-drop, take-append-drop, take-take, take-add, drop-drop, length-take-le, eqb-true}
+use Rattle.std.proofs.Common.{zero-le, inl, inr, ⊎_elim, sym, ap, ap₂, ◌∙◌, subst, append-nil, append_assoc, arith, length-append, length-drop}
+use Rattle.std.proofs.Common.{take-append-drop, take-take, take-add, drop-drop, length-take-le, eqb-true}
 use Rattle.std.proofs.Math.Nat.{sub-zero}
 use Rattle.std.proofs.lemmas.Bool.{eqb-false}
 use Rattle.floats.specs.Truth.{by_bit, cond-t, cond-f}

@@ -34,7 +34,8 @@ position-mask st m k l =
     (get_or-set_other st w_start (w_known + 1 + k) m 0 (λ e. omega arith))
 
 pub open_done : (st t : List ℕ) → length st ≡ state_words
-    → t ≡ spliced (set st w_start (get_or st w_known 0)) (w_start + 1) (upto (λ (k : ℕ). Option.get_or (position (set st w_start (get_or st w_known 0)) k) 0) axis_codes)
+    → t ≡ spliced (set st w_start (get_or st w_known 0)) (w_start + 1) (upto (λ (k : ℕ). Option.get_or (position (set st w_start (get_or st w_known
+        0)) k) 0) axis_codes)
     → set t w_degree plain_degree ≡ opened st
 unfolding opened
 open_done st t h e =
@@ -47,6 +48,7 @@ open_done st t h e =
     ∙ spliced-spliced st w_start (get_or st w_known 0 ∷ []) (upto (λ (k : ℕ). Option.get_or (position st k) 0) axis_codes) (omega arith))
 
 pub open_length : (st t : List ℕ) → length st ≡ state_words
-    → t ≡ spliced (set st w_start (get_or st w_known 0)) (w_start + 1) (upto (λ (k : ℕ). Option.get_or (position (set st w_start (get_or st w_known 0)) k) 0) axis_codes)
+    → t ≡ spliced (set st w_start (get_or st w_known 0)) (w_start + 1) (upto (λ (k : ℕ). Option.get_or (position (set st w_start (get_or st w_known
+        0)) k) 0) axis_codes)
     → length (set t w_degree plain_degree) ≡ length st
 open_length st t h e = ap length (open_done st t h e) ∙ (same-opened st h).long

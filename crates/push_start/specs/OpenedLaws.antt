@@ -1,6 +1,7 @@
 -- LAWS. What a change of the state keeps: the axis list, the words below the curve start. Assumes nothing.
 use Rattle.std.specs.Prelude.{ℕ, ◌+◌, ◌-◌, ◌<◌, ◌≤◌, ◌≡◌, refl, Bool, true, false, cond, List, ◌∷◌, length, get_or, set, take, drop}
-use Rattle.std.proofs.Common.{sym, ◌∙◌, ap, arith, length-set, length-take, length-drop, get_or-set_other, get_or-set_same, get_or-take, get_or-drop, ext_get_or}
+use Rattle.std.proofs.Common.{sym, ◌∙◌, ap, arith, length-set, length-take, length-drop, get_or-set_other, get_or-set_same, get_or-take, get_or-drop}
+use Rattle.std.proofs.Common.{ext_get_or}
 use Rattle.std.proofs.Math.Option
 use Rattle.floats.specs.Lists.{upto, spliced}
 use Rattle.floats.specs.Fill.{length-upto}
@@ -57,7 +58,8 @@ same-spliced st i ws h l = record { long = length-spliced st i ws l; low = λ j 
 pub placed-keeps : (st : List ℕ) (k x j : ℕ) → (j ≡ w_known → ⊥) → (j ≡ w_known + 1 + k → ⊥) → get_or (placed st k x) j 0 ≡ get_or st j 0
 unfolding placed
 placed-keeps st k x j a b =
-    get_or-set_other (set st w_known (with_bit (get_or st w_known 0) k)) (w_known + 1 + k) j x 0 b ∙ get_or-set_other st w_known j (with_bit (get_or st w_known 0) k) 0 a
+    get_or-set_other (set st w_known (with_bit (get_or st w_known 0) k)) (w_known + 1 + k) j x 0 b ∙ get_or-set_other st w_known j (with_bit (get_or
+        st w_known 0) k) 0 a
 
 -- ---- the curve start, forgotten and opened
 abbrev pub none-at : ℕ → ℕ

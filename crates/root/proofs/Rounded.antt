@@ -1,7 +1,9 @@
 -- LAWS. `root_units` at M * 2 ^ 52 times an even power of two, for an M of 53 or 54 digits. Assumes nothing.
 -- It is R * 2 ^ k, for the whole number R nearest to the root of M * 2 ^ 52.
 use Rattle.std.specs.Prelude.{◌≡◌, refl, false, Float}
-use Rattle.std.proofs.Common.{sym, ap, ◌∙◌, subst, le_trans, le_of_eq, lt_of_lt_of_le, lt_of_le_of_lt, lt_of_not-le, lt_irrefl, mul-pos, mul_assoc, mul_comm, mul_left_comm, mul-le-mul_right, mul-lt-mul_of_pos_right, mul-div_cancel, lt_of_mul-lt-mul_right, arith, pow-add, pow_pos, pow_mono}
+use Rattle.std.proofs.Common.{sym, ap, ◌∙◌, subst, le_trans, le_of_eq, lt_of_lt_of_le, lt_of_le_of_lt, lt_of_not-le, lt_irrefl, mul-pos, mul_assoc}
+use Rattle.std.proofs.Common.{mul_comm, mul_left_comm, mul-le-mul_right, mul-lt-mul_of_pos_right, mul-div_cancel, lt_of_mul-lt-mul_right, arith}
+use Rattle.std.proofs.Common.{pow-add, pow_pos, pow_mono}
 use Prim.Native.Nat.{ℕ, suc, ◌+◌, ◌-◌, ◌*◌, ◌/◌, ◌^◌, ◌≤◌, ◌<◌, Ordering, compare}
 use Rattle.std.proofs.Math.Nat.{eq_of_mul-eq-mul_right}
 use Rattle.std.specs.Float.{binary64}

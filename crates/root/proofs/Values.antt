@@ -1,6 +1,7 @@
 -- LAWS. The root of a number above 0 by its size in units of the smallest value: the bits of `sqrt`'s result, and what a pattern's size is. Assumes nothing.
 use Rattle.std.specs.Prelude.{◌≡◌, ℕ, zero, suc, ◌+◌, ◌-◌, ◌*◌, ◌/◌, ◌%◌, ◌^◌, ◌≤◌, ◌<◌, Bool, false, not, cond, T, leb, eqb, Float}
-use Rattle.std.proofs.Common.{sym, ap, ◌∙◌, subst, le_trans, le_of_eq, lt_of_lt_of_le, lt_of_le_of_lt, lt_irrefl, zero-mul, zero-add, mul-one, mul_assoc, mul-pos, mul-le-mul_right, mul-div_cancel, mod-eq_of_lt, arith, eqb→eq, pow-add, pow_pos, pow_mono, shl_lt}
+use Rattle.std.proofs.Common.{sym, ap, ◌∙◌, subst, le_trans, le_of_eq, lt_of_lt_of_le, lt_of_le_of_lt, lt_irrefl, zero-mul, zero-add, mul-one}
+use Rattle.std.proofs.Common.{mul_assoc, mul-pos, mul-le-mul_right, mul-div_cancel, mod-eq_of_lt, arith, eqb→eq, pow-add, pow_pos, pow_mono, shl_lt}
 use Rattle.std.proofs.Math.Dec.{not_T}
 use Rattle.std.proofs.Math.Arith.{lt→nleb}
 use Rattle.std.specs.Float.{nan, inf, fin, binary64}

@@ -1,6 +1,9 @@
 -- LAWS. Single bits, masks put together bit by bit, and the axes that a mask has. Assumes nothing.
-use Rattle.std.specs.Prelude.{ℕ, zero, suc, ◌+◌, ◌-◌, ◌*◌, ◌/◌, ◌%◌, ◌^◌, ◌<◌, ◌≤◌, ◌≡◌, refl, Bool, true, false, cond, ◌&&◌, ◌||◌, List, [], ◌∷◌, ◌++◌, eqb, ltb, length}
-use Rattle.std.proofs.Common.{sym, ◌∙◌, ap, ap₂, subst, ⊎_elim, arith, add-one, div-lt_iff_lt-mul, mul_comm, pow-suc, lt_of_lt_of_le, eq-or-lt_of_le, le_of_suc-le-suc, mod-eq_of_lt, pow_pos, pow-add, pow_mono, shr-shr, eqb-true, eq-eqb, ne_eqb, ltb-true, ltb-false, lt-ltb, le-ltb}
+use Rattle.std.specs.Prelude.{ℕ, zero, suc, ◌+◌, ◌-◌, ◌*◌, ◌/◌, ◌%◌, ◌^◌, ◌<◌, ◌≤◌, ◌≡◌, refl, Bool, true, false, cond, ◌&&◌, ◌||◌, List, [], ◌∷◌}
+use Rattle.std.specs.Prelude.{◌++◌, eqb, ltb, length}
+use Rattle.std.proofs.Common.{sym, ◌∙◌, ap, ap₂, subst, ⊎_elim, arith, add-one, div-lt_iff_lt-mul, mul_comm, pow-suc, lt_of_lt_of_le, eq-or-lt_of_le}
+use Rattle.std.proofs.Common.{le_of_suc-le-suc, mod-eq_of_lt, pow_pos, pow-add, pow_mono, shr-shr, eqb-true, eq-eqb, ne_eqb, ltb-true, ltb-false}
+use Rattle.std.proofs.Common.{lt-ltb, le-ltb}
 use Rattle.std.proofs.Math.Bool.{and-false, or-false, or-true}
 use Rattle.std.proofs.lemmas.Bool.{false≢true, eqb-false}
 use Rattle.std.proofs.Math.Option.{Option, none, some}

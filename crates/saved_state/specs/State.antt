@@ -3,7 +3,8 @@ use Rattle.std.specs.Prelude.{ℕ, ◌+◌, ◌*◌, Bool, ◌&&◌, ◌||◌, n
 use Rattle.std.proofs.Math.Option.{Option, none, some}
 use Rattle.floats.specs.Numbers.{num}
 use Rattle.floats.specs.Lists.{upto, member, all}
-use Rattle.layout.specs.Layout.{axis_codes, axis_masks, list_codes, last_code, row_words, most_held, most_degree, state_words, w_tolerance, w_axis_count, w_axes}
+use Rattle.layout.specs.Layout.{axis_codes, axis_masks, list_codes, last_code, row_words, most_held, most_degree, state_words, w_tolerance}
+use Rattle.layout.specs.Layout.{w_axis_count, w_axes}
 use Rattle.layout.specs.Layout.{w_motion, w_plane, w_known, w_start, w_degree, w_held}
 use Rattle.motion.specs.Motion.{is_spline, last_motion}
 use Rattle.row_cells.specs.Codes.{plane_xy, plane_yz, geometric_of}

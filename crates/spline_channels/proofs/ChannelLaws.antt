@@ -1,6 +1,8 @@
 -- LAWS. The channels are geometric axes, no code twice, at most as many as there are axes. Assumes nothing.
-use Rattle.std.specs.Prelude.{ℕ, zero, suc, ◌+◌, ◌*◌, ◌-◌, ◌≤◌, ◌<◌, ◌≡◌, refl, Bool, true, false, cond, not, ◌&&◌, ◌||◌, List, [], ◌∷◌, ◌++◌, eqb, ltb, length, get_or, take, drop}
-use Rattle.std.proofs.Common.{sym, ◌∙◌, ap, true≢false, add-one, arith, eqb-true, eq-eqb, ltb-true, eq-or-lt_of_le, le_of_suc-le-suc, ⊎_elim, length-append, length-drop, length-take-le, get_or-take, get_or-drop}
+use Rattle.std.specs.Prelude.{ℕ, zero, suc, ◌+◌, ◌*◌, ◌-◌, ◌≤◌, ◌<◌, ◌≡◌, refl, Bool, true, false, cond, not, ◌&&◌, ◌||◌, List, [], ◌∷◌, ◌++◌, eqb}
+use Rattle.std.specs.Prelude.{ltb, length, get_or, take, drop}
+use Rattle.std.proofs.Common.{sym, ◌∙◌, ap, true≢false, add-one, arith, eqb-true, eq-eqb, ltb-true, eq-or-lt_of_le, le_of_suc-le-suc, ⊎_elim}
+use Rattle.std.proofs.Common.{length-append, length-drop, length-take-le, get_or-take, get_or-drop}
 use Rattle.std.proofs.lemmas.Bool.{false≢true, not-true}
 use Rattle.std.proofs.Math.Bool.{and-false, and_assoc, or-true}
 use Rattle.layout.specs.Layout.{axis_codes, row_words, r_present}

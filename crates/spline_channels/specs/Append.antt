@@ -1,6 +1,7 @@
 -- LAWS. Appending: a slice whose first elements are written one after another. Assumes nothing.
 use Rattle.std.specs.Prelude.{ℕ, ◌+◌, ◌≤◌, ◌<◌, ◌≡◌, refl, Bool, true, false, List, [], ◌∷◌, ◌++◌, length, get_or, take, set}
-use Rattle.std.proofs.Common.{sym, ◌∙◌, ap, append-nil, append_assoc, add_assoc, arith, length-append, length-set, length-take-le, take_at, take-take, take_all, take-suc-set}
+use Rattle.std.proofs.Common.{sym, ◌∙◌, ap, append-nil, append_assoc, add_assoc, arith, length-append, length-set, length-take-le, take_at, take-take}
+use Rattle.std.proofs.Common.{take_all, take-suc-set}
 use Rattle.std.proofs.Math.Numerals.{add-one}
 use Rattle.floats.specs.Lists.{upto, keep}
 use Rattle.spline_channels.specs.Gathers.{Appended}

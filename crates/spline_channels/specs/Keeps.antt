@@ -2,7 +2,8 @@
 use Prim.Native.Nat.{ℕ, zero, suc, ◌+◌, ◌≤◌, ◌<◌}
 use Rattle.std.specs.Prelude.{◌≡◌, Bool, ◌&&◌, ◌||◌, eqb, ltb, get_or, take, drop}
 use Rattle.std.proofs.Math.Path.{refl, ap}
-use Rattle.std.proofs.Common.{sym, ◌∙◌, add-one, eq-eqb, ne_eqb, lt-ltb, le-ltb, ltb-true, ltb-false, length-append, take-append-drop, drop_of_length-le, take-suc}
+use Rattle.std.proofs.Common.{sym, ◌∙◌, add-one, eq-eqb, ne_eqb, lt-ltb, le-ltb, ltb-true, ltb-false, length-append, take-append-drop}
+use Rattle.std.proofs.Common.{drop_of_length-le, take-suc}
 use Rattle.std.proofs.Math.Bool.{true, false, cond, or-true}
 use mathlib.Core.List.{List, [], ◌∷◌, ◌++◌}
 use native.Mathlib.Omega.{arith}

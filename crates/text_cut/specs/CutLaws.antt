@@ -1,6 +1,7 @@
 -- LAWS. The first line of an input and the others, an input that comes in pieces, the search for an LF. Assumes nothing.
 use Rattle.std.specs.Prelude.{ℕ, suc, ◌+◌, ◌-◌, ◌≤◌, ◌<◌, ◌≡◌, refl, Bool, true, false, cond, List, [], ◌∷◌, ◌++◌, eqb, length, take, drop, get_or, set}
-use Rattle.std.proofs.Common.{zero-le, sym, ap, ◌∙◌, subst, append-nil, append_assoc, arith, length-drop, drop-cons, length-take-le, get_or-append-add, get_or-drop, eq-eqb, ne_eqb}
+use Rattle.std.proofs.Common.{zero-le, sym, ap, ◌∙◌, subst, append-nil, append_assoc, arith, length-drop, drop-cons, length-take-le, get_or-append-add}
+use Rattle.std.proofs.Common.{get_or-drop, eq-eqb, ne_eqb}
 use Rattle.std.proofs.Math.Seq.{paste, paste-suc}
 use Rattle.std.proofs.lemmas.List.Edits.{take-paste, length-paste}
 use Rattle.text_cut.specs.Cut.{lf, cut, lines_from, rest_from, between}

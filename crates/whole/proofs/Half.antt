@@ -1,5 +1,7 @@
 -- LAWS. What the code of `half_up_count` finds by tests on floats is `half_up_of`. Assumes nothing.
-use Rattle.std.proofs.Common.{◌≡◌, ℕ, ◌+◌, ◌-◌, ◌*◌, ◌/◌, ◌^◌, ◌<◌, ◌≤◌, Bool, true, false, cond, ltb, ℤ, pos, sym, refl, ap, ◌∙◌, subst, true≢false, lt_of_lt_of_le, zero-lt-suc, mul_assoc, div-lt_iff_lt-mul, add-mul, mul-lt-mul_of_pos_right, mul-pos, one-mul, mul-one, mul_right_comm, div-mul-le_self, mul_left_comm, arith, lit<, lit≤, ltb-false, ltb-true, lt-ltb}
+use Rattle.std.proofs.Common.{◌≡◌, ℕ, ◌+◌, ◌-◌, ◌*◌, ◌/◌, ◌^◌, ◌<◌, ◌≤◌, Bool, true, false, cond, ltb, ℤ, pos, sym, refl, ap, ◌∙◌, subst, true≢false}
+use Rattle.std.proofs.Common.{lt_of_lt_of_le, zero-lt-suc, mul_assoc, div-lt_iff_lt-mul, add-mul, mul-lt-mul_of_pos_right, mul-pos, one-mul, mul-one}
+use Rattle.std.proofs.Common.{mul_right_comm, div-mul-le_self, mul_left_comm, arith, lit<, lit≤, ltb-false, ltb-true, lt-ltb}
 use mathlib.Core.Bool.{false≢true}
 use native.Mathlib.Nat.{div-eq_of_lt-le, lt-div-mul-add}
 use lib.Ieee.{Float, nan, inf, fin, binary64, up, down, lt, add, of_bits, of_int, to_unsigned, round}

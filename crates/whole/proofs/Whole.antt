@@ -1,5 +1,7 @@
 -- LAWS. What the code of `ceil_count` finds by tests on floats is `ceil_of`. Assumes nothing.
-use Rattle.std.proofs.Common.{◌≡◌, ℕ, ◌+◌, ◌-◌, ◌*◌, ◌/◌, ◌<◌, ◌≤◌, Bool, true, false, cond, T, ltb, ℤ, pos, sym, refl, ap, ◌∙◌, true≢false, mul-le-mul_right, div-lt_iff_lt-mul, add-mul, mul-lt-mul_of_pos_right, one-mul, mul-one, mul_right_comm, div-mul-le_self, arith, lt→ltb, ltb-false, ltb-true, le-ltb, lt-ltb}
+use Rattle.std.proofs.Common.{◌≡◌, ℕ, ◌+◌, ◌-◌, ◌*◌, ◌/◌, ◌<◌, ◌≤◌, Bool, true, false, cond, T, ltb, ℤ, pos, sym, refl, ap, ◌∙◌, true≢false}
+use Rattle.std.proofs.Common.{mul-le-mul_right, div-lt_iff_lt-mul, add-mul, mul-lt-mul_of_pos_right, one-mul, mul-one, mul_right_comm, div-mul-le_self}
+use Rattle.std.proofs.Common.{arith, lt→ltb, ltb-false, ltb-true, le-ltb, lt-ltb}
 use mathlib.Core.Bool.{false≢true}
 use native.Mathlib.Nat.{div-eq_of_lt-le, lt-div-mul-add}
 use lib.Ieee.{Float, nan, inf, fin, binary64, up, down, lt, of_bits, of_int, to_unsigned, round}

@@ -1,3 +1,4 @@
+-- `arc_block::held_axes`: the answers to its goals. Assumes nothing.
 use native.Mathlib.Omega.{arith}
 use Rattle.arc_block.proofs.Points.{held-bits}
 use Rattle.arc_block.proofs.held_axes.Goals as goal

@@ -1,3 +1,4 @@
+-- `arc_block::is_silent`: the answers to its goals. Assumes nothing.
 use Rattle.arc_block.specs.Block.{silent_at}
 use Rattle.arc_block.proofs.is_silent.Goals as goal
 

@@ -1,3 +1,4 @@
+-- `arc_centre::side`: the answers to its goals. Assumes nothing.
 use Rattle.arc_centre.specs.Centre.{side_of}
 use Rattle.arc_centre.proofs.side.Goals as goal
 

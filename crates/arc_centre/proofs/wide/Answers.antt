@@ -1,3 +1,4 @@
+-- `arc_centre::wide`: the answers to its goals. Assumes nothing.
 use Rattle.arc_centre.specs.Centre.{wide_centre}
 use Rattle.arc_centre.proofs.wide.Goals as goal
 

@@ -1,3 +1,4 @@
+-- `arc_ends::cell_number`: the answers to its goals. Assumes nothing.
 use Rattle.row_cells.specs.Row.{cell, number}
 use Rattle.arc_ends.proofs.cell_number.Goals as goal
 

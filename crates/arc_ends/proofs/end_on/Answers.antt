@@ -1,3 +1,4 @@
+-- `arc_ends::end_on`: the answers to its goals. Assumes nothing.
 use Rattle.row_cells.specs.Row.{cell}
 use Rattle.arc_ends.proofs.end_on.Goals as goal
 

@@ -1,3 +1,4 @@
+-- `arc_ends::ends`: the answers to its goals. Assumes nothing.
 use Rattle.arc_block.specs.Block.{ends_at}
 use Rattle.arc_ends.proofs.ends.Goals as goal
 

@@ -1,3 +1,4 @@
+-- `arc_ends::seek_centre`: the answers to its goals. Assumes nothing.
 use mathlib.Core.Path.{◌∙◌}
 use Rattle.arc_ends.proofs.seek_centre.Goals as goal
 

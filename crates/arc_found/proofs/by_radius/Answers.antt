@@ -1,3 +1,4 @@
+-- `arc_found::by_radius`: the answers to its goals. Assumes nothing.
 use Rattle.arc_centre.specs.Centre.{cr_centre, wide_centre}
 use Rattle.arc_found.proofs.by_radius.Goals as goal
 

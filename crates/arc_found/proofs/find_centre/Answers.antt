@@ -1,3 +1,4 @@
+-- `arc_found::find_centre`: the answers to its goals. Assumes nothing.
 use Rattle.arc_centre.specs.Centre.{centre_of, wide_centre}
 use Rattle.arc_found.proofs.find_centre.Goals as goal
 

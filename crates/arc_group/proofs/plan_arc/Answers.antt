@@ -1,3 +1,4 @@
+-- `arc_group::plan_arc`: the answers to its goals. Assumes nothing.
 use mathlib.Core.Path.{sym, ◌∙◌}
 use Rattle.arc_rows.specs.Plan.{PlannedFrom}
 use Rattle.arc_rows.specs.PlanLaws.{answer-silent, answer-no-u, answer-no-v, answer-found, pass_planned, planned_as}

@@ -1,3 +1,4 @@
+-- `arc_group::write_arc`: the answers to its goals. Assumes nothing.
 use Rattle.arc_sample.specs.Rowing.{flatten-one}
 use Rattle.arc_rows.specs.Plan.{way_rows}
 use Rattle.arc_group.proofs.write_arc.Goals as goal

@@ -1,3 +1,4 @@
+-- `arc_last::put_ends`: what holds at each turn of its loops. Assumes nothing.
 use Prim.Native.Nat.{◌-◌, ◌≤◌}
 use Rattle.floats.specs.Fill.{Filling}
 use Rattle.layout.specs.Layout.{axis_codes}

@@ -1,3 +1,4 @@
+-- `arc_last::put_last`: the answers to its goals. Assumes nothing.
 use Rattle.arc_words.specs.Words.{last_word}
 use Rattle.arc_words.specs.WordLaws.{two-upto}
 use Rattle.arc_last.proofs.put_last.Goals as goal

@@ -1,3 +1,4 @@
+-- `arc_made::put_mid_row`: the answers to its goals. Assumes nothing.
 use Rattle.arc_made.specs.Drawn.{mid_row}
 use Rattle.arc_made.proofs.put_mid_row.Goals as goal
 

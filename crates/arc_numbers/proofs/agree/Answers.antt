@@ -1,3 +1,4 @@
+-- `arc_numbers::agree`: the answers to its goals. Assumes nothing.
 use Rattle.arc_numbers.specs.Arc.{agree}
 use Rattle.arc_numbers.proofs.agree.Goals as goal
 

@@ -1,3 +1,4 @@
+-- `arc_numbers::arc_of`: the answers to its goals. Assumes nothing.
 use Rattle.arc_numbers.specs.Arc.{arc_of}
 use Rattle.arc_numbers.proofs.arc_of.Goals as goal
 

@@ -1,3 +1,4 @@
+-- `arc_numbers::sweep`: the answers to its goals. Assumes nothing.
 use Rattle.arc_numbers.specs.Arc.{sweep_of}
 use Rattle.arc_numbers.proofs.sweep.Goals as goal
 

@@ -1,3 +1,4 @@
+-- `arc_numbers::sweep_left`: the answers to its goals. Assumes nothing.
 use Rattle.arc_numbers.specs.Arc.{sweep_left}
 use Rattle.arc_numbers.proofs.sweep_left.Goals as goal
 

@@ -1,3 +1,4 @@
+-- `arc_numbers::turned`: the answers to its goals. Assumes nothing.
 use Rattle.arc_numbers.specs.Arc.{turned}
 use Rattle.arc_numbers.proofs.turned.Goals as goal
 

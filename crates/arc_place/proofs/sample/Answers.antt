@@ -1,3 +1,4 @@
+-- `arc_place::sample`: the answers to its goals. Assumes nothing.
 use Rattle.arc_place.proofs.sample.Goals as goal
 
 pub returns : goal.returns

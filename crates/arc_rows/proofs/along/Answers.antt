@@ -1,3 +1,4 @@
+-- `arc_rows::along`: the answers to its goals. Assumes nothing.
 use borrow.Author.Tests.{lt-ltb, le-ltb}
 use Rattle.arc_rows.specs.Plan.{along_plan}
 use Rattle.arc_rows.proofs.along.Goals as goal

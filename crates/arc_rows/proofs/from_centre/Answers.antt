@@ -1,3 +1,4 @@
+-- `arc_rows::from_centre`: the answers to its goals. Assumes nothing.
 use mathlib.Core.Path.{◌∙◌, ap}
 use Rattle.layout.specs.Layout.{axis_codes}
 use Rattle.arc_centre.specs.Types.{centre_is}

@@ -1,3 +1,4 @@
+-- `arc_sample::put_mid_rows`: the answers to its goals. Assumes nothing.
 use Rattle.std.proofs.Common.{◌≡◌, ℕ, ◌-◌, arith}
 use Rattle.arc_sample.specs.Rowing.{rowing_none, rowing_more}
 use Rattle.arc_sample.specs.Draw.{mid-long}

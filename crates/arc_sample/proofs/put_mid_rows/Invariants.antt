@@ -1,3 +1,4 @@
+-- `arc_sample::put_mid_rows`: what holds at each turn of its loops. Assumes nothing.
 use Rattle.std.proofs.Common.{◌-◌, ◌≤◌}
 use Rattle.arc_sample.specs.Rowing.{Rowing}
 use Rattle.arc_made.specs.Drawn.{mids}

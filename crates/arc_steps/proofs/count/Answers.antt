@@ -1,3 +1,4 @@
+-- `arc_steps::count`: the answers to its goals. Assumes nothing.
 use native.Mathlib.Omega.{arith}
 use Rattle.arc_numbers.specs.Arc.{count_of}
 use Rattle.arc_steps.proofs.count.Goals as goal

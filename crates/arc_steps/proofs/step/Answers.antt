@@ -1,3 +1,4 @@
+-- `arc_steps::step`: the answers to its goals. Assumes nothing.
 use Rattle.arc_numbers.specs.Arc.{step_of}
 use Rattle.arc_steps.proofs.step.Goals as goal
 

@@ -1,3 +1,4 @@
+-- `arc_steps::wanted`: the answers to its goals. Assumes nothing.
 use Rattle.arc_numbers.specs.Arc.{wanted_of}
 use Rattle.arc_steps.proofs.wanted.Goals as goal
 

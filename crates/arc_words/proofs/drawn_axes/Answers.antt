@@ -1,3 +1,4 @@
+-- `arc_words::drawn_axes`: the answers to its goals. Assumes nothing.
 use mathlib.Core.Path.{◌∙◌, ap}
 use Prim.Native.Nat.{ℕ}
 use Rattle.row_cells.specs.Bits.{with_bit}

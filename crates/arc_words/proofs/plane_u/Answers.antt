@@ -1,3 +1,4 @@
+-- `arc_words::plane_u`: the answers to its goals. Assumes nothing.
 use native.Mathlib.Omega.{arith}
 use borrow.Author.Tests.{eq-eqb, ne_eqb}
 use Rattle.row_cells.specs.Codes.{plane_u}

@@ -1,3 +1,4 @@
+-- `arc_words::put_sample`: the answers to its goals. Assumes nothing.
 use mathlib.Core.Path.{ap, ◌∙◌}
 use native.Mathlib.Omega.{arith}
 use lib.ListN.{length-set}

@@ -1,3 +1,4 @@
+-- `arc_words::put_starts`: the answers to its goals. Assumes nothing.
 use native.Mathlib.Omega.{arith}
 use Prim.Native.Nat.{◌-◌}
 use Rattle.floats.specs.Fill.{filling-none, filling-more}

@@ -1,3 +1,4 @@
+-- `arc_words::start_on`: the answers to its goals. Assumes nothing.
 use Rattle.row_cells.specs.Row.{shown}
 use Rattle.arc_words.specs.Words.{start_of}
 use Rattle.arc_words.proofs.start_on.Goals as goal

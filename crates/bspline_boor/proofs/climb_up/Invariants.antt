@@ -1,3 +1,4 @@
+-- `bspline_boor::climb_up`: what holds at each turn of its loops. Assumes nothing.
 use Prim.Native.Nat.{◌≤◌, ◌-◌}
 use Rattle.bspline_raise.specs.Climb.{Climbed}
 use Rattle.bspline_boor.proofs.climb_up.Given as goal

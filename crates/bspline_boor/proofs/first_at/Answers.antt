@@ -1,3 +1,4 @@
+-- `bspline_boor::first_at`: the answers to its goals. Assumes nothing.
 use mathlib.Core.Path.{refl}
 use native.Mathlib.Omega.{arith}
 use Rattle.bspline_low.specs.LowLaws.{placed_in, placed-out}

@@ -1,3 +1,4 @@
+-- `bspline_boor::load_row`: the answers to its goals. Assumes nothing.
 use mathlib.Core.Path.{refl, ◌∙◌}
 use Prim.Native.Nat.{ℕ, ◌+◌, ◌*◌, ◌-◌, min}
 use native.Mathlib.Omega.{arith}
@@ -14,7 +15,8 @@ pub load_four-requires : goal.load_four-requires
 load_four-requires c =
     let inv = c.loop-c.invariant in
     let pre = c.requires in
-    record { n_in_bounds = pre.n_in_bounds; c_le_most_wide = (omega (arith, pre.width.few), omega (arith, inv.0.1.0, inv.0.1.1, pre.width.fours, pre.wide_in_bounds)) }
+    record { n_in_bounds = pre.n_in_bounds; c_le_most_wide = (omega (arith, pre.width.few), omega (arith, inv.0.1.0, inv.0.1.1, pre.width.fours,
+        pre.wide_in_bounds)) }
 
 pub loop-c-preserved : goal.loop-c-preserved
 loop-c-preserved c =

@@ -1,3 +1,4 @@
+-- `bspline_boor::number_of`: the answers to its goals. Assumes nothing.
 use mathlib.Core.Path.{refl, ap}
 use Prim.Native.Nat.{ℕ, ◌+◌, ◌*◌}
 use native.Mathlib.Omega.{arith}

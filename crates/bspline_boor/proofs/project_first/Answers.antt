@@ -1,3 +1,4 @@
+-- `bspline_boor::project_first`: the answers to its goals. Assumes nothing.
 use mathlib.Core.Path.{refl}
 use Rattle.curve_metric.specs.Written.{written}
 use Rattle.bspline_low.specs.LowLaws.{places_are}

@@ -1,3 +1,4 @@
+-- `bspline_boor::raise_row`: the answers to its goals. Assumes nothing.
 use mathlib.Core.Path.{refl}
 use native.Mathlib.Omega.{arith}
 use Rattle.bspline_boor.proofs.Climbing.{raised_join, raised_end}

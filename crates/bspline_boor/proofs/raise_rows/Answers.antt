@@ -1,3 +1,4 @@
+-- `bspline_boor::raise_rows`: the answers to its goals. Assumes nothing.
 use Prim.Native.Nat.{◌-◌, ◌+◌}
 use native.Mathlib.Omega.{arith}
 use native.Mathlib.Nat.{zero-mul}

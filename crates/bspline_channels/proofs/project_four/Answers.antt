@@ -1,3 +1,4 @@
+-- `bspline_channels::project_four`: the answers to its goals. Assumes nothing.
 use Rattle.curve_metric.specs.Written.{written}
 use Rattle.bspline_low.specs.LowLaws.{places_are}
 use Rattle.bspline_channels.proofs.project_four.Goals as goal

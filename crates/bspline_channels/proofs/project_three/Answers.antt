@@ -1,3 +1,4 @@
+-- `bspline_channels::project_three`: the answers to its goals. Assumes nothing.
 use Rattle.curve_metric.specs.Written.{written}
 use Rattle.bspline_channels.proofs.Ratios.{thirds_are}
 use Rattle.bspline_channels.proofs.project_three.Goals as goal

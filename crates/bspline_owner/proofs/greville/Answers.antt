@@ -1,3 +1,4 @@
+-- `bspline_owner::greville`: the answers to its goals. Assumes nothing.
 use native.Mathlib.Omega.{arith}
 use Rattle.bspline_tables.specs.Tables.{greville_at}
 use Rattle.bspline_tables.specs.Spans.{whole_in}

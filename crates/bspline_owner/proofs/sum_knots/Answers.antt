@@ -1,3 +1,4 @@
+-- `bspline_owner::sum_knots`: the answers to its goals. Assumes nothing.
 use mathlib.Core.Path.{◌≡◌, ap, ◌∙◌}
 use Prim.Native.Nat.{◌-◌}
 use native.Mathlib.Omega.{arith}

@@ -1,3 +1,4 @@
+-- `bspline_owner::sum_knots`: what holds at each turn of its loops. Assumes nothing.
 use mathlib.Core.Path.{◌≡◌}
 use Prim.Native.Nat.{◌≤◌, ◌-◌}
 use Rattle.bspline_tables.specs.Basis.{knot_sum}

@@ -1,3 +1,4 @@
+-- `bspline_point::eval_high`: the answers to its goals. Assumes nothing.
 use native.Mathlib.Omega.{arith}
 use Rattle.bspline_point.proofs.Curves.{cells_in}
 use Rattle.bspline_point.proofs.eval_high.Goals as goal

@@ -1,3 +1,4 @@
+-- `bspline_point::eval_low`: the answers to its goals. Assumes nothing.
 use native.Mathlib.Omega.{arith}
 use Rattle.bspline_point.proofs.Straight.{low-is, low-three, low-four}
 use Rattle.bspline_point.proofs.eval_low.Goals as goal

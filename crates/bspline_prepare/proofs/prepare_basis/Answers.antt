@@ -1,3 +1,4 @@
+-- `bspline_prepare::prepare_basis`: the answers to its goals. Assumes nothing.
 use native.Mathlib.Omega.{arith}
 use Rattle.bspline_prepare.proofs.Prepared.{degree_in, knots_are, knot-top}
 use Rattle.bspline_prepare.proofs.prepare_basis.Goals as goal

@@ -1,3 +1,4 @@
+-- `bspline_raise::raise_four`: the answers to its goals. Assumes nothing.
 use mathlib.Core.Path.{refl}
 use native.Mathlib.Omega.{arith}
 use lib.ListN.{length-set}

@@ -1,3 +1,4 @@
+-- `bspline_span::span_of`: the answers to its goals. Assumes nothing.
 use native.Mathlib.Omega.{arith}
 use Rattle.bspline_tables.specs.Tables.{span_in}
 use Rattle.bspline_tables.specs.Spans.{in_span}
@@ -17,4 +18,5 @@ unfolding span_in
 returns c =
     let if1 = c.if-u-hi in
     let pre = c.requires in
-    record { value = rw (← pre.hi_value, if1.false, c.trunc_count.ensures); lower_bound = omega (arith, in_span _ _ _ _ pre.p_lt_n.0 pre.p_lt_n.1 pre.hi_value if1.false, c.trunc_count.ensures) }
+    record { value = rw (← pre.hi_value, if1.false, c.trunc_count.ensures); lower_bound = omega (arith, in_span _ _ _ _ pre.p_lt_n.0 pre.p_lt_n.1
+        pre.hi_value if1.false, c.trunc_count.ensures) }

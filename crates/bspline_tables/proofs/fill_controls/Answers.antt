@@ -1,3 +1,4 @@
+-- `bspline_tables::fill_controls`: the answers to its goals. Assumes nothing.
 use mathlib.Core.Path.{sym, ap, ◌∙◌}
 use Prim.Native.Nat.{◌-◌, ◌+◌}
 use native.Mathlib.Omega.{arith}

@@ -1,3 +1,4 @@
+-- `bspline_tables::fill_controls`: what holds at each turn of its loops. Assumes nothing.
 use mathlib.Core.Path.{◌≡◌}
 use Prim.Native.Nat.{◌≤◌, ◌-◌, ◌+◌, ◌*◌}
 use Rattle.floats.specs.Lists.{upto}

@@ -1,3 +1,4 @@
+-- `bspline_tables::fill_knots`: what holds at each turn of its loops. Assumes nothing.
 use Prim.Native.Nat.{◌≤◌, ◌-◌, min}
 use Rattle.floats.specs.Numbers.{of_nat}
 use lib.ListN.{length}

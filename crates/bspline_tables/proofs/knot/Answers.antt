@@ -1,3 +1,4 @@
+-- `bspline_tables::knot`: the answers to its goals. Assumes nothing.
 use mathlib.Core.Path.{◌≡◌}
 use Prim.Native.Nat.{min, ◌-◌}
 use native.Mathlib.Omega.{arith}

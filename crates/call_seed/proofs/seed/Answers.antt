@@ -1,3 +1,4 @@
+-- `call_seed::seed`: the answers to its goals. Assumes nothing.
 use mathlib.Core.Path.{refl, sym, ◌∙◌}
 use borrow.Author.Tests.{le-leb, lt-leb}
 use Rattle.floats.specs.Truth.{cond-t, cond-f}

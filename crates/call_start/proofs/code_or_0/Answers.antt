@@ -1,3 +1,4 @@
+-- `call_start::code_or_0`: the answers to its goals. Assumes nothing.
 use mathlib.Core.Path.{sym}
 use lib.ListN.{get_or-eq_default}
 use Rattle.call_start.proofs.code_or_0.Goals as goal

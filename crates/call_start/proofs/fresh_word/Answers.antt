@@ -1,3 +1,4 @@
+-- `call_start::fresh_word`: the answers to its goals. Assumes nothing.
 use mathlib.Core.Path.{sym, ◌∙◌}
 use borrow.Author.Tests.{lt-ltb, le-ltb, eq-eqb, ne_eqb}
 use Rattle.floats.specs.Truth.{cond-t, cond-f}

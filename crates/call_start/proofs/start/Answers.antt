@@ -1,3 +1,4 @@
+-- `call_start::start`: the answers to its goals. Assumes nothing.
 use Rattle.std.proofs.Common.{sym}
 use mathlib.Core.Path.{refl, ◌∙◌}
 use borrow.Author.Tests.{eq-eqb, ne_eqb}

@@ -1,3 +1,4 @@
+-- `checksum::eight_steps`: the answers to its goals. Assumes nothing.
 use Rattle.checksum.proofs.Stepping.{steps-none, steps-more}
 use native.Mathlib.Omega.{arith}
 use mathlib.Core.Path.{◌≡◌}

@@ -1,3 +1,4 @@
+-- `checksum::eight_steps`: what holds at each turn of its loops. Assumes nothing.
 use Rattle.checksum.specs.Checksum.{steps}
 use mathlib.Core.Path.{◌≡◌}
 use Prim.Native.Nat.{◌-◌, ◌≤◌}

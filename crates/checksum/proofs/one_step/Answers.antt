@@ -1,3 +1,4 @@
+-- `checksum::one_step`: the answers to its goals. Assumes nothing.
 use Rattle.checksum.proofs.Stepping.{step-bare, step-top}
 use Rattle.checksum.proofs.one_step.Goals as goal
 

@@ -1,3 +1,4 @@
+-- `checksum_length::ended`: the answers to its goals. Assumes nothing.
 use Rattle.checksum_length.proofs.Lengths.{length-next, length-all, ended_is}
 use native.Mathlib.Omega.{arith}
 use mathlib.Core.Path.{refl}

@@ -1,3 +1,4 @@
+-- `checksum_length::ended`: what holds at each turn of its loops. Assumes nothing.
 use Rattle.checksum.specs.Checksum.{with_bytes, length_bytes}
 use mathlib.Core.Path.{◌≡◌}
 use Prim.Native.Nat.{◌≤◌}

@@ -1,3 +1,4 @@
+-- `checksum_length::length_byte`: the answers to its goals. Assumes nothing.
 use Rattle.checksum_length.proofs.Lengths.{length_none, length_some}
 use native.Mathlib.Omega.{arith}
 use Rattle.checksum_length.proofs.length_byte.Goals as goal

@@ -1,3 +1,4 @@
+-- `checksum_table::by_table`: the answers to its goals. Assumes nothing.
 use Rattle.checksum_table.proofs.Looking.{bytes-none, bytes-more, bytes-all}
 use lib.ListN.{length}
 use native.Mathlib.Omega.{arith}

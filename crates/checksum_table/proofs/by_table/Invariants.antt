@@ -1,3 +1,4 @@
+-- `checksum_table::by_table`: what holds at each turn of its loops. Assumes nothing.
 use Rattle.checksum.specs.Checksum.{with_bytes}
 use lib.ListN.{length, take}
 use mathlib.Core.Path.{◌≡◌}

@@ -1,3 +1,4 @@
+-- `checksum_table::looked_up`: the answers to its goals. Assumes nothing.
 use Rattle.checksum_table.proofs.Looking.{by_entry, first-low}
 use native.Mathlib.Omega.{arith}
 use mathlib.Core.Path.{refl}

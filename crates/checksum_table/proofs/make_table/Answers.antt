@@ -1,3 +1,4 @@
+-- `checksum_table::make_table`: the answers to its goals. Assumes nothing.
 use Rattle.checksum_table.proofs.Looking.{table_none, table_more, table-all}
 use native.Mathlib.Omega.{arith}
 use mathlib.Core.Path.{◌≡◌}

@@ -1,3 +1,4 @@
+-- `checksum_table::make_table`: what holds at each turn of its loops. Assumes nothing.
 use Rattle.checksum_table.specs.Table.{TableTo}
 use Prim.Native.Nat.{◌-◌, ◌≤◌}
 use Rattle.checksum_table.proofs.make_table.Given as goal

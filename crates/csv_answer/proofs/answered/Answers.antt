@@ -1,3 +1,4 @@
+-- `csv_answer::answered`: the answers to its goals. Assumes nothing.
 use mathlib.Core.Path.{◌≡◌, refl}
 use native.Mathlib.Omega.{arith}
 use Rattle.csv_out.specs.SayLaws.{say_noted}

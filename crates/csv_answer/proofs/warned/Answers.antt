@@ -1,3 +1,4 @@
+-- `csv_answer::warned`: the answers to its goals. Assumes nothing.
 use mathlib.Core.Path.{◌≡◌, refl}
 use native.Mathlib.Omega.{arith}
 use Rattle.csv_out.specs.SayLaws.{note, no_note, notice_short}

@@ -1,3 +1,4 @@
+-- `csv_cells::at_code`: the answers to its goals. Assumes nothing.
 use Rattle.csv_cells.proofs.Reading.{one_shifted}
 use Rattle.csv_cells.proofs.at_code.Goals as goal
 

@@ -1,3 +1,4 @@
+-- `csv_cells::read_cell`: the answers to its goals. Assumes nothing.
 use Prim.Native.Nat.{◌-◌}
 use Rattle.csv_cells.proofs.Reading.{cell-absent, cell-given, cell_bad}
 use Rattle.csv_cells.proofs.read_cell.Goals as goal

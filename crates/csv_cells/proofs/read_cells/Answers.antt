@@ -1,3 +1,4 @@
+-- `csv_cells::read_cells`: the answers to its goals. Assumes nothing.
 use Prim.Native.Nat.{◌-◌}
 use native.Mathlib.Omega.{arith}
 use borrow.Author.Tests.{not-true, not-false}

@@ -1,3 +1,4 @@
+-- `csv_cells::read_cells`: what holds at each turn of its loops. Assumes nothing.
 use Prim.Native.Nat.{◌-◌}
 use Rattle.csv_cells.proofs.Reading.{Taking}
 use Rattle.csv_cells.proofs.read_cells.Given as goal

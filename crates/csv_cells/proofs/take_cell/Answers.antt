@@ -1,3 +1,4 @@
+-- `csv_cells::take_cell`: the answers to its goals. Assumes nothing.
 use Prim.Native.Nat.{◌-◌}
 use Rattle.csv_cells.proofs.Reading.{took, end-within, cell-bit}
 use borrow.Author.Rules.{rules}

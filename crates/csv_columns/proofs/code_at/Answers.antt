@@ -1,3 +1,4 @@
+-- `csv_columns::code_at`: the answers to its goals. Assumes nothing.
 use native.Mathlib.Omega.{arith}
 use Rattle.csv_line.specs.CodeLaws.{code_below}
 use Rattle.csv_columns.proofs.Columns.{code-shifted}

@@ -1,3 +1,4 @@
+-- `csv_count::next_number`: the answers to its goals. Assumes nothing.
 use borrow.Author.Tests.{lt-ltb, le-ltb}
 use Rattle.csv_count.specs.Count.{next_line}
 use Rattle.csv_count.proofs.next_number.Goals as goal

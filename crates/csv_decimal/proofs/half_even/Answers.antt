@@ -1,3 +1,4 @@
+-- `csv_decimal::half_even`: the answers to its goals. Assumes nothing.
 use mathlib.Core.Path.{sym, ◌∙◌}
 use Rattle.csv_decimal.specs.Near.{even-low, tied, over, shifted}
 use Rattle.csv_decimal.proofs.half_even.Goals as goal

@@ -1,3 +1,4 @@
+-- `csv_decimal::in_millionths`: the answers to its goals. Assumes nothing.
 use mathlib.Core.Path.{sym, ap, ◌∙◌, subst}
 use lib.Dec.{T}
 use lib.Ieee.{binary64, of_bits}

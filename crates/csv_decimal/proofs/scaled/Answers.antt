@@ -1,3 +1,4 @@
+-- `csv_decimal::scaled`: the answers to its goals. Assumes nothing.
 use mathlib.Core.Path.{◌∙◌}
 use Rattle.csv_decimal.specs.Near.{in_parts}
 use Rattle.csv_decimal.proofs.scaled.Goals as goal

@@ -1,3 +1,4 @@
+-- `csv_decimal::size_of_bits`: the answers to its goals. Assumes nothing.
 use mathlib.Core.Path.{sym, ap, ◌∙◌}
 use native.Mathlib.Omega.{arith}
 use Rattle.csv_decimal.specs.Decimal.{millionths}

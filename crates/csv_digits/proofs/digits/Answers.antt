@@ -1,3 +1,4 @@
+-- `csv_digits::digits`: the answers to its goals. Assumes nothing.
 use Rattle.csv_decimal.specs.Widths.{width_one, width-at, width-last}
 use Rattle.csv_digits.proofs.digits.Goals as goal
 

@@ -1,3 +1,4 @@
+-- `csv_fields::read_line`: the answers to its goals. Assumes nothing.
 use Prim.Native.Nat.{◌-◌}
 use Rattle.csv_fields.specs.Readers.{line-none, line_at, line-high, line-more}
 use Rattle.csv_fields.proofs.read_line.Goals as goal

@@ -1,3 +1,4 @@
+-- `csv_fields::scan`: the answers to its goals. Assumes nothing.
 use Prim.Native.Nat.{◌-◌}
 use native.Mathlib.Omega.{arith}
 use Rattle.csv_fields.specs.Scans.{begins, room, turns, at_most, at-end, no_digit, digit_under, digit_over}

@@ -1,3 +1,4 @@
+-- `csv_fields::scan`: what holds at each turn of its loops. Assumes nothing.
 use Prim.Native.Nat.{◌-◌}
 use lib.ListN.{length}
 use Rattle.csv_fields.specs.Scans.{Scanning}

@@ -1,3 +1,4 @@
+-- `csv_figures::put_figures`: the answers to its goals. Assumes nothing.
 use native.Mathlib.Omega.{arith}
 use Rattle.csv_figures.specs.Figures.{starts, stores, ends}
 use Rattle.csv_figures.proofs.put_figures.Goals as goal

@@ -1,3 +1,4 @@
+-- `csv_figures::put_figures`: what holds at each turn of its loops. Assumes nothing.
 use Rattle.csv_figures.specs.Figures.{Storing}
 use Rattle.csv_figures.proofs.put_figures.Given as goal
 

@@ -1,3 +1,4 @@
+-- `csv_figures::put_millionths`: the answers to its goals. Assumes nothing.
 use Prim.Native.Nat.{◌-◌}
 use native.Mathlib.Omega.{arith}
 use Rattle.csv_figures.specs.OutLaws.{wrote-length}

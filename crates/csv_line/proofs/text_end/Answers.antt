@@ -1,3 +1,4 @@
+-- `csv_line::text_end`: the answers to its goals. Assumes nothing.
 use Prim.Native.Nat.{◌-◌}
 use Rattle.csv_line.proofs.Lines.{end_short, end_no_cr, end-no-lf, end-found}
 use Rattle.csv_line.proofs.text_end.Goals as goal

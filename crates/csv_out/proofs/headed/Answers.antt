@@ -1,3 +1,4 @@
+-- `csv_out::headed`: the answers to its goals. Assumes nothing.
 use mathlib.Core.Path.{refl, sym, ◌∙◌}
 use Rattle.csv_out.specs.SayLaws.{say_noted, say_header, heading-good, heading_bad}
 use Rattle.csv_out.proofs.headed.Goals as goal

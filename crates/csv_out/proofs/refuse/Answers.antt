@@ -1,3 +1,4 @@
+-- `csv_out::refuse`: the answers to its goals. Assumes nothing.
 use mathlib.Core.Path.{refl}
 use Rattle.csv_out.specs.SayLaws.{note, notice_short}
 use Rattle.csv_out.proofs.refuse.Goals as goal

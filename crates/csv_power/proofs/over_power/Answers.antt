@@ -1,3 +1,4 @@
+-- `csv_power::over_power`: the answers to its goals. Assumes nothing.
 use Rattle.std.proofs.Common.{le-ltb, lt-ltb}
 use Rattle.csv_decimal.specs.Decimal.{quotient}
 use Rattle.csv_power.proofs.over_power.Goals as goal

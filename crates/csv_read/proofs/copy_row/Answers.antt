@@ -1,3 +1,4 @@
+-- `csv_read::copy_row`: the answers to its goals. Assumes nothing.
 use mathlib.Core.Path.{refl, sym, ◌∙◌}
 use Prim.Native.Nat.{◌-◌}
 use native.Mathlib.Omega.{arith}

@@ -1,3 +1,4 @@
+-- `csv_read::copy_row`: what holds at each turn of its loops. Assumes nothing.
 use Prim.Native.Nat.{◌-◌}
 use lib.ListN.{length}
 use Rattle.csv_read.proofs.Copying.{Copying}

@@ -1,3 +1,4 @@
+-- `csv_replied::call_answered`: the answers to its goals. Assumes nothing.
 use Rattle.csv_answer.specs.AnswerLaws.{same-fits, said-answers}
 use Rattle.csv_replied.proofs.call_answered.Goals as goal
 

@@ -1,3 +1,4 @@
+-- `csv_row_parts::put_cell`: the answers to its goals. Assumes nothing.
 use mathlib.Core.Path.{sym, ◌∙◌}
 use Prim.Native.Nat.{◌-◌}
 use Rattle.csv_write.specs.Writing.{cell-present, cell-absent}

@@ -1,3 +1,4 @@
+-- `csv_row_parts::put_cells`: the answers to its goals. Assumes nothing.
 use mathlib.Core.Path.{◌≡◌, ◌∙◌}
 use Prim.Native.Nat.{◌-◌}
 use native.Mathlib.Omega.{arith}

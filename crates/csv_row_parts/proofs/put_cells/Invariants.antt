@@ -1,3 +1,4 @@
+-- `csv_row_parts::put_cells`: what holds at each turn of its loops. Assumes nothing.
 use Prim.Native.Nat.{ℕ, ◌-◌, ◌≤◌}
 use mathlib.Core.List.{◌∷◌}
 use Rattle.csv_write.specs.Writer.{cell_text, cell_shown}

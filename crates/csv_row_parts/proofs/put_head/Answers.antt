@@ -1,3 +1,4 @@
+-- `csv_row_parts::put_head`: the answers to its goals. Assumes nothing.
 use Prim.Native.Nat.{◌-◌}
 use lib.ListN.{get_or}
 use Rattle.csv_write.specs.Writing.{in_five, room_1, room_2, room_3, room_4}

@@ -1,3 +1,4 @@
+-- `csv_rows::write_row`: the answers to its goals. Assumes nothing.
 use mathlib.Core.Path.{sym, ◌∙◌}
 use Prim.Native.Nat.{◌-◌}
 use native.Mathlib.Omega.{arith}
@@ -58,7 +59,8 @@ put_end-c-requires c =
     let b17 = b15 in
     let b21 = b17 in (
       b21.requires.0,
-      let h = behind-cells b21.args.row.now _ _ b17.if-row-ge-LINE_NUMBERS.false b15.if-row-ge-MOTIONS.false (sym b13.plane_ok.ensures ∙ b12.if-not-plane_ok.false)
+      let h = behind-cells b21.args.row.now _ _ b17.if-row-ge-LINE_NUMBERS.false b15.if-row-ge-MOTIONS.false (sym b13.plane_ok.ensures ∙
+          b12.if-not-plane_ok.false)
           b10.put_head-a.ensures b2.in-Upto.is b6.put_cells.ensures in omega (arith, b21.requires.1),
     )
 

@@ -1,3 +1,4 @@
+-- `csv_rows::write_rows`: the answers to its goals. Assumes nothing.
 use mathlib.Core.Path.{◌≡◌, refl, ◌∙◌}
 use Prim.Native.Nat.{◌-◌}
 use native.Mathlib.Omega.{arith}

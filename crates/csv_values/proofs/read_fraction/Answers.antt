@@ -1,3 +1,4 @@
+-- `csv_values::read_fraction`: the answers to its goals. Assumes nothing.
 use Prim.Native.Nat.{◌-◌}
 use Rattle.csv_fields.specs.Readers.{frac_none, frac_some, frac_more, frac_few}
 use Rattle.csv_values.proofs.read_fraction.Goals as goal

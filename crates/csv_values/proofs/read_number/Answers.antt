@@ -1,3 +1,4 @@
+-- `csv_values::read_number`: the answers to its goals. Assumes nothing.
 use Prim.Native.Nat.{◌-◌}
 use Rattle.csv_fields.specs.Readers.{nothing, signed}
 use Rattle.csv_values.proofs.read_number.Goals as goal

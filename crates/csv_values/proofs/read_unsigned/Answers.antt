@@ -1,3 +1,4 @@
+-- `csv_values::read_unsigned`: the answers to its goals. Assumes nothing.
 use Prim.Native.Nat.{◌-◌}
 use native.Mathlib.Omega.{arith}
 use Rattle.csv_fields.specs.Readers.{uns_none, uns_whole, uns_point, uns_other, uns_inside, uns_low}

@@ -1,3 +1,4 @@
+-- `csv_words::entry`: the answers to its goals. Assumes nothing.
 use Rattle.csv_words.specs.Table.{entry_is}
 use Rattle.csv_words.proofs.entry.Goals as goal
 

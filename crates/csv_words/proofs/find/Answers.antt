@@ -1,3 +1,4 @@
+-- `csv_words::find`: the answers to its goals. Assumes nothing.
 use Prim.Native.Nat.{ℕ, ◌-◌}
 use native.Mathlib.Omega.{arith}
 use Rattle.csv_words.specs.Seeks.{as_number, seeks_first, seeks_hit, seeks_miss, seeks_end}

@@ -1,3 +1,4 @@
+-- `csv_words::find`: what holds at each turn of its loops. Assumes nothing.
 use Prim.Native.Nat.{◌-◌}
 use Rattle.csv_words.specs.Seeks.{Seeking}
 use Rattle.csv_words.proofs.find.Given as goal

@@ -1,3 +1,4 @@
+-- `csv_words::packed`: the answers to its goals. Assumes nothing.
 use Prim.Native.Nat.{◌-◌}
 use native.Mathlib.Omega.{arith}
 use Rattle.csv_words.specs.Chars.{packs_none, packs_low, packs_room, packs_more, packs_all}

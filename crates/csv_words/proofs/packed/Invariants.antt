@@ -1,3 +1,4 @@
+-- `csv_words::packed`: what holds at each turn of its loops. Assumes nothing.
 use Prim.Native.Nat.{◌-◌}
 use lib.ListN.{length}
 use Rattle.csv_words.specs.Chars.{Packing}

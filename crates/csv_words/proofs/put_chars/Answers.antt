@@ -1,3 +1,4 @@
+-- `csv_words::put_chars`: the answers to its goals. Assumes nothing.
 use Prim.Native.Nat.{◌-◌}
 use native.Mathlib.Omega.{arith}
 use Rattle.csv_words.specs.Chars.{starts, stores, ends}

@@ -1,3 +1,4 @@
+-- `csv_words::put_chars`: what holds at each turn of its loops. Assumes nothing.
 use Prim.Native.Nat.{◌-◌}
 use Rattle.csv_words.specs.Chars.{Storing}
 use Rattle.csv_words.proofs.put_chars.Given as goal

@@ -1,3 +1,4 @@
+-- `csv_words::put_plane`: the answers to its goals. Assumes nothing.
 use Prim.Native.Nat.{◌-◌}
 use Rattle.csv_words.specs.Seeks.{as_plane}
 use Rattle.csv_words.proofs.put_plane.Goals as goal

@@ -1,3 +1,4 @@
+-- `csv_words::put_word`: the answers to its goals. Assumes nothing.
 use Prim.Native.Nat.{◌-◌}
 use Rattle.csv_words.specs.Seeks.{as_word}
 use Rattle.csv_words.proofs.put_word.Goals as goal

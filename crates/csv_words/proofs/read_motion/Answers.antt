@@ -1,3 +1,4 @@
+-- `csv_words::read_motion`: the answers to its goals. Assumes nothing.
 use Prim.Native.Nat.{◌-◌}
 use Rattle.csv_words.specs.Seeks.{motion-long, motion-at, motion-none}
 use Rattle.csv_words.proofs.read_motion.Goals as goal

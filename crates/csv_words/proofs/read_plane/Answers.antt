@@ -1,3 +1,4 @@
+-- `csv_words::read_plane`: the answers to its goals. Assumes nothing.
 use Prim.Native.Nat.{◌-◌}
 use Rattle.csv_words.specs.Seeks.{plane-empty, plane-long, plane-at, plane-none}
 use Rattle.csv_words.proofs.read_plane.Goals as goal

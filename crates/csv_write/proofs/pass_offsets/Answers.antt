@@ -1,3 +1,4 @@
+-- `csv_write::pass_offsets`: the answers to its goals. Assumes nothing.
 use mathlib.Core.Path.{sym, ◌∙◌}
 use Rattle.csv_write.specs.Writing.{skips_none, skips_offsets}
 use Rattle.csv_write.proofs.pass_offsets.Goals as goal

@@ -1,3 +1,4 @@
+-- `csv_write::put_end`: the answers to its goals. Assumes nothing.
 use Prim.Native.Nat.{◌-◌}
 use Rattle.csv_write.specs.Writing.{unmarked, marked}
 use Rattle.csv_write.proofs.put_end.Goals as goal

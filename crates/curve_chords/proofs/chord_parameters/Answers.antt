@@ -1,12 +1,13 @@
+-- `curve_chords::chord_parameters`: the answers to its goals. Assumes nothing.
 use mathlib.Core.Path.{refl, ◌∙◌}
-use Prim.Native.Nat.{◌≤◌, ◌-◌, ◌+◌}
+use Prim.Native.Nat.{◌-◌}
 use native.Mathlib.Omega.{arith}
-use lib.ListN.{length, length-set}
+use lib.ListN.{length-set}
 use Rattle.curve_metric.specs.Metric.{chord_to}
 use Rattle.floats.specs.Fill.{filling-first, filling-more, filled-end, two-rows}
 use Rattle.floats.specs.Parts.{next_row}
 use native.Mathlib.Nat.{zero-mul}
-use Rattle.curve_chords.proofs.Chords.{parts-fit, chord-more}
+use Rattle.curve_chords.proofs.Chords.{chord-more}
 use Rattle.curve_chords.proofs.chord_parameters.Goals as goal
 
 pub loop-k-init : goal.loop-k-init

@@ -1,7 +1,7 @@
+-- `curve_chords::gap2`: the answers to its goals. Assumes nothing.
 use mathlib.Core.Path.{refl, ap, ◌∙◌}
-use Prim.Native.Nat.{◌-◌, ◌<◌}
+use Prim.Native.Nat.{◌-◌}
 use native.Mathlib.Omega.{arith}
-use lib.ListN.{length, get_or}
 use Rattle.curve_metric.specs.Below.{Below}
 use Rattle.curve_metric.specs.Metric.{len_to}
 use Rattle.curve_chords.proofs.Chords.{len_more}

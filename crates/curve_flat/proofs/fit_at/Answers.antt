@@ -1,3 +1,4 @@
+-- `curve_flat::fit_at`: the answers to its goals. Assumes nothing.
 use mathlib.Core.Path.{sym}
 use native.Mathlib.Omega.{arith}
 use lib.Seq.{length-take-le}

@@ -1,3 +1,4 @@
+-- `curve_flat::is_flat`: the answers to its goals. Assumes nothing.
 use native.Mathlib.Omega.{arith}
 use Rattle.curve_walk.specs.Walks.{eval_of}
 use Rattle.curve_flat.proofs.Flats.{flat-no, flat_no_2, flat-last}
@@ -17,7 +18,8 @@ returns-then-near_at c =
     let at-is-near = at-if1 in
     let start = at-is-near in
     let ev = eval_of start.args.s start.args.ks.now start.args.cs.now in
-    flat-last ev _ _ _ _ _ _ _ at-is-near.is_near.ensures at-if1.if-is_near.true at-near-at.near_at.ensures at-if2.if-near_at.true c.near_at-then-near_at.ensures
+    flat-last ev _ _ _ _ _ _ _ at-is-near.is_near.ensures at-if1.if-is_near.true at-near-at.near_at.ensures at-if2.if-near_at.true
+        c.near_at-then-near_at.ensures
 
 pub returns-else-near_at : goal.returns-else-near_at
 returns-else-near_at c =

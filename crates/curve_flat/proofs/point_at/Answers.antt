@@ -1,3 +1,4 @@
+-- `curve_flat::point_at`: the answers to its goals. Assumes nothing.
 use Rattle.curve_walk.specs.Forms.{basis-tables, fit-tables}
 use Rattle.curve_flat.proofs.Flats.{basis-point, fit-point}
 use Rattle.curve_flat.proofs.point_at.Goals as goal

@@ -1,3 +1,4 @@
+-- `curve_near::deviation2`: the answers to its goals. Assumes nothing.
 use mathlib.Core.Path.{◌∙◌}
 use native.Mathlib.Omega.{arith}
 use Rattle.curve_metric.specs.Below.{Below}

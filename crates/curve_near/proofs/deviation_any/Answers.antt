@@ -1,3 +1,4 @@
+-- `curve_near::deviation_any`: the answers to its goals. Assumes nothing.
 use mathlib.Core.Path.{refl}
 use Prim.Native.Nat.{◌-◌}
 use native.Mathlib.Omega.{arith}

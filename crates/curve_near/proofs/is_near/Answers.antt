@@ -1,3 +1,4 @@
+-- `curve_near::is_near`: the answers to its goals. Assumes nothing.
 use mathlib.Core.Path.{◌∙◌}
 use Rattle.curve_near.proofs.Sums.{near-is}
 use Rattle.curve_near.proofs.is_near.Goals as goal

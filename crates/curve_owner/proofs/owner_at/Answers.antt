@@ -1,3 +1,4 @@
+-- `curve_owner::owner_at`: the answers to its goals. Assumes nothing.
 use native.Mathlib.Omega.{arith}
 use Rattle.curve_walk.specs.Walks.{own_in}
 use Rattle.curve_owner.proofs.Owners.{knotted}

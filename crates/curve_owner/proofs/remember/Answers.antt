@@ -1,3 +1,4 @@
+-- `curve_owner::remember`: the answers to its goals. Assumes nothing.
 use mathlib.Core.Path.{sym}
 use native.Mathlib.Omega.{arith}
 use lib.Seq.{set_out}

@@ -1,3 +1,4 @@
+-- `curve_put::is_remembered`: the answers to its goals. Assumes nothing.
 use native.Mathlib.Omega.{arith}
 use lib.ListN.{length}
 use borrow.Author.Tests.{lt-ltb, le-ltb}

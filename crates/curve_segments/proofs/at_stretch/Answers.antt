@@ -1,3 +1,4 @@
+-- `curve_segments::at_stretch`: the answers to its goals. Assumes nothing.
 use mathlib.Core.Path.{ap}
 use Rattle.curve_segments.specs.Stretches.{in_piece}
 use Rattle.curve_segments.proofs.at_stretch.Goals as goal

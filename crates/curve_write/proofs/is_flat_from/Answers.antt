@@ -1,3 +1,4 @@
+-- `curve_write::is_flat_from`: the answers to its goals. Assumes nothing.
 use native.Mathlib.Omega.{arith}
 use borrow.Author.Tests.{lt-ltb, le-ltb}
 use Rattle.curve_write.proofs.is_flat_from.Goals as goal

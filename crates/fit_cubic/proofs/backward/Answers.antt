@@ -1,3 +1,4 @@
+-- `fit_cubic::backward`: the answers to its goals. Assumes nothing.
 use mathlib.Core.Path.{refl, sym, ◌∙◌}
 use Prim.Native.Nat.{◌-◌}
 use native.Mathlib.Omega.{arith}

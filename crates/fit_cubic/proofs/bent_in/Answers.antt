@@ -1,3 +1,4 @@
+-- `fit_cubic::bent_in`: the answers to its goals. Assumes nothing.
 use native.Mathlib.Omega.{arith}
 use Rattle.floats.specs.Fill.{filled_agrees}
 use borrow.Author.Rules.{rules}

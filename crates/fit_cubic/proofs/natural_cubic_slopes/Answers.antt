@@ -1,3 +1,4 @@
+-- `fit_cubic::natural_cubic_slopes`: the answers to its goals. Assumes nothing.
 use mathlib.Core.Path.{◌∙◌}
 use native.Mathlib.Omega.{arith}
 use Rattle.fit_cubic.proofs.Knots.{cubic-straight, cubic-many}

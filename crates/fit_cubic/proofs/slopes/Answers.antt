@@ -1,3 +1,4 @@
+-- `fit_cubic::slopes`: the answers to its goals. Assumes nothing.
 use mathlib.Core.Path.{◌≡◌}
 use Prim.Native.Nat.{◌-◌}
 use native.Mathlib.Omega.{arith}

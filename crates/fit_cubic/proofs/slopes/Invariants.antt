@@ -1,3 +1,4 @@
+-- `fit_cubic::slopes`: what holds at each turn of its loops. Assumes nothing.
 use Prim.Native.Nat.{◌≤◌, ◌-◌, ◌<◌}
 use lib.ListN.{length}
 use Rattle.fit_slopes.specs.Slopes.{bent}

@@ -1,10 +1,11 @@
+-- `fit_forward::forward`: the answers to its goals. Assumes nothing.
 use mathlib.Core.Path.{refl, ◌∙◌}
 use Prim.Native.Nat.{◌-◌}
 use native.Mathlib.Omega.{arith}
 use native.Mathlib.Numerals.{add-one}
 use lib.ListN.{length-set}
 use Rattle.fit_slopes.specs.Slopes.{diag, rhs}
-use Rattle.floats.specs.Fill.{filling-first, filling-more, filled-end}
+use Rattle.floats.specs.Fill.{filling-first, filling-more}
 use Rattle.fit_forward.proofs.Eliminated.{sup-more, diag-more, rhs-more}
 use Rattle.fit_forward.proofs.forward.Goals as goal
 

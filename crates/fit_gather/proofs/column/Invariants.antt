@@ -1,3 +1,4 @@
+-- `fit_gather::column`: what holds at each turn of its loops. Assumes nothing.
 use Prim.Native.Nat.{ℕ, ◌≤◌, ◌-◌, ◌+◌, ◌*◌}
 use lib.ListN.{length}
 use Rattle.floats.specs.Numbers.{at}

@@ -1,3 +1,4 @@
+-- `fit_gather::copy_row`: what holds at each turn of its loops. Assumes nothing.
 use Prim.Native.Nat.{ℕ, ◌≤◌, ◌-◌, ◌+◌, ◌*◌}
 use Rattle.floats.specs.Numbers.{at}
 use Rattle.fit_knots.specs.Blocks.{Block}

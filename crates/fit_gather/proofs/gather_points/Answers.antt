@@ -1,3 +1,4 @@
+-- `fit_gather::gather_points`: the answers to its goals. Assumes nothing.
 use mathlib.Core.Path.{refl, ◌∙◌}
 use Prim.Native.Nat.{◌-◌}
 use native.Mathlib.Omega.{arith}

@@ -1,3 +1,4 @@
+-- `fit_gather::gather_times`: what holds at each turn of its loops. Assumes nothing.
 use Prim.Native.Nat.{◌≤◌, ◌-◌}
 use lib.ListN.{length}
 use Rattle.floats.specs.Fill.{Filling}

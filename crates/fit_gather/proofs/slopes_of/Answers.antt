@@ -1,3 +1,4 @@
+-- `fit_gather::slopes_of`: the answers to its goals. Assumes nothing.
 use Rattle.fit_gather.proofs.slopes_of.Goals as goal
 
 pub returns-then-cubic : goal.returns-then-cubic

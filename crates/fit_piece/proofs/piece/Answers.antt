@@ -1,3 +1,4 @@
+-- `fit_piece::piece`: the answers to its goals. Assumes nothing.
 use Prim.Native.Nat.{◌-◌}
 use native.Mathlib.Omega.{arith}
 use Rattle.fit_piece.proofs.Pieces.{narrowed_start, narrowed_low, narrowed_high, narrowed_end}

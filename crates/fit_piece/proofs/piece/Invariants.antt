@@ -1,3 +1,4 @@
+-- `fit_piece::piece`: what holds at each turn of its loops. Assumes nothing.
 use Prim.Native.Nat.{◌-◌}
 use Rattle.fit_piece.proofs.Pieces.{Narrowed}
 use Rattle.fit_piece.proofs.piece.Given as goal

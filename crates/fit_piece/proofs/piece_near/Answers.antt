@@ -1,3 +1,4 @@
+-- `fit_piece::piece_near`: the answers to its goals. Assumes nothing.
 use native.Mathlib.Omega.{arith}
 use Rattle.fit_piece.proofs.piece_near.Goals as goal
 

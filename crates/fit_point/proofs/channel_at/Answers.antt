@@ -1,3 +1,4 @@
+-- `fit_point::channel_at`: the answers to its goals. Assumes nothing.
 use native.Mathlib.Omega.{arith}
 use Rattle.fit_knots.specs.MemoryLaws.{cell-fits}
 use Rattle.fit_point.proofs.Blends.{channel_in, channel_out}

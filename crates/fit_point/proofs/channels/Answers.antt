@@ -1,3 +1,4 @@
+-- `fit_point::channels`: the answers to its goals. Assumes nothing.
 use Rattle.curve_metric.specs.Written.{written}
 use Rattle.fit_point.proofs.channels.Goals as goal
 

@@ -1,3 +1,4 @@
+-- `fit_point::eval_fit`: the answers to its goals. Assumes nothing.
 use Rattle.fit_point.proofs.Blends.{fit_is}
 use Rattle.fit_point.proofs.eval_fit.Goals as goal
 

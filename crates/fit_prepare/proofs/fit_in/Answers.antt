@@ -1,3 +1,4 @@
+-- `fit_prepare::fit_in`: the answers to its goals. Assumes nothing.
 use mathlib.Core.Path.{sym}
 use native.Mathlib.Omega.{arith}
 use Rattle.fit_prepare.proofs.Readies.{kept-few, kept-length, kept-below, kept-rise, not-ready, ready}
@@ -27,7 +28,8 @@ gather-requires c =
     let pre = c.requires in
     let some = pre.fit_room.some in
     let kept = keep.ensures in
-    record { fit_room = pre.fit_room; below = kept-below some kept; in_bounds = omega (arith, kept-length some kept, kept-few some kept); times_rise = kept-rise some kept }
+    record { fit_room = pre.fit_room; below = kept-below some kept; in_bounds = omega (arith, kept-length some kept, kept-few some kept); times_rise
+        = kept-rise some kept }
 
 pub returns : goal.returns
 returns c =

@@ -1,3 +1,4 @@
+-- `fit_tables::copy_to`: what holds at each turn of its loops. Assumes nothing.
 use mathlib.Core.Path.{◌≡◌}
 use Prim.Native.Nat.{◌≤◌, ◌-◌}
 use lib.ListN.{length}

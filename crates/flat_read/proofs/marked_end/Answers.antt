@@ -1,3 +1,4 @@
+-- `flat_read::marked_end`: the answers to its goals. Assumes nothing.
 use Prim.Native.Nat.{◌-◌}
 use Rattle.flat_read.proofs.Flats.{too_short, plain-found, other-mark, long-mark, sample_found}
 use Rattle.flat_read.proofs.marked_end.Goals as goal

@@ -1,3 +1,4 @@
+-- `flat_read::read_flat`: the answers to its goals. Assumes nothing.
 use mathlib.Core.Path.{sym, ◌∙◌}
 use lib.Seq.{length-take-le}
 use Rattle.flat_read.proofs.Flats.{plain-within, sample_within, flat-plain, flat_sample, flat_bad}

@@ -1,3 +1,4 @@
+-- `flat_read::read_marked`: the answers to its goals. Assumes nothing.
 use Rattle.flat_read.proofs.Flats.{row-marked, row_bad}
 use Rattle.flat_read.proofs.read_marked.Goals as goal
 

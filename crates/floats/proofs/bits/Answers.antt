@@ -1,3 +1,4 @@
+-- `floats::bits`: the answers to its goals. Assumes nothing.
 use mathlib.Core.Path.{sym, ap, ◌∙◌}
 use lib.Ieee.{binary64, to_bits}
 use lib.Ieee.Compare.{differs_from_itself}

@@ -1,3 +1,4 @@
+-- `floats::of_bits`: the answers to its goals. Assumes nothing.
 use mathlib.Core.Path.{sym, ◌∙◌}
 use Rattle.floats.proofs.Nans.{low-not, high_nan, zero-over-zero}
 use Rattle.floats.proofs.of_bits.Goals as goal

@@ -1,3 +1,4 @@
+-- `night_answer::answer`: the answers to its goals. Assumes nothing.
 use Rattle.night_answer.proofs.Hearing.{away-refused, away_bad, list_fits, all_done}
 use native.Mathlib.Omega.{arith}
 use mathlib.Core.Path.{◌≡◌}

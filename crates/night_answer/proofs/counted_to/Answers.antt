@@ -1,3 +1,4 @@
+-- `night_answer::counted_to`: the answers to its goals. Assumes nothing.
 use Rattle.night_answer.proofs.Hearing.{counted-few, counted-many}
 use Rattle.night_answer.proofs.counted_to.Goals as goal
 

@@ -1,3 +1,4 @@
+-- `night_answer::done_by`: the answers to its goals. Assumes nothing.
 use Rattle.night_answer.proofs.Hearing.{done-is}
 use Rattle.night_answer.proofs.done_by.Goals as goal
 

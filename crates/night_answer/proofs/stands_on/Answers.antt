@@ -1,3 +1,4 @@
+-- `night_answer::stands_on`: the answers to its goals. Assumes nothing.
 use Rattle.night_answer.proofs.Hearing.{ends-closed, goes_on_lem}
 use Rattle.night_answer.proofs.stands_on.Goals as goal
 

@@ -1,3 +1,4 @@
+-- `night_answer::turned_away`: the answers to its goals. Assumes nothing.
 use Rattle.night_answer.proofs.Hearing.{away-is}
 use Rattle.night_answer.proofs.turned_away.Goals as goal
 

@@ -1,3 +1,4 @@
+-- `night_args::count_of`: the answers to its goals. Assumes nothing.
 use Rattle.std.proofs.Common.{sym, ◌∙◌}
 use Prim.Native.Nat.{◌-◌}
 use native.Mathlib.Omega.{arith}
@@ -58,7 +59,8 @@ loop-at-preserved c =
     let b4 = b2 in
     let b5 = b4 in
     let b6 = b5 in
-    counts-more b6.loop-at.invariant b5.loop-at-test.true b4.field_end-end.ensures (sym b2.is_tolerance.ensures ∙ c.if-not-is_tolerance.false) c.if-k-eq-MOST_TOLERANCES.false
+    counts-more b6.loop-at.invariant b5.loop-at-test.true b4.field_end-end.ensures (sym b2.is_tolerance.ensures ∙ c.if-not-is_tolerance.false)
+        c.if-k-eq-MOST_TOLERANCES.false
 
 pub returns : goal.returns
 returns c = counts_all c.loop-at.invariant (omega arith)

@@ -1,3 +1,4 @@
+-- `night_args::count_of`: what holds at each turn of its loops. Assumes nothing.
 use Prim.Native.Nat.{◌-◌, ◌+◌}
 use lib.ListN.{length}
 use Rattle.night_args.proofs.Counting.{Counting}

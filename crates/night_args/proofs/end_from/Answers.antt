@@ -1,3 +1,4 @@
+-- `night_args::end_from`: the answers to its goals. Assumes nothing.
 use native.Mathlib.Omega.{arith}
 use Rattle.night_args.specs.FieldLaws.{near-end}
 use Rattle.night_args.proofs.end_from.Goals as goal

@@ -1,3 +1,4 @@
+-- `night_args::field_from`: the answers to its goals. Assumes nothing.
 use Prim.Native.Nat.{◌-◌}
 use native.Mathlib.Omega.{arith}
 use Rattle.night_args.specs.FieldLaws.{from-none, from_more, from-short, from-done, near-end}

@@ -1,3 +1,4 @@
+-- `night_args::field_from`: what holds at each turn of its loops. Assumes nothing.
 use Prim.Native.Nat.{◌-◌, ◌≤◌}
 use Rattle.night_args.specs.Fields.{FieldFrom}
 use Rattle.night_args.proofs.field_from.Given as goal

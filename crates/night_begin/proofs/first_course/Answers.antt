@@ -1,3 +1,4 @@
+-- `night_begin::first_course`: the answers to its goals. Assumes nothing.
 use mathlib.Core.Path.{◌∙◌, sym}
 use borrow.Author.Tests.{eq-eqb}
 use Rattle.floats.specs.Truth.{cond-t}

@@ -1,3 +1,4 @@
+-- `night_begin::start_told`: the answers to its goals. Assumes nothing.
 use mathlib.Core.Path.{refl}
 use Rattle.night_begin.proofs.Starting.{start-told}
 use Rattle.night_begin.proofs.start_told.Goals as goal

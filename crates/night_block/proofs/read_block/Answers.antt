@@ -1,3 +1,4 @@
+-- `night_block::read_block`: the answers to its goals. Assumes nothing.
 use mathlib.Core.Path.{sym, ◌∙◌}
 use Rattle.night_block.proofs.Carrying.{block_read, block_none}
 use Rattle.night_block.proofs.read_block.Goals as goal

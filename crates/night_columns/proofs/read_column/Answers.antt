@@ -1,3 +1,4 @@
+-- `night_columns::read_column`: the answers to its goals. Assumes nothing.
 use mathlib.Core.Path.{sym, ◌∙◌}
 use Rattle.night_columns.proofs.Taking.{column-text, column-empty, column-whole}
 use Rattle.night_columns.proofs.read_column.Goals as goal

@@ -1,3 +1,4 @@
+-- `night_columns::read_empty`: the answers to its goals. Assumes nothing.
 use mathlib.Core.Path.{sym, ◌∙◌}
 use Rattle.night_columns.proofs.Taking.{empty_lacks, empty_bad}
 use Rattle.night_columns.proofs.read_empty.Goals as goal

@@ -1,3 +1,4 @@
+-- `night_columns::read_whole`: the answers to its goals. Assumes nothing.
 use Rattle.night_columns.proofs.Taking.{whole-none, whole-all, whole-more}
 use Rattle.night_columns.proofs.read_whole.Goals as goal
 

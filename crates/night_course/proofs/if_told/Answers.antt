@@ -1,3 +1,4 @@
+-- `night_course::if_told`: the answers to its goals. Assumes nothing.
 use Rattle.night_course.proofs.Changing.{told-kept, told-not}
 use Rattle.night_course.proofs.if_told.Goals as goal
 

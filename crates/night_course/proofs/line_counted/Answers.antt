@@ -1,3 +1,4 @@
+-- `night_course::line_counted`: the answers to its goals. Assumes nothing.
 use Rattle.night_course.proofs.Changing.{counted_is}
 use Rattle.night_course.proofs.line_counted.Goals as goal
 

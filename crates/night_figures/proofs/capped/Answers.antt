@@ -1,3 +1,4 @@
+-- `night_figures::capped`: the answers to its goals. Assumes nothing.
 use mathlib.Core.Path.{sym}
 use borrow.Author.Tests.{lt-ltb, le-ltb}
 use Rattle.floats.specs.Truth.{cond-t, cond-f}

@@ -1,3 +1,4 @@
+-- `night_header::put_curved_header`: the answers to its goals. Assumes nothing.
 use native.Mathlib.Omega.{arith}
 use Rattle.csv_figures.specs.OutLaws.{wrote_then, wrote-length}
 use Rattle.night_header.proofs.put_curved_header.Goals as goal

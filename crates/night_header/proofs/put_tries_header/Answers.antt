@@ -1,3 +1,4 @@
+-- `night_header::put_tries_header`: the answers to its goals. Assumes nothing.
 use native.Mathlib.Omega.{arith}
 use Rattle.csv_figures.specs.OutLaws.{wrote_then, wrote-length}
 use Rattle.night_header.proofs.put_tries_header.Goals as goal

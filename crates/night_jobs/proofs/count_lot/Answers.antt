@@ -1,3 +1,4 @@
+-- `night_jobs::count_lot`: the answers to its goals. Assumes nothing.
 use mathlib.Core.Path.{◌≡◌, refl, ap, ◌∙◌}
 use native.Mathlib.Omega.{arith}
 use Prim.Native.Nat.{ℕ, ◌-◌}

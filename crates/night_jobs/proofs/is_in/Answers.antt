@@ -1,3 +1,4 @@
+-- `night_jobs::is_in`: the answers to its goals. Assumes nothing.
 use Rattle.night_jobs.proofs.is_in.Goals as goal
 
 pub returns : goal.returns

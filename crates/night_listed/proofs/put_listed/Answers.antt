@@ -1,3 +1,4 @@
+-- `night_listed::put_listed`: the answers to its goals. Assumes nothing.
 use Rattle.night_listed.proofs.Walking.{walked_none, row_fits_lem, walked_more, walked_all}
 use mathlib.Core.Path.{◌≡◌}
 use Prim.Native.Nat.{◌-◌}

@@ -1,3 +1,4 @@
+-- `night_listed::put_listed`: what holds at each turn of its loops. Assumes nothing.
 use Rattle.night_listed.proofs.Walking.{Walked}
 use Prim.Native.Nat.{◌-◌, ◌≤◌}
 use Rattle.night_listed.proofs.put_listed.Given as goal

@@ -1,3 +1,4 @@
+-- `night_listed::put_row`: the answers to its goals. Assumes nothing.
 use Rattle.night_listed.proofs.Walking.{seen-word, row_named, row_unnamed}
 use Rattle.night_listed.proofs.put_row.Goals as goal
 

@@ -1,3 +1,4 @@
+-- `night_listed::seen_at`: the answers to its goals. Assumes nothing.
 use mathlib.Core.Path.{refl}
 use Rattle.night_listed.proofs.Walking.{row_seen}
 use Rattle.night_listed.proofs.seen_at.Goals as goal

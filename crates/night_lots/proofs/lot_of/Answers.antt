@@ -1,3 +1,4 @@
+-- `night_lots::lot_of`: the answers to its goals. Assumes nothing.
 use mathlib.Core.Path.{sym, ◌∙◌}
 use Rattle.floats.specs.Truth.{cond-t, cond-f}
 use Rattle.night_lots.specs.Lot.{lot_of}

@@ -1,3 +1,4 @@
+-- `night_lots::passed_lot`: the answers to its goals. Assumes nothing.
 use mathlib.Core.Path.{sym, ◌∙◌}
 use Rattle.floats.specs.Truth.{cond-t, cond-f}
 use Rattle.night_lots.proofs.passed_lot.Goals as goal

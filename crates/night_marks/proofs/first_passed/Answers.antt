@@ -1,3 +1,4 @@
+-- `night_marks::first_passed`: the answers to its goals. Assumes nothing.
 use mathlib.Core.Path.{sym, ◌∙◌}
 use Rattle.floats.specs.Truth.{cond-t, cond-f}
 use Rattle.night_marks.proofs.first_passed.Goals as goal

@@ -1,3 +1,4 @@
+-- `night_marks::is_over`: the answers to its goals. Assumes nothing.
 use mathlib.Core.Path.{sym, ◌∙◌}
 use Rattle.floats.specs.Truth.{or_t, or_f}
 use Rattle.night_marks.specs.Marks.{is_over}

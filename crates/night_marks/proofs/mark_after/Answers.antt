@@ -1,3 +1,4 @@
+-- `night_marks::mark_after`: the answers to its goals. Assumes nothing.
 use Rattle.night_marks.specs.Marks.{mark_after}
 use Rattle.night_marks.proofs.mark_after.Goals as goal
 

@@ -1,3 +1,4 @@
+-- `night_marks::mark_number`: the answers to its goals. Assumes nothing.
 use native.Mathlib.Omega.{arith}
 use Rattle.tally_words.specs.Counting.{bit-small}
 use Rattle.night_marks.specs.Marks.{mark_number}

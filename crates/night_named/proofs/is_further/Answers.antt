@@ -1,3 +1,4 @@
+-- `night_named::is_further`: the answers to its goals. Assumes nothing.
 use Rattle.night_named.proofs.Naming.{first-not, further-by}
 use Rattle.night_named.proofs.is_further.Goals as goal
 

@@ -1,3 +1,4 @@
+-- `night_named::is_named`: the answers to its goals. Assumes nothing.
 use Rattle.night_named.proofs.Naming.{named-after, named-first}
 use Rattle.night_named.specs.Named.{further}
 use Rattle.night_named.proofs.is_named.Goals as goal

@@ -1,3 +1,4 @@
+-- `night_named::warning_at`: the answers to its goals. Assumes nothing.
 use Rattle.night_named.proofs.Naming.{warned-last, warned-not}
 use Rattle.night_named.proofs.warning_at.Goals as goal
 

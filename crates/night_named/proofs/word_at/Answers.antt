@@ -1,3 +1,4 @@
+-- `night_named::word_at`: the answers to its goals. Assumes nothing.
 use Rattle.night_named.proofs.Naming.{word-is}
 use Rattle.night_named.proofs.word_at.Goals as goal
 

@@ -1,3 +1,4 @@
+-- `night_naming::put_field`: the answers to its goals. Assumes nothing.
 use Rattle.night_naming.proofs.Putting.{field_put, behind-number}
 use native.Mathlib.Omega.{arith}
 use Rattle.night_naming.proofs.put_field.Goals as goal

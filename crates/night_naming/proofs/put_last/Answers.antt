@@ -1,3 +1,4 @@
+-- `night_naming::put_last`: the answers to its goals. Assumes nothing.
 use Rattle.night_naming.proofs.Putting.{none-put, some-put, behind-number}
 use Rattle.night_naming.proofs.put_last.Goals as goal
 

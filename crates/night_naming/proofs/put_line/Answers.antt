@@ -1,3 +1,4 @@
+-- `night_naming::put_line`: the answers to its goals. Assumes nothing.
 use Rattle.night_naming.proofs.Putting.{line-put}
 use Rattle.night_naming.proofs.put_line.Goals as goal
 

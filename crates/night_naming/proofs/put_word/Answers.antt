@@ -1,3 +1,4 @@
+-- `night_naming::put_word`: the answers to its goals. Assumes nothing.
 use Rattle.night_naming.proofs.Putting.{word-put, behind-word}
 use Rattle.night_naming.proofs.put_word.Goals as goal
 

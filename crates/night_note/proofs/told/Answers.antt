@@ -1,3 +1,4 @@
+-- `night_note::told`: the answers to its goals. Assumes nothing.
 use Rattle.night_note.proofs.Noting.{note-is}
 use Rattle.night_note.proofs.told.Goals as goal
 

@@ -1,3 +1,4 @@
+-- `night_note::unread_told`: the answers to its goals. Assumes nothing.
 use Rattle.night_note.proofs.Noting.{unread-told}
 use Rattle.night_note.proofs.unread_told.Goals as goal
 

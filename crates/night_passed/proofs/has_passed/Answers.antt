@@ -1,3 +1,4 @@
+-- `night_passed::has_passed`: the answers to its goals. Assumes nothing.
 use Rattle.night_passed.specs.Passed.{passed_of}
 use Rattle.night_passed.proofs.has_passed.Goals as goal
 

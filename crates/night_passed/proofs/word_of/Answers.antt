@@ -1,3 +1,4 @@
+-- `night_passed::word_of`: the answers to its goals. Assumes nothing.
 use mathlib.Core.Path.{sym}
 use lib.ListN.{get_or-eq_default}
 use Rattle.night_passed.proofs.word_of.Goals as goal

@@ -1,3 +1,4 @@
+-- `night_pieces::put_next`: the answers to its goals. Assumes nothing.
 use native.Mathlib.Omega.{arith}
 use Rattle.csv_figures.specs.OutLaws.{wrote-length}
 use Rattle.night_pieces.proofs.Writing.{next-put}

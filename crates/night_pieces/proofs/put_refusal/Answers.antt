@@ -1,3 +1,4 @@
+-- `night_pieces::put_refusal`: the answers to its goals. Assumes nothing.
 use native.Mathlib.Omega.{arith}
 use borrow.Author.Tests.{eq-eqb, ne_eqb}
 use Rattle.csv_figures.specs.OutLaws.{wrote-length}

@@ -1,3 +1,4 @@
+-- `night_pieces::put_text`: the answers to its goals. Assumes nothing.
 use native.Mathlib.Omega.{arith}
 use Rattle.csv_figures.specs.OutLaws.{wrote_then, wrote-length}
 use Rattle.night_pieces.proofs.put_text.Goals as goal

@@ -1,3 +1,4 @@
+-- `night_refusal::stands_then`: the answers to its goals. Assumes nothing.
 use Rattle.night_refusal.proofs.Refusing.{left-short, open-text, left-close, stays-refused}
 use Rattle.night_refusal.proofs.stands_then.Goals as goal
 

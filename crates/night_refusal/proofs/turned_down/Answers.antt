@@ -1,3 +1,4 @@
+-- `night_refusal::turned_down`: the answers to its goals. Assumes nothing.
 use Rattle.night_refusal.proofs.Refusing.{turned-first, turned_more}
 use Rattle.night_refusal.proofs.turned_down.Goals as goal
 

@@ -1,3 +1,4 @@
+-- `night_rest::put_rest`: the answers to its goals. Assumes nothing.
 use Prim.Native.Nat.{◌-◌}
 use mathlib.Core.Path.{◌∙◌}
 use native.Mathlib.Omega.{arith}

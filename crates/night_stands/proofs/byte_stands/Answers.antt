@@ -1,3 +1,4 @@
+-- `night_stands::byte_stands`: the answers to its goals. Assumes nothing.
 use Rattle.night_stands.proofs.Bytes.{low_stands, comma-stands, other-stands}
 use Rattle.night_stands.proofs.byte_stands.Goals as goal
 

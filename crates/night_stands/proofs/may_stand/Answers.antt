@@ -1,3 +1,4 @@
+-- `night_stands::may_stand`: the answers to its goals. Assumes nothing.
 use Rattle.std.proofs.Common.{◌∙◌}
 use mathlib.Core.Path.{◌≡◌, refl, sym, subst}
 use mathlib.Core.Bool.{true}

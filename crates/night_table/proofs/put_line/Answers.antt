@@ -1,3 +1,4 @@
+-- `night_table::put_line`: the answers to its goals. Assumes nothing.
 use native.Mathlib.Omega.{arith}
 use mathlib.Core.Path.{◌∙◌}
 use Rattle.csv_figures.specs.OutLaws.{wrote-length}

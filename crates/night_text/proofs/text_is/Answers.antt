@@ -1,3 +1,4 @@
+-- `night_text::text_is`: the answers to its goals. Assumes nothing.
 use mathlib.Core.Path.{sym, ◌∙◌}
 use Rattle.night_text.proofs.Texts.{text_head, text_unhead, text-block, text_bad}
 use Rattle.night_text.proofs.text_is.Goals as goal

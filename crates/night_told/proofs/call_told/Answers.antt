@@ -1,3 +1,4 @@
+-- `night_told::call_told`: the answers to its goals. Assumes nothing.
 use Rattle.night_told.proofs.Tell.{fits-at, call-told}
 use Rattle.night_told.proofs.call_told.Goals as goal
 

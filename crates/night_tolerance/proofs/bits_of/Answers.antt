@@ -1,3 +1,4 @@
+-- `night_tolerance::bits_of`: the answers to its goals. Assumes nothing.
 use Rattle.night_tolerance.proofs.Reading.{bits_is, bits_none}
 use Rattle.night_tolerance.proofs.bits_of.Goals as goal
 

@@ -1,3 +1,4 @@
+-- `night_tolerance::is_tolerance`: the answers to its goals. Assumes nothing.
 use Rattle.night_tolerance.proofs.Reading.{tolerance-is, tolerance-none}
 use Rattle.night_tolerance.proofs.is_tolerance.Goals as goal
 

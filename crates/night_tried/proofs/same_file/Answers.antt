@@ -1,3 +1,4 @@
+-- `night_tried::same_file`: the answers to its goals. Assumes nothing.
 use mathlib.Core.Path.{sym}
 use borrow.Author.Tests.{eq-eqb, ne_eqb}
 use Rattle.floats.specs.Truth.{or_t, or_f}

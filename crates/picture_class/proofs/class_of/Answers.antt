@@ -1,3 +1,4 @@
+-- `picture_class::class_of`: the answers to its goals. Assumes nothing.
 use Rattle.picture_class.proofs.Classes.{class_curved, class_straight}
 use Rattle.picture_class.proofs.class_of.Goals as goal
 

@@ -1,3 +1,4 @@
+-- `picture_class::straight`: the answers to its goals. Assumes nothing.
 use mathlib.Core.Path.{sym, ◌∙◌}
 use Rattle.picture_class.specs.Class.{straight_of}
 use Rattle.picture_class.proofs.straight.Goals as goal

@@ -1,3 +1,4 @@
+-- `picture_fit::at_least`: the answers to its goals. Assumes nothing.
 use native.Mathlib.Omega.{arith}
 use borrow.Author.Tests.{lt-ltb, le-ltb}
 use Rattle.picture_fit.specs.Fit.{at_least}

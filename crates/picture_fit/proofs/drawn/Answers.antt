@@ -1,3 +1,4 @@
+-- `picture_fit::drawn`: the answers to its goals. Assumes nothing.
 use native.Mathlib.Omega.{arith}
 use Rattle.picture_fit.specs.Fit.{drawn}
 use Rattle.picture_span.specs.SpanLaws.{lower_second}

@@ -1,3 +1,4 @@
+-- `picture_fit::fit_by`: the answers to its goals. Assumes nothing.
 use native.Mathlib.Omega.{arith}
 use Rattle.picture_fit.specs.Fit.{fit_by}
 use Rattle.picture_fit.proofs.fit_by.Goals as goal

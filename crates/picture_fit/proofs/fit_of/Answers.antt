@@ -1,3 +1,4 @@
+-- `picture_fit::fit_of`: the answers to its goals. Assumes nothing.
 use Rattle.picture_fit.proofs.fit_of.Goals as goal
 
 pub returns : goal.returns

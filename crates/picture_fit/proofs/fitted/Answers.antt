@@ -1,3 +1,4 @@
+-- `picture_fit::fitted`: the answers to its goals. Assumes nothing.
 use borrow.Author.Tests.{lt-ltb, le-ltb}
 use Rattle.picture_fit.specs.Fit.{fit_of}
 use Rattle.picture_fit.proofs.fitted.Goals as goal

@@ -1,3 +1,4 @@
+-- `picture_fit::scale_by`: the answers to its goals. Assumes nothing.
 use native.Mathlib.Omega.{arith}
 use borrow.Author.Tests.{lt-ltb, le-ltb}
 use Rattle.picture_fit.specs.Fit.{scale_by}

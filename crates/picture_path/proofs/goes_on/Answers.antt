@@ -1,3 +1,4 @@
+-- `picture_path::goes_on`: the answers to its goals. Assumes nothing.
 use borrow.Author.Tests.{eq-eqb, ne_eqb}
 use Rattle.picture_path.specs.PathText.{goes_on}
 use Rattle.picture_path.proofs.goes_on.Goals as goal

@@ -1,3 +1,4 @@
+-- `picture_path::one_more`: the answers to its goals. Assumes nothing.
 use borrow.Author.Tests.{lt-ltb, le-ltb}
 use Rattle.picture_path.specs.PathText.{one_more}
 use Rattle.picture_path.proofs.one_more.Goals as goal

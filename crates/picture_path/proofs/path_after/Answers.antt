@@ -1,3 +1,4 @@
+-- `picture_path::path_after`: the answers to its goals. Assumes nothing.
 use mathlib.Core.Path.{sym, ◌∙◌}
 use Rattle.picture_path.specs.PathText.{path_after}
 use Rattle.picture_path.proofs.path_after.Goals as goal

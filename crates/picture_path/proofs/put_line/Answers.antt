@@ -1,3 +1,4 @@
+-- `picture_path::put_line`: the answers to its goals. Assumes nothing.
 use Rattle.csv_figures.specs.OutLaws.{wrote_then}
 use Rattle.picture_path.specs.PathText.{line_text}
 use Rattle.picture_path.proofs.put_line.Goals as goal

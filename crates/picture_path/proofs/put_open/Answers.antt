@@ -1,3 +1,4 @@
+-- `picture_path::put_open`: the answers to its goals. Assumes nothing.
 use Rattle.picture_path.specs.PathLaws.{open_wrote}
 use Rattle.picture_path.proofs.put_open.Goals as goal
 

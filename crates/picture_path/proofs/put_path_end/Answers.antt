@@ -1,3 +1,4 @@
+-- `picture_path::put_path_end`: the answers to its goals. Assumes nothing.
 use mathlib.Core.Path.{refl}
 use native.Mathlib.Omega.{arith}
 use borrow.Author.Tests.{eq-eqb, ne_eqb}

@@ -1,3 +1,4 @@
+-- `picture_pen::counted`: the answers to its goals. Assumes nothing.
 use Rattle.picture_pen.proofs.counted.Goals as goal
 
 pub returns-in-Rapid : goal.returns-in-Rapid

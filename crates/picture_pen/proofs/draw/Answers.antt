@@ -1,3 +1,4 @@
+-- `picture_pen::draw`: the answers to its goals. Assumes nothing.
 use Rattle.picture_pen.proofs.Pens.{drew_move, drew_nothing}
 use Rattle.picture_pen.proofs.draw.Goals as goal
 

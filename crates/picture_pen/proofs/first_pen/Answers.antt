@@ -1,3 +1,4 @@
+-- `picture_pen::first_pen`: the answers to its goals. Assumes nothing.
 use Rattle.picture_pen.proofs.first_pen.Goals as goal
 
 pub returns : goal.returns

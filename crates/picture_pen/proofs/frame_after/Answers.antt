@@ -1,3 +1,4 @@
+-- `picture_pen::frame_after`: the answers to its goals. Assumes nothing.
 use mathlib.Core.Path.{sym, ◌∙◌}
 use Rattle.picture_pen.specs.Pen.{frame_after}
 use Rattle.picture_pen.proofs.frame_after.Goals as goal

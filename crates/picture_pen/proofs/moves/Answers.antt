@@ -1,3 +1,4 @@
+-- `picture_pen::moves`: the answers to its goals. Assumes nothing.
 use mathlib.Core.Path.{sym, ◌∙◌}
 use Rattle.picture_pen.specs.Pen.{moves_in}
 use Rattle.picture_pen.proofs.moves.Goals as goal

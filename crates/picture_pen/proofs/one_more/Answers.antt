@@ -1,3 +1,4 @@
+-- `picture_pen::one_more`: the answers to its goals. Assumes nothing.
 use borrow.Author.Tests.{lt-ltb, le-ltb}
 use Rattle.picture_pen.specs.Pen.{one_more}
 use Rattle.picture_pen.proofs.one_more.Goals as goal

@@ -1,3 +1,4 @@
+-- `picture_pen::path_behind`: the answers to its goals. Assumes nothing.
 use Rattle.picture_pen.specs.Pen.{path_behind}
 use Rattle.picture_pen.proofs.path_behind.Goals as goal
 

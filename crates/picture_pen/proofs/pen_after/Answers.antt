@@ -1,3 +1,4 @@
+-- `picture_pen::pen_after`: the answers to its goals. Assumes nothing.
 use Rattle.picture_pen.proofs.Pens.{pen-is}
 use Rattle.picture_pen.proofs.pen_after.Goals as goal
 

@@ -1,3 +1,4 @@
+-- `picture_pen::shows_either`: the answers to its goals. Assumes nothing.
 use mathlib.Core.Path.{sym, ◌∙◌}
 use Rattle.picture_pen.specs.Pen.{shows_either}
 use Rattle.picture_pen.proofs.shows_either.Goals as goal

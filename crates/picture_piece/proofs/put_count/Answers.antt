@@ -1,3 +1,4 @@
+-- `picture_piece::put_count`: the answers to its goals. Assumes nothing.
 use native.Mathlib.Omega.{arith}
 use Rattle.csv_decimal.specs.Widths.{width-ten}
 use Rattle.csv_figures.specs.Writers.{whole_length}

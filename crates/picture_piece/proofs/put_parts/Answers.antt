@@ -1,3 +1,4 @@
+-- `picture_piece::put_parts`: the answers to its goals. Assumes nothing.
 use native.Mathlib.Omega.{arith}
 use Rattle.picture_place.specs.PlaceLaws.{millionths-short}
 use Rattle.picture_piece.specs.GrewLaws.{grew}

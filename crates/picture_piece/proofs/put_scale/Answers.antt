@@ -1,3 +1,4 @@
+-- `picture_piece::put_scale`: the answers to its goals. Assumes nothing.
 use native.Mathlib.Omega.{arith}
 use Rattle.picture_piece.proofs.put_scale.Goals as goal
 

@@ -1,3 +1,4 @@
+-- `picture_place::across`: the answers to its goals. Assumes nothing.
 use borrow.Author.Tests.{lt-ltb, le-ltb}
 use Rattle.picture_place.specs.Place.{across}
 use Rattle.picture_place.proofs.across.Goals as goal

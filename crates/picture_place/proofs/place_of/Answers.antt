@@ -1,3 +1,4 @@
+-- `picture_place::place_of`: the answers to its goals. Assumes nothing.
 use Rattle.picture_place.specs.Place.{place_of}
 use Rattle.picture_place.proofs.place_of.Goals as goal
 

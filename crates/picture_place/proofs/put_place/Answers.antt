@@ -1,3 +1,4 @@
+-- `picture_place::put_place`: the answers to its goals. Assumes nothing.
 use borrow.Author.Tests.{lt-ltb, le-ltb}
 use Rattle.csv_figures.specs.OutLaws.{wrote_then}
 use Rattle.picture_place.specs.Place.{place_text}

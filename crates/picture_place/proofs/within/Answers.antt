@@ -1,3 +1,4 @@
+-- `picture_place::within`: the answers to its goals. Assumes nothing.
 use mathlib.Core.Path.{sym}
 use native.Mathlib.Omega.{arith}
 use Rattle.picture_place.specs.PlaceLaws.{near-small, near_large}

@@ -1,3 +1,4 @@
+-- `picture_point::put_point`: the answers to its goals. Assumes nothing.
 use native.Mathlib.Omega.{arith}
 use Rattle.csv_figures.specs.OutLaws.{wrote-length}
 use Rattle.picture_point.specs.PointLaws.{behind-place, point-wrote}

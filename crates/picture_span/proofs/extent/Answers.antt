@@ -1,3 +1,4 @@
+-- `picture_span::extent`: the answers to its goals. Assumes nothing.
 use native.Mathlib.Omega.{arith}
 use borrow.Author.Tests.{lt-ltb, le-ltb}
 use Rattle.picture_span.specs.Span.{extent}

@@ -1,3 +1,4 @@
+-- `picture_span::higher`: the answers to its goals. Assumes nothing.
 use borrow.Author.Tests.{lt-ltb, le-ltb}
 use Rattle.picture_span.specs.Span.{higher_of}
 use Rattle.picture_span.proofs.higher.Goals as goal

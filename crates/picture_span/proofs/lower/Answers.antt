@@ -1,3 +1,4 @@
+-- `picture_span::lower`: the answers to its goals. Assumes nothing.
 use borrow.Author.Tests.{lt-ltb, le-ltb}
 use Rattle.picture_span.specs.Span.{lower_of}
 use Rattle.picture_span.proofs.lower.Goals as goal

@@ -1,3 +1,4 @@
+-- `picture_span::widened`: the answers to its goals. Assumes nothing.
 use Rattle.picture_span.proofs.widened.Goals as goal
 
 pub returns : goal.returns

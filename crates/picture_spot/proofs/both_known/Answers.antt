@@ -1,3 +1,4 @@
+-- `picture_spot::both_known`: the answers to its goals. Assumes nothing.
 use Rattle.picture_spot.specs.Spot.{both_known}
 use Rattle.picture_spot.proofs.both_known.Goals as goal
 

@@ -1,3 +1,4 @@
+-- `picture_spot::spot_after`: the answers to its goals. Assumes nothing.
 use mathlib.Core.Path.{sym, ◌∙◌}
 use Rattle.picture_spot.specs.Spot.{spot_after}
 use Rattle.picture_spot.proofs.spot_after.Goals as goal

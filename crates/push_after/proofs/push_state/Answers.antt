@@ -1,3 +1,4 @@
+-- `push_after::push_state`: the answers to its goals. Assumes nothing.
 use native.Mathlib.Omega.{arith}
 use Rattle.push_after.proofs.Steps.{step_1, block_2, held_2, long_3, block_4, axes_4, state-done}
 use Rattle.push_after.proofs.push_state.Goals as goal

@@ -1,3 +1,4 @@
+-- `push_after::push_store`: the answers to its goals. Assumes nothing.
 use mathlib.Core.Path.{sym, ◌∙◌}
 use native.Mathlib.Omega.{arith}
 use Rattle.floats.specs.Truth.{cond-t, cond-f}

@@ -1,3 +1,4 @@
+-- `push_check::check_push`: the answers to its goals. Assumes nothing.
 use mathlib.Core.Path.{sym, ◌∙◌}
 use Rattle.push_resolve.specs.BlockLaws.{block}
 use Rattle.push_check.proofs.DueLaws.{due-saved, due-row, due-full, due-block}

@@ -1,3 +1,4 @@
+-- `push_check::is_full`: the answers to its goals. Assumes nothing.
 use mathlib.Core.Path.{sym, refl, ap₂, ◌∙◌}
 use lib.Dec.{leb}
 use Rattle.floats.specs.Truth.{and_t, and_f}

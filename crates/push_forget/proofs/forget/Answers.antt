@@ -1,3 +1,4 @@
+-- `push_forget::forget`: the answers to its goals. Assumes nothing.
 use mathlib.Core.Path.{ap}
 use mathlib.Core.List.{List}
 use Prim.Native.Nat.{ℕ}

@@ -1,3 +1,4 @@
+-- `push_forget::zero_start`: the answers to its goals. Assumes nothing.
 use mathlib.Core.Path.{◌≡◌, refl}
 use native.Mathlib.Omega.{arith}
 use Prim.Native.Nat.{◌+◌, ◌-◌}

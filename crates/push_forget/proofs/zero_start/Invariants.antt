@@ -1,3 +1,4 @@
+-- `push_forget::zero_start`: what holds at each turn of its loops. Assumes nothing.
 use Prim.Native.Nat.{ℕ, ◌+◌, ◌-◌, ◌≤◌}
 use Rattle.floats.specs.Splice.{Splicing}
 use Rattle.layout.specs.Layout.{axis_codes, w_start}

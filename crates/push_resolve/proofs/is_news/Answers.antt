@@ -1,3 +1,4 @@
+-- `push_resolve::is_news`: the answers to its goals. Assumes nothing.
 use mathlib.Core.Path.{sym, ap, ◌∙◌}
 use mathlib.Core.Bool.{not}
 use Rattle.floats.specs.Truth.{and_t, and_f}

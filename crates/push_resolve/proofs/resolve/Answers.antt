@@ -1,3 +1,4 @@
+-- `push_resolve::resolve`: the answers to its goals. Assumes nothing.
 use Rattle.push_resolve.specs.BlockLaws.{block_listed, resolved-is}
 use Rattle.push_resolve.proofs.resolve.Goals as goal
 

@@ -1,3 +1,4 @@
+-- `push_rows::plan_own`: the answers to its goals. Assumes nothing.
 use Rattle.push_rows.specs.OwnLaws.{ready-kind, own_same, own_linear, own_clockwise, own_counter, own_akima, own-basis, own-cubic, own-other, own-refused}
 use Rattle.push_rows.proofs.plan_own.Goals as goal
 

@@ -1,3 +1,4 @@
+-- `push_rows::plan_turn`: the answers to its goals. Assumes nothing.
 use native.Mathlib.Omega.{arith}
 use lib.ListN.{length-take, length-drop}
 use Rattle.push_rows.specs.OwnLaws.{place_is, turn-planned, ready-axes, ready-plane, ready-small}

@@ -1,3 +1,4 @@
+-- `push_settle::settle`: the answers to its goals. Assumes nothing.
 use mathlib.Core.Path.{ap, ◌∙◌}
 use mathlib.Core.Bool.{cond}
 use Prim.Native.Nat.{ℕ, ◌+◌}

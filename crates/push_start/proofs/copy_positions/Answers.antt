@@ -1,3 +1,4 @@
+-- `push_start::copy_positions`: the answers to its goals. Assumes nothing.
 use mathlib.Core.Path.{◌≡◌, ap, ◌∙◌}
 use mathlib.Core.Option.{Option, get_or}
 use native.Mathlib.Omega.{arith}

@@ -1,3 +1,4 @@
+-- `push_start::copy_positions`: what holds at each turn of its loops. Assumes nothing.
 use mathlib.Core.Option.{get_or}
 use Prim.Native.Nat.{ℕ, ◌+◌, ◌-◌, ◌≤◌}
 use Rattle.floats.specs.Splice.{Splicing}

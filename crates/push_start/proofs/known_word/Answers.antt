@@ -1,3 +1,4 @@
+-- `push_start::known_word`: the answers to its goals. Assumes nothing.
 use mathlib.Core.Path.{sym, ap, ◌∙◌}
 use mathlib.Core.Option.{Option, get_or}
 use Prim.Native.Nat.{ℕ}

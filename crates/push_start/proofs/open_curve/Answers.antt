@@ -1,3 +1,4 @@
+-- `push_start::open_curve`: the answers to its goals. Assumes nothing.
 use lib.ListN.{length-set}
 use Rattle.push_start.proofs.Opening.{open_done, open_length}
 use Rattle.push_start.proofs.open_curve.Goals as goal

@@ -1,3 +1,4 @@
+-- `push_state::buffer`: the answers to its goals. Assumes nothing.
 use native.Mathlib.Omega.{arith}
 use lib.ListN.{length-set}
 use Rattle.push_state.proofs.Degree.{buffer-done}

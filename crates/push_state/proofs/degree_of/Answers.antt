@@ -1,3 +1,4 @@
+-- `push_state::degree_of`: the answers to its goals. Assumes nothing.
 use mathlib.Core.Path.{◌≡◌, ap, ◌∙◌}
 use native.Mathlib.Omega.{arith}
 use Rattle.floats.specs.Numbers.{num}

@@ -1,3 +1,4 @@
+-- `push_state::degree_with`: the answers to its goals. Assumes nothing.
 use mathlib.Core.Path.{sym, ◌∙◌}
 use Rattle.push_state.proofs.Degree.{degree-there, degree-absent}
 use Rattle.push_state.proofs.degree_with.Goals as goal

@@ -1,3 +1,4 @@
+-- `push_steps::buffer_if`: the answers to its goals. Assumes nothing.
 use mathlib.Core.Path.{sym, ◌∙◌}
 use Rattle.floats.specs.Truth.{cond-t, cond-f}
 use Rattle.push_steps.proofs.buffer_if.Goals as goal

@@ -1,3 +1,4 @@
+-- `push_steps::track`: the answers to its goals. Assumes nothing.
 use mathlib.Core.Path.{◌∙◌}
 use native.Mathlib.Omega.{arith}
 use Rattle.push_steps.proofs.Tracks.{tracked-long, tracked-none, tracked-axis, tracked-fewer, tracked-more, tracked}

@@ -1,3 +1,4 @@
+-- `push_steps::track`: what holds at each turn of its loops. Assumes nothing.
 use Rattle.push_resolve.specs.Asks.{Block}
 use Rattle.push_steps.proofs.Tracks.{Tracked}
 use Rattle.push_steps.proofs.track.Given as goal

@@ -1,3 +1,4 @@
+-- `push_steps::warn_if`: the answers to its goals. Assumes nothing.
 use mathlib.Core.Path.{sym, ap, ◌∙◌}
 use lib.ListN.{set}
 use Rattle.floats.specs.Truth.{cond-t, cond-f}

@@ -1,3 +1,4 @@
+-- `push_write::write_own`: the answers to its goals. Assumes nothing.
 use native.Mathlib.Omega.{arith}
 use Rattle.push_write.proofs.Writing.{unwritten}
 use Rattle.push_write.proofs.write_own.Goals as goal

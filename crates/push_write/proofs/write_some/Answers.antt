@@ -1,3 +1,4 @@
+-- `push_write::write_some`: the answers to its goals. Assumes nothing.
 use native.Mathlib.Omega.{arith}
 use Rattle.push_write.proofs.Writing.{passed_on}
 use Rattle.push_write.proofs.write_some.Goals as goal

@@ -1,3 +1,4 @@
+-- `push_write::write_turn`: the answers to its goals. Assumes nothing.
 use native.Mathlib.Omega.{arith}
 use lib.ListN.{length-take, length-drop}
 use Rattle.push_rows.specs.OwnLaws.{place_is, ready-axes, ready-plane, ready-small}

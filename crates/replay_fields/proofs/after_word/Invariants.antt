@@ -1,3 +1,4 @@
+-- `replay_fields::after_word`: what holds at each turn of its loops. Assumes nothing.
 use Prim.Native.Nat.{◌-◌, ◌≤◌}
 use lib.ListN.{length}
 use Rattle.replay_fields.proofs.after_word.Given as goal

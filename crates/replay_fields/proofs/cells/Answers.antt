@@ -1,3 +1,4 @@
+-- `replay_fields::cells`: the answers to its goals. Assumes nothing.
 use Prim.Native.Nat.{◌-◌}
 use native.Mathlib.Omega.{arith}
 use lib.ListN.{length-set}

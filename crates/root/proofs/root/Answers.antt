@@ -1,3 +1,4 @@
+-- `root::root`: the answers to its goals. Assumes nothing.
 use mathlib.Core.Path.{◌≡◌, sym, ap, ◌∙◌, subst}
 use mathlib.Core.Bool.{Bool, not}
 use lib.Dec.{T}

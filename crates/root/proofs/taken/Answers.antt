@@ -1,3 +1,4 @@
+-- `root::taken`: the answers to its goals. Assumes nothing.
 use borrow.Author.Tests.{eq-eqb, ne_eqb}
 use Rattle.root.proofs.taken.Goals as goal
 

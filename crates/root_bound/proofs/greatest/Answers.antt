@@ -1,3 +1,4 @@
+-- `root_bound::greatest`: the answers to its goals. Assumes nothing.
 use Rattle.root_bound.proofs.Bound.{by-halves}
 use Rattle.root_bound.proofs.greatest.Goals as goal
 

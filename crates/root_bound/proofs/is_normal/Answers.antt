@@ -1,3 +1,4 @@
+-- `root_bound::is_normal`: the answers to its goals. Assumes nothing.
 use borrow.Author.Tests.{le-leb, lt-leb}
 use Rattle.root_bound.proofs.is_normal.Goals as goal
 

@@ -1,3 +1,4 @@
+-- `root_bound::product`: the answers to its goals. Assumes nothing.
 use mathlib.Core.Path.{refl}
 use native.Mathlib.Omega.{arith}
 use Rattle.root_guess.specs.Products.{mul_lt_pow}

@@ -1,6 +1,7 @@
+-- `root_bound::root_at_most`: the answers to its goals. Assumes nothing.
 use mathlib.Core.Path.{sym, ap, ◌∙◌, subst}
 use lib.Dec.{T}
-use lib.Ieee.{Float, binary64, fits, le, of_bits}
+use lib.Ieee.{Float, binary64, le, of_bits}
 use lib.Ieee.Bits.{of_bits-to_bits}
 use Rattle.root.specs.Root.{sqrt}
 use Rattle.root_bound.proofs.Bound.{normal-is}

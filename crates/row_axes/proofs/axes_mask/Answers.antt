@@ -1,3 +1,4 @@
+-- `row_axes::axes_mask`: the answers to its goals. Assumes nothing.
 use native.Mathlib.Omega.{arith}
 use Prim.Native.Nat.{◌-◌}
 use Rattle.row_axes.proofs.Marking.{marking_none, marking_more, marked}

@@ -1,3 +1,4 @@
+-- `row_axes::axes_mask`: what holds at each turn of its loops. Assumes nothing.
 use Prim.Native.Nat.{◌-◌, ◌≤◌}
 use lib.ListN.{length}
 use Rattle.row_axes.proofs.Marking.{Marking}

@@ -1,3 +1,4 @@
+-- `row_axes::with_axis`: the answers to its goals. Assumes nothing.
 use mathlib.Core.Path.{sym, ◌∙◌}
 use borrow.Author.Tests.{lt-ltb, le-ltb}
 use Rattle.floats.specs.Truth.{cond-t, cond-f}

@@ -1,3 +1,4 @@
+-- `row_cells::set_bit`: the answers to its goals. Assumes nothing.
 use mathlib.Core.Path.{◌≡◌}
 use native.Mathlib.Omega.{arith}
 use Prim.Native.Nat.{ℕ, ◌*◌, ◌%◌, ◌^◌}

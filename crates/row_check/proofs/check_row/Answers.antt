@@ -1,3 +1,4 @@
+-- `row_check::check_row`: the answers to its goals. Assumes nothing.
 use mathlib.Core.Path.{sym, ◌∙◌}
 use Rattle.floats.specs.Truth.{cond-t, cond-f}
 use Rattle.row_check.specs.Check.{row_check}

@@ -1,3 +1,4 @@
+-- `row_check::fields_ok`: the answers to its goals. Assumes nothing.
 use mathlib.Core.Path.{sym, ◌∙◌}
 use borrow.Author.Tests.{eq-eqb, ne_eqb}
 use Rattle.floats.specs.Truth.{and_t, and_f}

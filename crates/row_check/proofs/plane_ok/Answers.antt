@@ -1,3 +1,4 @@
+-- `row_check::plane_ok`: the answers to its goals. Assumes nothing.
 use borrow.Author.Tests.{le-leb, lt-leb, eq-eqb, ne_eqb}
 use Rattle.row_cells.specs.Codes.{plane_ok}
 use Rattle.row_check.proofs.plane_ok.Goals as goal

@@ -1,3 +1,4 @@
+-- `row_check::shape_ok`: the answers to its goals. Assumes nothing.
 use borrow.Author.Tests.{lt-ltb, le-ltb, le-leb, lt-leb, eq-eqb, ne_eqb}
 use mathlib.Core.Path.{sym, ◌∙◌}
 use Rattle.floats.specs.Truth.{and_t, and_f}
@@ -17,7 +18,8 @@ unfolding shape_ok
 returns-then-row-gt-LAST_MOTION c =
     let two = c in
     let one = two in
-    sym (and_t _ (eq-eqb _ _ one.if-row-ne-ROW_WORDS.false) ∙ and_t _ (lt-ltb _ _ two.if-row-ge-LINE_NUMBERS.false) ∙ and_f _ (lt-leb _ _ c.if-row-gt-LAST_MOTION.true))
+    sym (and_t _ (eq-eqb _ _ one.if-row-ne-ROW_WORDS.false) ∙ and_t _ (lt-ltb _ _ two.if-row-ge-LINE_NUMBERS.false) ∙ and_f _ (lt-leb _ _
+        c.if-row-gt-LAST_MOTION.true))
 
 pub returns : goal.returns
 unfolding shape_ok
@@ -25,5 +27,6 @@ returns c =
     let three = c in
     let two = three in
     let one = two in
-    let passed = and_t _ (eq-eqb _ _ one.if-row-ne-ROW_WORDS.false) ∙ and_t _ (lt-ltb _ _ two.if-row-ge-LINE_NUMBERS.false) ∙ and_t _ (le-leb _ _ three.if-row-gt-LAST_MOTION.false) in
+    let passed = and_t _ (eq-eqb _ _ one.if-row-ne-ROW_WORDS.false) ∙ and_t _ (lt-ltb _ _ two.if-row-ge-LINE_NUMBERS.false) ∙ and_t _ (le-leb _ _
+        three.if-row-gt-LAST_MOTION.false) in
     c.fields_ok.ensures ∙ sym passed

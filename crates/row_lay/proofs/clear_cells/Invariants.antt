@@ -1,3 +1,4 @@
+-- `row_lay::clear_cells`: what holds at each turn of its loops. Assumes nothing.
 use Prim.Native.Nat.{◌-◌, ◌≤◌}
 use Rattle.floats.specs.Splice.{Splicing}
 use Rattle.layout.specs.Layout.{cells}

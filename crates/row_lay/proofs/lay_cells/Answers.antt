@@ -1,3 +1,4 @@
+-- `row_lay::lay_cells`: the answers to its goals. Assumes nothing.
 use mathlib.Core.Path.{refl}
 use native.Mathlib.Omega.{arith}
 use Rattle.row_cells.specs.BitWalk.{at-bit}

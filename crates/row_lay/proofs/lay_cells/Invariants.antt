@@ -1,3 +1,4 @@
+-- `row_lay::lay_cells`: what holds at each turn of its loops. Assumes nothing.
 use Rattle.row_lay.proofs.Laying.{Laying}
 use Rattle.row_lay.proofs.lay_cells.Given as goal
 

@@ -1,3 +1,4 @@
+-- `row_lay::put_cells`: the answers to its goals. Assumes nothing.
 use native.Mathlib.Omega.{arith}
 use Rattle.row_lay.specs.Over.{zeros}
 use Rattle.row_lay.proofs.put_cells.Goals as goal

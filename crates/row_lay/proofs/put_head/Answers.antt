@@ -1,3 +1,4 @@
+-- `row_lay::put_head`: the answers to its goals. Assumes nothing.
 use native.Mathlib.Omega.{arith}
 use lib.ListN.{length-set}
 use Rattle.row_lay.proofs.Heads.{head-set}

@@ -1,3 +1,4 @@
+-- `row_made::made_head`: the answers to its goals. Assumes nothing.
 use Rattle.row_made.specs.Making.{head-same}
 use Rattle.row_made.proofs.made_head.Goals as goal
 

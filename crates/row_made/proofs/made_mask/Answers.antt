@@ -1,3 +1,4 @@
+-- `row_made::made_mask`: the answers to its goals. Assumes nothing.
 use mathlib.Core.Path.{◌∙◌, ap}
 use Prim.Native.Nat.{ℕ}
 use lib.Bits.{bit_and, bit_or}

@@ -1,3 +1,4 @@
+-- `row_make::put_first_cells`: the answers to its goals. Assumes nothing.
 use native.Mathlib.Omega.{arith}
 use Rattle.row_made.specs.Making.{first_lays, own_lays, first-written}
 use Rattle.row_make.proofs.put_first_cells.Goals as goal

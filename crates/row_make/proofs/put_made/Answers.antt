@@ -1,3 +1,4 @@
+-- `row_make::put_made`: the answers to its goals. Assumes nothing.
 use native.Mathlib.Omega.{arith}
 use Rattle.row_made.specs.Making.{made-written}
 use Rattle.row_make.proofs.put_made.Goals as goal

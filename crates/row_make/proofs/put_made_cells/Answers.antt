@@ -1,3 +1,4 @@
+-- `row_make::put_made_cells`: the answers to its goals. Assumes nothing.
 use mathlib.Core.Path.{ap, ◌∙◌}
 use native.Mathlib.Omega.{arith}
 use Rattle.floats.specs.Lists.{spliced}

@@ -1,3 +1,4 @@
+-- `row_numbers::cells_ok`: what holds at each turn of its loops. Assumes nothing.
 use mathlib.Core.Path.{◌≡◌}
 use mathlib.Core.Bool.{true}
 use Prim.Native.Nat.{ℕ}

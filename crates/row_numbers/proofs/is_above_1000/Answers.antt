@@ -1,3 +1,4 @@
+-- `row_numbers::is_above_1000`: the answers to its goals. Assumes nothing.
 use borrow.Author.Tests.{lt-ltb, le-ltb}
 use Rattle.row_numbers.specs.RowNumbers.{above1000}
 use Rattle.row_numbers.proofs.is_above_1000.Goals as goal

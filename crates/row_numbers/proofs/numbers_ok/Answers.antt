@@ -1,3 +1,4 @@
+-- `row_numbers::numbers_ok`: the answers to its goals. Assumes nothing.
 use mathlib.Core.Path.{sym, ◌∙◌}
 use Rattle.floats.specs.Truth.{and_t, and_f}
 use Rattle.row_numbers.proofs.FirstCells.{numbers-mask, three-apart}

@@ -1,3 +1,4 @@
+-- `row_numbers::three_within`: the answers to its goals. Assumes nothing.
 use mathlib.Core.Path.{sym, ◌∙◌}
 use Rattle.floats.specs.Truth.{and_t, and_f}
 use Rattle.row_numbers.proofs.three_within.Goals as goal

@@ -1,3 +1,4 @@
+-- `row_numbers::turn_ok`: the answers to its goals. Assumes nothing.
 use mathlib.Core.Path.{sym, ap, ◌∙◌}
 use mathlib.Core.Bool.{not}
 use Rattle.floats.specs.Truth.{or_t, or_f}

@@ -1,3 +1,4 @@
+-- `row_put::put_row`: the answers to its goals. Assumes nothing.
 use native.Mathlib.Omega.{arith}
 use native.Mathlib.Nat.{mod-lt}
 use lib.Pow.{pow_pos}

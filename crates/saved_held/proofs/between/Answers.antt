@@ -1,3 +1,4 @@
+-- `saved_held::between`: the answers to its goals. Assumes nothing.
 use borrow.Author.Tests.{le-leb, lt-leb}
 use Rattle.saved_held.proofs.between.Goals as goal
 

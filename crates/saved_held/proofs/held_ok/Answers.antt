@@ -1,3 +1,4 @@
+-- `saved_held::held_ok`: the answers to its goals. Assumes nothing.
 use mathlib.Core.Path.{sym, ap, ◌∙◌}
 use borrow.Author.Tests.{le-leb, lt-leb, eq-eqb, ne_eqb}
 use Rattle.floats.specs.Truth.{and_t, and_f, or_t, or_f}

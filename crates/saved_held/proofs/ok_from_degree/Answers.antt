@@ -1,3 +1,4 @@
+-- `saved_held::ok_from_degree`: the answers to its goals. Assumes nothing.
 use mathlib.Core.Path.{sym, ◌∙◌}
 use Rattle.floats.specs.Truth.{and_t, and_f}
 use Rattle.saved_held.proofs.ok_from_degree.Goals as goal

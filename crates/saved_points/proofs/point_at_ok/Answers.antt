@@ -1,3 +1,4 @@
+-- `saved_points::point_at_ok`: the answers to its goals. Assumes nothing.
 use mathlib.Core.Path.{sym, ◌∙◌}
 use Rattle.floats.specs.Truth.{and_t, and_f}
 use Rattle.saved_points.proofs.Points.{point-there}

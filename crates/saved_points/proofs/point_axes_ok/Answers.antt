@@ -1,3 +1,4 @@
+-- `saved_points::point_axes_ok`: the answers to its goals. Assumes nothing.
 use Rattle.std.proofs.Common.{◌∙◌}
 use mathlib.Core.Path.{sym}
 use mathlib.Core.Bool.{true}

@@ -1,3 +1,4 @@
+-- `saved_points::point_ok`: the answers to its goals. Assumes nothing.
 use mathlib.Core.Path.{sym, ◌∙◌}
 use borrow.Author.Tests.{lt-ltb, le-ltb}
 use Rattle.floats.specs.Truth.{and_t, and_f}

@@ -1,3 +1,4 @@
+-- `saved_rows::held_row_ok`: the answers to its goals. Assumes nothing.
 use mathlib.Core.Path.{ap, ◌∙◌}
 use Rattle.saved_state.specs.State.{row_fits, held_row_ok}
 use Rattle.saved_state.specs.Walk.{part-row}

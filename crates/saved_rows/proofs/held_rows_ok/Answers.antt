@@ -1,3 +1,4 @@
+-- `saved_rows::held_rows_ok`: the answers to its goals. Assumes nothing.
 use Rattle.std.proofs.Common.{◌∙◌}
 use mathlib.Core.Path.{◌≡◌, refl, sym, subst}
 use mathlib.Core.Bool.{true}

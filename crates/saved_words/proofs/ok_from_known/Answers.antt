@@ -1,3 +1,4 @@
+-- `saved_words::ok_from_known`: the answers to its goals. Assumes nothing.
 use mathlib.Core.Path.{sym, ◌∙◌}
 use Rattle.floats.specs.Truth.{and_t, and_f}
 use Rattle.saved_words.proofs.ok_from_known.Goals as goal

@@ -1,3 +1,4 @@
+-- `spline_adding::add_channels`: the answers to its goals. Assumes nothing.
 use Prim.Native.Nat.{◌-◌}
 use native.Mathlib.Omega.{arith}
 use Rattle.floats.specs.Lists.{keep}

@@ -1,3 +1,4 @@
+-- `spline_adding::add_channels`: what holds at each turn of its loops. Assumes nothing.
 use Prim.Native.Nat.{◌≤◌, ◌-◌}
 use lib.ListN.{length, take}
 use Rattle.floats.specs.Lists.{keep}

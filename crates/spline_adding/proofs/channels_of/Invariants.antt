@@ -1,3 +1,4 @@
+-- `spline_adding::channels_of`: what holds at each turn of its loops. Assumes nothing.
 use Prim.Native.Nat.{◌≤◌, ◌-◌}
 use Rattle.spline_channels.specs.Gathers.{ChannelsPut}
 use Rattle.spline_adding.proofs.channels_of.Given as goal

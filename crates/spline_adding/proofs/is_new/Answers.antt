@@ -1,3 +1,4 @@
+-- `spline_adding::is_new`: the answers to its goals. Assumes nothing.
 use mathlib.Core.Path.{sym, ap, ◌∙◌}
 use mathlib.Core.Bool.{not}
 use Rattle.spline_channels.proofs.ChannelLaws.{not_new, maybe_new}

@@ -1,3 +1,4 @@
+-- `spline_channels::block`: the answers to its goals. Assumes nothing.
 use Rattle.spline_channels.proofs.ChannelLaws.{block-is}
 use Rattle.spline_channels.proofs.block.Goals as goal
 

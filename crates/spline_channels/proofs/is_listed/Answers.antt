@@ -1,3 +1,4 @@
+-- `spline_channels::is_listed`: the answers to its goals. Assumes nothing.
 use Rattle.spline_channels.specs.Keeps.{member-placed}
 use Rattle.spline_channels.proofs.is_listed.Goals as goal
 

@@ -1,3 +1,4 @@
+-- `spline_channels::programs`: the answers to its goals. Assumes nothing.
 use Rattle.layout.specs.Layout.{axis_codes}
 use mathlib.Core.Path.{◌∙◌}
 use borrow.Author.Tests.{lt-ltb, le-ltb}

@@ -1,3 +1,4 @@
+-- `spline_curve::count_curve`: the answers to its goals. Assumes nothing.
 use native.Mathlib.Omega.{arith}
 use Rattle.spline_curve.specs.Curves.{count_none}
 use Rattle.spline_curve.proofs.count_curve.Goals as goal

@@ -1,3 +1,4 @@
+-- `spline_curve::gather_curve`: the answers to its goals. Assumes nothing.
 use mathlib.Core.Path.{sym, ap}
 use native.Mathlib.Omega.{arith}
 use lib.ListN.{length}
@@ -43,7 +44,8 @@ points_of-n-requires c =
     let short = chan_short _ _ _ _ _ start.requires.holds.once listed in
     let codes = chan_codes _ _ start.requires.holds.once _ listed.is in
     let long = ap length listed.is in
-    record { row_words_in_bounds = (start.requires.holds.lent, (start.requires.holds.many, codes)); chans_len_bound = (short, (rw long start.requires.held_in_bounds.0, start.requires.held_in_bounds.1)); axis_codes_in_bounds = start.requires.holds.start }
+    record { row_words_in_bounds = (start.requires.holds.lent, (start.requires.holds.many, codes)); chans_len_bound = (short, (rw long
+        start.requires.held_in_bounds.0, start.requires.held_in_bounds.1)); axis_codes_in_bounds = start.requires.holds.start }
 
 pub returns : goal.returns
 returns c =
@@ -52,4 +54,5 @@ returns c =
     let at-channels-of = at-metric-of in
     let start = at-channels-of in
     let listed = at-channels-of.channels_of-ch.ensures in
-    gathered-is _ _ _ _ _ _ _ _ _ _ _ _ start.requires.holds.once start.requires.axis_codes_in_bounds.1 listed at-metric-of.metric_of-metric.ensures at-points-of.points_of-n.ensures
+    gathered-is _ _ _ _ _ _ _ _ _ _ _ _ start.requires.holds.once start.requires.axis_codes_in_bounds.1 listed at-metric-of.metric_of-metric.ensures
+        at-points-of.points_of-n.ensures

@@ -1,3 +1,4 @@
+-- `spline_curve::prepare_curve`: the answers to its goals. Assumes nothing.
 use native.Mathlib.Omega.{arith}
 use Rattle.spline_curve.proofs.prepare_curve.Goals as goal
 

@@ -1,3 +1,4 @@
+-- `spline_curve::write_curve`: the answers to its goals. Assumes nothing.
 use Rattle.spline_curve.specs.Curves.{write_none}
 use Rattle.spline_curve.proofs.write_curve.Goals as goal
 

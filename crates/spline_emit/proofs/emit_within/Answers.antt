@@ -1,3 +1,4 @@
+-- `spline_emit::emit_within`: the answers to its goals. Assumes nothing.
 use native.Mathlib.Omega.{arith}
 use Rattle.spline_emission.specs.SizeLaws.{numbers-few}
 use Rattle.spline_emit.proofs.emit_within.Goals as goal

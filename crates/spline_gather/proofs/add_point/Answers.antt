@@ -1,3 +1,4 @@
+-- `spline_gather::add_point`: the answers to its goals. Assumes nothing.
 use mathlib.Core.Path.{sym, ◌∙◌}
 use Rattle.spline_points.specs.Curve.{point_added, weight_added, point_unadded, weight_unadded, point-room}
 use Rattle.spline_gather.proofs.add_point.Goals as goal

@@ -1,3 +1,4 @@
+-- `spline_gather::add_points`: what holds at each turn of its loops. Assumes nothing.
 use Prim.Native.Nat.{◌≤◌, ◌-◌}
 use Rattle.spline_points.specs.Gathers.{PointsPut, WeightsPut}
 use Rattle.spline_gather.proofs.add_points.Given as goal

@@ -1,3 +1,4 @@
+-- `spline_gather::first_value`: the answers to its goals. Assumes nothing.
 use mathlib.Core.Path.{sym, ap, ◌∙◌}
 use native.Mathlib.Omega.{arith}
 use lib.ListN.{length}

@@ -1,3 +1,4 @@
+-- `spline_gather::first_value`: what holds at each turn of its loops. Assumes nothing.
 use mathlib.Core.Path.{◌≡◌}
 use Prim.Native.Nat.{◌≤◌}
 use Rattle.floats.specs.Numbers.{num}

@@ -1,3 +1,4 @@
+-- `spline_gather::start_point`: the answers to its goals. Assumes nothing.
 use mathlib.Core.Path.{ap}
 use mathlib.Core.List.{map}
 use Prim.Native.Nat.{◌-◌}

@@ -1,3 +1,4 @@
+-- `spline_gather::start_point`: what holds at each turn of its loops. Assumes nothing.
 use mathlib.Core.List.{map}
 use Prim.Native.Nat.{ℕ, ◌≤◌, ◌-◌}
 use lib.ListN.{length, take}

@@ -1,3 +1,4 @@
+-- `spline_gather::start_value`: the answers to its goals. Assumes nothing.
 use mathlib.Core.Path.{sym, ◌∙◌}
 use Rattle.spline_points.specs.Curve.{start-yes, start-no}
 use Rattle.spline_gather.proofs.start_value.Goals as goal

@@ -1,3 +1,4 @@
+-- `spline_marks::is_marked`: the answers to its goals. Assumes nothing.
 use borrow.Author.Tests.{not-true, not-false}
 use Rattle.spline_marks.proofs.Marking.{mark-inner, mark-end, mark-basis}
 use Rattle.spline_marks.proofs.is_marked.Goals as goal

@@ -1,3 +1,4 @@
+-- `spline_marks::motion_of`: the answers to its goals. Assumes nothing.
 use Rattle.spline_marks.proofs.Marking.{motion-first, motion-later}
 use Rattle.spline_marks.proofs.motion_of.Goals as goal
 

@@ -1,3 +1,4 @@
+-- `spline_metric::add_place`: the answers to its goals. Assumes nothing.
 use Rattle.spline_metric.proofs.MetricLaws.{xyz-yes, xyz-no}
 use Rattle.spline_channels.specs.Append.{appended_kept, appended_left}
 use borrow.Author.Rules.{rules}

@@ -1,3 +1,4 @@
+-- `spline_metric::all_places`: what holds at each turn of its loops. Assumes nothing.
 use Prim.Native.Nat.{ℕ, ◌≤◌, ◌-◌}
 use Rattle.floats.specs.Lists.{upto}
 use Rattle.spline_channels.specs.Gathers.{Appended}

@@ -1,3 +1,4 @@
+-- `spline_metric::metric_of`: the answers to its goals. Assumes nothing.
 use native.Mathlib.Omega.{arith}
 use Rattle.spline_metric.proofs.MetricLaws.{metric-all, metric-xyz}
 use Rattle.spline_channels.specs.Append.{appended_fresh, appended_as}

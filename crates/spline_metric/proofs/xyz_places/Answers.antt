@@ -1,3 +1,4 @@
+-- `spline_metric::xyz_places`: the answers to its goals. Assumes nothing.
 use mathlib.Core.Path.{◌≡◌, sym}
 use Prim.Native.Nat.{ℕ, ◌-◌}
 use native.Mathlib.Omega.{arith}

@@ -1,3 +1,4 @@
+-- `spline_metric::xyz_places`: what holds at each turn of its loops. Assumes nothing.
 use Prim.Native.Nat.{ℕ, ◌≤◌, ◌-◌}
 use lib.ListN.{length}
 use Rattle.floats.specs.Lists.{upto, keep}

@@ -1,3 +1,4 @@
+-- `spline_points::next_value`: the answers to its goals. Assumes nothing.
 use mathlib.Core.Path.{sym, ◌∙◌}
 use Rattle.spline_points.specs.Curve.{number-yes, number-no}
 use Rattle.spline_points.proofs.next_value.Goals as goal

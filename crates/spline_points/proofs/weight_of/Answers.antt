@@ -1,3 +1,4 @@
+-- `spline_points::weight_of`: the answers to its goals. Assumes nothing.
 use Rattle.spline_points.specs.Curve.{weight_low, weight_high}
 use Rattle.spline_points.proofs.weight_of.Goals as goal
 

@@ -1,3 +1,4 @@
+-- `spline_rows::put_point`: the answers to its goals. Assumes nothing.
 use mathlib.Core.Path.{ap, ◌∙◌}
 use Rattle.spline_places.specs.SizeLaws.{size_least}
 use native.Mathlib.Omega.{arith}

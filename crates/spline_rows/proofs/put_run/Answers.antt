@@ -1,3 +1,4 @@
+-- `spline_rows::put_run`: the answers to its goals. Assumes nothing.
 use mathlib.Core.Path.{refl}
 use native.Mathlib.Omega.{arith}
 use Rattle.spline_rows.proofs.Backward.{backward_none}

@@ -1,3 +1,4 @@
+-- `spline_rows::put_run`: what holds at each turn of its loops. Assumes nothing.
 use Prim.Native.Nat.{◌≤◌}
 use Rattle.spline_rows.proofs.Spreading.{RunFrom}
 use Rattle.spline_rows.proofs.put_run.Given as goal

@@ -1,3 +1,4 @@
+-- `spline_rows::samples_of`: the answers to its goals. Assumes nothing.
 use Rattle.spline_rows.proofs.Leaves.{samples-point, samples-none}
 use Rattle.spline_rows.proofs.samples_of.Goals as goal
 

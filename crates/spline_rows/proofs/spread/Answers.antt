@@ -1,3 +1,4 @@
+-- `spline_rows::spread`: the answers to its goals. Assumes nothing.
 use mathlib.Core.Path.{refl, ap, ◌∙◌}
 use native.Mathlib.Omega.{arith}
 use lib.ListN.{length}

@@ -1,3 +1,4 @@
+-- `spline_rows::spread_block`: the answers to its goals. Assumes nothing.
 use Rattle.spline_rows.proofs.Spreading.{block-before, block_index, block_puts, block-done}
 use mathlib.Core.Path.{◌∙◌}
 use Rattle.spline_rows.proofs.spread_block.Goals as goal

@@ -1,3 +1,4 @@
+-- `spline_sample::own_mask`: the answers to its goals. Assumes nothing.
 use Rattle.spline_sample.proofs.Made.{own-none, own-both}
 use Rattle.spline_sample.proofs.own_mask.Goals as goal
 

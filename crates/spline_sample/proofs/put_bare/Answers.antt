@@ -1,3 +1,4 @@
+-- `spline_sample::put_bare`: the answers to its goals. Assumes nothing.
 use Rattle.spline_sample.proofs.Made.{bare-put}
 use Rattle.spline_sample.proofs.Leaves.{cells_of}
 use Rattle.spline_sample.proofs.put_bare.Goals as goal

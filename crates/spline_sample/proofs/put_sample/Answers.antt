@@ -1,3 +1,4 @@
+-- `spline_sample::put_sample`: the answers to its goals. Assumes nothing.
 use native.Mathlib.Omega.{arith}
 use Rattle.spline_sample.specs.SampleLaws.{sample_rows, sample_words, sample_at}
 use Rattle.spline_sample.proofs.Made.{sample_put}

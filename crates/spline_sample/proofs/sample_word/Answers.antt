@@ -1,3 +1,4 @@
+-- `spline_sample::sample_word`: the answers to its goals. Assumes nothing.
 use mathlib.Core.Path.{sym, ◌∙◌}
 use native.Mathlib.Omega.{arith}
 use Rattle.spline_sample.proofs.Leaves.{word-yes, word-no}

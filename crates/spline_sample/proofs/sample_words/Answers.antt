@@ -1,3 +1,4 @@
+-- `spline_sample::sample_words`: the answers to its goals. Assumes nothing.
 use mathlib.Core.Path.{◌≡◌}
 use Prim.Native.Nat.{◌-◌}
 use native.Mathlib.Omega.{arith}

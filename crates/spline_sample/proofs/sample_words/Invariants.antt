@@ -1,3 +1,4 @@
+-- `spline_sample::sample_words`: what holds at each turn of its loops. Assumes nothing.
 use Prim.Native.Nat.{◌≤◌, ◌-◌}
 use lib.ListN.{replicate}
 use Rattle.floats.specs.Fill.{Filling}

@@ -1,3 +1,4 @@
+-- `spline_write::spread_curve`: the answers to its goals. Assumes nothing.
 use Rattle.spline_write.proofs.Writing.{spreads_at, spread_at}
 use Rattle.spline_write.proofs.spread_curve.Goals as goal
 
@@ -7,7 +8,8 @@ spread-requires c =
     let at-axes = at-chans in
     let at-places-of = at-axes in
     let start = at-places-of in
-    record { spreads = spreads_at _ _ _ _ _ _ _ _ _ _ _ at-axes.axes_mask.ensures at-chans.axes_mask-2.ensures at-places-of.places_of.ensures _ start.requires.spreads; row_words_in_bounds = start.requires.row_words_in_bounds }
+    record { spreads = spreads_at _ _ _ _ _ _ _ _ _ _ _ at-axes.axes_mask.ensures at-chans.axes_mask-2.ensures at-places-of.places_of.ensures _
+        start.requires.spreads; row_words_in_bounds = start.requires.row_words_in_bounds }
 
 pub returns : goal.returns
 returns c =

@@ -1,3 +1,4 @@
+-- `still_curved::curves`: the answers to its goals. Assumes nothing.
 use Rattle.motion.proofs.MotionLaws.{curve-told}
 use Rattle.still_curved.proofs.curves.Goals as goal
 

@@ -1,3 +1,4 @@
+-- `still_curved::motion_after`: the answers to its goals. Assumes nothing.
 use Rattle.still_curved.proofs.SeenLaws.{motion-stays, motion-own}
 use Rattle.still_curved.proofs.motion_after.Goals as goal
 

@@ -1,3 +1,4 @@
+-- `still_curved::still_curved`: the answers to its goals. Assumes nothing.
 use Rattle.still_curved.proofs.SeenLaws.{seen-there, seen-bare}
 use Rattle.still_curved.proofs.still_curved.Goals as goal
 

@@ -1,3 +1,4 @@
+-- `still_curved::word_of`: the answers to its goals. Assumes nothing.
 use mathlib.Core.Path.{sym}
 use lib.ListN.{get_or-eq_default}
 use Rattle.still_curved.proofs.word_of.Goals as goal

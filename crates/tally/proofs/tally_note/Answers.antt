@@ -1,3 +1,4 @@
+-- `tally::tally_note`: the answers to its goals. Assumes nothing.
 use Rattle.std.proofs.Common.{sym, ◌∙◌}
 use mathlib.Core.Path.{refl}
 use Rattle.floats.specs.Truth.{cond-f}

@@ -1,3 +1,4 @@
+-- `tally::tally_rates`: the answers to its goals. Assumes nothing.
 use Rattle.std.proofs.Common.{◌∙◌}
 use mathlib.Core.Path.{sym}
 use native.Mathlib.Omega.{arith}

@@ -1,3 +1,4 @@
+-- `tally::tally_start`: the answers to its goals. Assumes nothing.
 use mathlib.Core.Path.{refl}
 use borrow.Author.Tests.{eq-eqb, ne_eqb}
 use Rattle.floats.specs.Truth.{cond-t, cond-f}

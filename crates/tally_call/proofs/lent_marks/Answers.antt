@@ -1,3 +1,4 @@
+-- `tally_call::lent_marks`: the answers to its goals. Assumes nothing.
 use Rattle.tally_call.specs.CallLaws.{lent-few, lent-some}
 use Rattle.tally_call.proofs.lent_marks.Goals as goal
 

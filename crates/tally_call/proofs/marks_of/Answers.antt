@@ -1,3 +1,4 @@
+-- `tally_call::marks_of`: the answers to its goals. Assumes nothing.
 use mathlib.Core.Path.{◌≡◌}
 use native.Mathlib.Omega.{arith}
 use Prim.Native.Nat.{◌-◌}

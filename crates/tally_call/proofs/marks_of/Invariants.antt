@@ -1,3 +1,4 @@
+-- `tally_call::marks_of`: what holds at each turn of its loops. Assumes nothing.
 use Prim.Native.Nat.{◌-◌, ◌*◌, ◌≤◌}
 use lib.ListN.{length}
 use Rattle.layout.specs.Layout.{row_words}

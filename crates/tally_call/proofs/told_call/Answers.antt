@@ -1,3 +1,4 @@
+-- `tally_call::told_call`: the answers to its goals. Assumes nothing.
 use Rattle.tally_call.specs.CallLaws.{told-kind, told-code, told-warning, told-turned, told_bad, told_is}
 use Rattle.tally_call.proofs.told_call.Goals as goal
 

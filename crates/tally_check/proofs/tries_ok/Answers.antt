@@ -1,3 +1,4 @@
+-- `tally_check::tries_ok`: the answers to its goals. Assumes nothing.
 use mathlib.Core.Path.{◌≡◌, refl, sym, ap, ◌∙◌, subst}
 use mathlib.Core.Bool.{true}
 use native.Mathlib.Omega.{arith}

@@ -1,3 +1,4 @@
+-- `tally_figure::figure_of`: the answers to its goals. Assumes nothing.
 use mathlib.Core.Path.{sym, ap, ◌∙◌}
 use borrow.Author.Tests.{le-leb, lt-leb, eq-eqb, ne_eqb}
 use Rattle.floats.specs.Truth.{cond-t, cond-f}
@@ -13,7 +14,8 @@ returns-then-k-eq-W_BLOCKS c =
 
 pub returns-then-k-eq-W_ROWS : goal.returns-then-k-eq-W_ROWS
 unfolding figure
-returns-then-k-eq-W_ROWS c = c.if_accepted-then-k-eq-W_ROWS.ensures ∙ sym (cond-f _ _ (ne_eqb _ _ c.if-k-eq-W_BLOCKS.false) ∙ cond-t _ _ (eq-eqb _ _ c.if-k-eq-W_ROWS.true))
+returns-then-k-eq-W_ROWS c = c.if_accepted-then-k-eq-W_ROWS.ensures ∙ sym (cond-f _ _ (ne_eqb _ _ c.if-k-eq-W_BLOCKS.false) ∙ cond-t _ _ (eq-eqb _ _
+    c.if-k-eq-W_ROWS.true))
 
 pub returns-then-k-eq-W_MARKED : goal.returns-then-k-eq-W_MARKED
 unfolding figure
@@ -21,7 +23,8 @@ returns-then-k-eq-W_MARKED c =
     let b2 = c in
     let b3 = b2 in
     c.if_accepted-then-k-eq-W_MARKED.ensures
-    ∙ sym (cond-f _ _ (ne_eqb _ _ b3.if-k-eq-W_BLOCKS.false) ∙ cond-f _ _ (ne_eqb _ _ b2.if-k-eq-W_ROWS.false) ∙ cond-t _ _ (eq-eqb _ _ c.if-k-eq-W_MARKED.true))
+    ∙ sym (cond-f _ _ (ne_eqb _ _ b3.if-k-eq-W_BLOCKS.false) ∙ cond-f _ _ (ne_eqb _ _ b2.if-k-eq-W_ROWS.false) ∙ cond-t _ _ (eq-eqb _ _
+        c.if-k-eq-W_MARKED.true))
 
 pub returns-then-k-gt-W_TURNED : goal.returns-then-k-gt-W_TURNED
 unfolding figure
@@ -31,7 +34,8 @@ returns-then-k-gt-W_TURNED c =
     let b4 = b3 in
     let b5 = b4 in
     c.number_of-then-k-gt-W_TURNED.ensures
-    ∙ sym (cond-f _ _ (ne_eqb _ _ b5.if-k-eq-W_BLOCKS.false) ∙ cond-f _ _ (ne_eqb _ _ b4.if-k-eq-W_ROWS.false) ∙ cond-f _ _ (ne_eqb _ _ b3.if-k-eq-W_MARKED.false)
+    ∙ sym (cond-f _ _ (ne_eqb _ _ b5.if-k-eq-W_BLOCKS.false) ∙ cond-f _ _ (ne_eqb _ _ b4.if-k-eq-W_ROWS.false) ∙ cond-f _ _ (ne_eqb _ _
+        b3.if-k-eq-W_MARKED.false)
     ∙ cond-f _ _ (lt-leb _ _ b2.if-k-gt-W_TURNED.true))
 
 pub returns : goal.returns
@@ -42,5 +46,6 @@ returns c =
     let b4 = b3 in
     let b5 = b4 in
     c.number_of-2.ensures
-    ∙ sym (cond-f _ _ (ne_eqb _ _ b5.if-k-eq-W_BLOCKS.false) ∙ cond-f _ _ (ne_eqb _ _ b4.if-k-eq-W_ROWS.false) ∙ cond-f _ _ (ne_eqb _ _ b3.if-k-eq-W_MARKED.false)
+    ∙ sym (cond-f _ _ (ne_eqb _ _ b5.if-k-eq-W_BLOCKS.false) ∙ cond-f _ _ (ne_eqb _ _ b4.if-k-eq-W_ROWS.false) ∙ cond-f _ _ (ne_eqb _ _
+        b3.if-k-eq-W_MARKED.false)
     ∙ cond-t _ _ (le-leb _ _ b2.if-k-gt-W_TURNED.false))

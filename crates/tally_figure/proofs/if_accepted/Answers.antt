@@ -1,3 +1,4 @@
+-- `tally_figure::if_accepted`: the answers to its goals. Assumes nothing.
 use mathlib.Core.Path.{sym}
 use borrow.Author.Tests.{eq-eqb, ne_eqb}
 use Rattle.floats.specs.Truth.{cond-t, cond-f}

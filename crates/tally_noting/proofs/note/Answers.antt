@@ -1,3 +1,4 @@
+-- `tally_noting::note`: the answers to its goals. Assumes nothing.
 use Rattle.std.proofs.Common.{sym, ◌∙◌}
 use mathlib.Core.Path.{refl}
 use native.Mathlib.Omega.{arith}

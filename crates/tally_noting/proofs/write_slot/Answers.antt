@@ -1,3 +1,4 @@
+-- `tally_noting::write_slot`: the answers to its goals. Assumes nothing.
 use mathlib.Core.Path.{◌≡◌, ap, ◌∙◌}
 use native.Mathlib.Omega.{arith}
 use Prim.Native.Nat.{ℕ, ◌-◌}

@@ -1,3 +1,4 @@
+-- `tally_slot::figures_fit`: the answers to its goals. Assumes nothing.
 use mathlib.Core.Path.{◌≡◌, refl, sym, ◌∙◌, subst}
 use mathlib.Core.Bool.{true}
 use native.Mathlib.Omega.{arith}

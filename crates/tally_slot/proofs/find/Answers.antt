@@ -1,3 +1,4 @@
+-- `tally_slot::find`: the answers to its goals. Assumes nothing.
 use mathlib.Core.Path.{◌≡◌, sym, subst}
 use mathlib.Core.Bool.{false}
 use native.Mathlib.Omega.{arith}

@@ -1,3 +1,4 @@
+-- `tally_slot::find`: what holds at each turn of its loops. Assumes nothing.
 use mathlib.Core.Path.{◌≡◌}
 use mathlib.Core.Bool.{false}
 use Prim.Native.Nat.{ℕ, ◌-◌, ◌≤◌, ◌<◌}

@@ -1,3 +1,4 @@
+-- `tally_slot::old_word`: the answers to its goals. Assumes nothing.
 use mathlib.Core.Path.{sym}
 use Rattle.floats.specs.Truth.{cond-t, cond-f}
 use Rattle.tally_slot.specs.Slots.{old_word}

@@ -1,3 +1,4 @@
+-- `tally_try::first_passed`: the answers to its goals. Assumes nothing.
 use mathlib.Core.Path.{sym, ◌∙◌}
 use Rattle.floats.specs.Truth.{cond-t, cond-f}
 use Rattle.tally_try.proofs.first_passed.Goals as goal

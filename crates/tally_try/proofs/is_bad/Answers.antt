@@ -1,3 +1,4 @@
+-- `tally_try::is_bad`: the answers to its goals. Assumes nothing.
 use mathlib.Core.Path.{sym, ◌∙◌}
 use Rattle.floats.specs.Truth.{or_t, or_f}
 use Rattle.tally_try.proofs.is_bad.Goals as goal

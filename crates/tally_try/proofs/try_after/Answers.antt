@@ -1,3 +1,4 @@
+-- `tally_try::try_after`: the answers to its goals. Assumes nothing.
 use mathlib.Core.Path.{sym, ◌∙◌}
 use Rattle.tally_call.specs.CallLaws.{try-closed, try_open}
 use Rattle.tally_try.proofs.try_after.Goals as goal

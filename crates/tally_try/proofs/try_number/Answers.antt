@@ -1,3 +1,4 @@
+-- `tally_try::try_number`: the answers to its goals. Assumes nothing.
 use native.Mathlib.Omega.{arith}
 use Rattle.tally_words.specs.Counting.{bit-small}
 use Rattle.tally_call.specs.Calls.{try_number}

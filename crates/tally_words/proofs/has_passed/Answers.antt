@@ -1,3 +1,4 @@
+-- `tally_words::has_passed`: the answers to its goals. Assumes nothing.
 use mathlib.Core.Path.{sym, ◌∙◌}
 use Rattle.floats.specs.Truth.{or_t, or_f}
 use Rattle.tally_words.proofs.has_passed.Goals as goal

@@ -1,3 +1,4 @@
+-- `tally_words::try_at`: the answers to its goals. Assumes nothing.
 use mathlib.Core.Path.{ap}
 use Prim.Native.Nat.{ℕ, ◌+◌}
 use lib.ListN.{get_or}

@@ -1,3 +1,4 @@
+-- `text_cut::far`: what holds at each turn of its loops. Assumes nothing.
 use Prim.Native.Nat.{◌-◌}
 use Rattle.text_cut.specs.Seek.{Seeking}
 use Rattle.text_cut.proofs.far.Given as goal

@@ -1,3 +1,4 @@
+-- `text_cut::lf_near`: the answers to its goals. Assumes nothing.
 use Prim.Native.Nat.{◌-◌}
 use mathlib.Core.Path.{◌≡◌}
 use mathlib.Core.Bool.{false}

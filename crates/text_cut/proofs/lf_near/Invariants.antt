@@ -1,3 +1,4 @@
+-- `text_cut::lf_near`: what holds at each turn of its loops. Assumes nothing.
 use Prim.Native.Nat.{◌-◌, ◌≤◌}
 use mathlib.Core.Path.{◌≡◌}
 use mathlib.Core.Bool.{false}

@@ -1,3 +1,4 @@
+-- `text_cut::line_end`: the answers to its goals. Assumes nothing.
 use Prim.Native.Nat.{ℕ, ◌-◌}
 use mathlib.Core.Path.{◌≡◌, ap}
 use native.Mathlib.Omega.{arith}

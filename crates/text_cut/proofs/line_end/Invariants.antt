@@ -1,3 +1,4 @@
+-- `text_cut::line_end`: what holds at each turn of its loops. Assumes nothing.
 use Prim.Native.Nat.{◌+◌, ◌-◌, ◌≤◌}
 use mathlib.Core.Path.{◌≡◌}
 use Rattle.text_cut.specs.Cut.{cut, between}

@@ -1,3 +1,4 @@
+-- `trig::rem_euclid_tau`: the answers to its goals. Assumes nothing.
 use Rattle.trig.proofs.rem_euclid_tau.Goals as goal
 
 pub returns-then-r : goal.returns-then-r

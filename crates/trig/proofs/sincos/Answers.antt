@@ -1,3 +1,4 @@
+-- `trig::sincos`: the answers to its goals. Assumes nothing.
 use Rattle.trig.specs.Trig.{sin_steps, cos_steps}
 use Rattle.trig.proofs.sincos.Goals as goal
 

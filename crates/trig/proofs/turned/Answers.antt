@@ -1,3 +1,4 @@
+-- `trig::turned`: the answers to its goals. Assumes nothing.
 use Rattle.trig.proofs.turned.Goals as goal
 
 pub returns-then-q : goal.returns-then-q

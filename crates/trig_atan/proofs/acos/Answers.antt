@@ -1,3 +1,4 @@
+-- `trig_atan::acos`: the answers to its goals. Assumes nothing.
 use Rattle.trig.specs.Trig.{acos_steps}
 use Rattle.trig_atan.proofs.acos.Goals as goal
 

@@ -1,3 +1,4 @@
+-- `trig_atan::atan2`: the answers to its goals. Assumes nothing.
 use mathlib.Core.Path.{ap}
 use lib.Ieee.{neg}
 use Rattle.trig.specs.Trig.{atan2_steps}

@@ -1,3 +1,4 @@
+-- `trig_atan::atan_from`: the answers to its goals. Assumes nothing.
 use mathlib.Core.Path.{refl}
 use Rattle.trig.specs.Trig.{atan_from}
 use Rattle.trig_atan.proofs.atan_from.Goals as goal

@@ -1,3 +1,4 @@
+-- `trig_atan::atan_left`: the answers to its goals. Assumes nothing.
 use Rattle.trig.specs.Trig.{atan_left}
 use Rattle.trig_atan.proofs.atan_left.Goals as goal
 

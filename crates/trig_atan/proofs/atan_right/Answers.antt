@@ -1,3 +1,4 @@
+-- `trig_atan::atan_right`: the answers to its goals. Assumes nothing.
 use Rattle.trig.specs.Trig.{atan_right}
 use Rattle.trig_atan.proofs.atan_right.Goals as goal
 

@@ -1,3 +1,4 @@
+-- `trig_atan::atan_up`: the answers to its goals. Assumes nothing.
 use Rattle.trig.specs.Trig.{atan_up}
 use Rattle.trig_atan.proofs.atan_up.Goals as goal
 

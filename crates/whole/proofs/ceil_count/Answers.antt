@@ -1,3 +1,4 @@
+-- `whole::ceil_count`: the answers to its goals. Assumes nothing.
 use Rattle.std.proofs.Common.{arith}
 use Rattle.whole.specs.Whole.{ceil_count}
 use Rattle.whole.proofs.Whole.{in_range, few, ceil_is}

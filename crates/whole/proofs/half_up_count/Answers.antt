@@ -1,3 +1,4 @@
+-- `whole::half_up_count`: the answers to its goals. Assumes nothing.
 use Rattle.std.proofs.Common.{arith}
 use Rattle.whole.specs.Whole.{half_up_count}
 use Rattle.whole.proofs.Whole.{in_range}

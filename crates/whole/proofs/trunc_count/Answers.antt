@@ -1,3 +1,4 @@
+-- `whole::trunc_count`: the answers to its goals. Assumes nothing.
 use Rattle.whole.specs.Whole.{trunc_count}
 use Rattle.whole.proofs.Whole.{in_range, trunc_is}
 use Rattle.whole.proofs.trunc_count.Goals as goal

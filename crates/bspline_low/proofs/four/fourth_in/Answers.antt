@@ -1,3 +1,4 @@
+-- `bspline_low::four::fourth_in`: the answers to its goals. Assumes nothing.
 use native.Mathlib.Omega.{arith}
 use Rattle.bspline_low.proofs.four.fourth_in.Goals as goal
 

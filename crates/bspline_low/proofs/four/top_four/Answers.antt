@@ -1,3 +1,4 @@
+-- `bspline_low::four::top_four`: the answers to its goals. Assumes nothing.
 use Rattle.bspline_low.proofs.Straight.{four_of}
 use Rattle.bspline_low.proofs.four.top_four.Goals as goal
 

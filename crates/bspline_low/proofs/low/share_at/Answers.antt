@@ -1,3 +1,4 @@
+-- `bspline_low::low::share_at`: the answers to its goals. Assumes nothing.
 use Rattle.bspline_tables.specs.Basis.{share}
 use Rattle.bspline_low.proofs.low.share_at.Goals as goal
 

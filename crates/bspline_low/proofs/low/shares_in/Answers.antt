@@ -1,3 +1,4 @@
+-- `bspline_low::low::shares_in`: the answers to its goals. Assumes nothing.
 use native.Mathlib.Omega.{arith}
 use borrow.Author.Rules.{rules}
 use Rattle.bspline_low.proofs.low.shares_in.Goals as goal

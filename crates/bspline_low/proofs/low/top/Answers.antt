@@ -1,3 +1,4 @@
+-- `bspline_low::low::top`: the answers to its goals. Assumes nothing.
 use mathlib.Core.Path.{sym, ◌∙◌}
 use native.Mathlib.Omega.{arith}
 use Rattle.bspline_low.specs.LowLaws.{by_one, by_two}

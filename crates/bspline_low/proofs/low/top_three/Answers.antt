@@ -1,3 +1,4 @@
+-- `bspline_low::low::top_three`: the answers to its goals. Assumes nothing.
 use Rattle.bspline_low.proofs.Straight.{three_of}
 use Rattle.bspline_low.proofs.low.top_three.Goals as goal
 

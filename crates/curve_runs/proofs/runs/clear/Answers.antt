@@ -1,3 +1,4 @@
+-- `curve_runs::runs::clear`: the answers to its goals. Assumes nothing.
 use mathlib.Core.Path.{◌≡◌, refl, ap, ◌∙◌}
 use Prim.Native.Nat.{ℕ, ◌-◌}
 use native.Mathlib.Omega.{arith}

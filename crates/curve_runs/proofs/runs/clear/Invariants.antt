@@ -1,3 +1,4 @@
+-- `curve_runs::runs::clear`: what holds at each turn of its loops. Assumes nothing.
 use mathlib.Core.Path.{◌≡◌}
 use Prim.Native.Nat.{ℕ, ◌≤◌, ◌-◌}
 use lib.ListN.{length}

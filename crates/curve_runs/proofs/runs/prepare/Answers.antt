@@ -1,3 +1,4 @@
+-- `curve_runs::runs::prepare`: the answers to its goals. Assumes nothing.
 use mathlib.Core.Path.{sym, ◌∙◌}
 use native.Mathlib.Omega.{arith}
 use Rattle.curve_runs.proofs.Running.{fitted_as}

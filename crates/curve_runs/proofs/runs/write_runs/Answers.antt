@@ -1,3 +1,4 @@
+-- `curve_runs::runs::write_runs`: the answers to its goals. Assumes nothing.
 use mathlib.Core.Path.{sym, ap, ◌∙◌, subst}
 use mathlib.Core.List.{List}
 use Prim.Native.Nat.{◌≤◌}

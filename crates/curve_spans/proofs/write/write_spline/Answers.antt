@@ -1,3 +1,4 @@
+-- `curve_spans::write::write_spline`: the answers to its goals. Assumes nothing.
 use mathlib.Core.Path.{◌≡◌, refl, sym, ap, ◌∙◌}
 use Prim.Native.Nat.{ℕ, ◌≤◌, ◌-◌, ◌+◌}
 use mathlib.Core.List.{List}
@@ -80,7 +81,8 @@ write_walk-at-requires c =
     let spline = basis-tables start.args.s start.requires.spans.0.form start.requires.spans.0.tables in
     let prev = point-is _ _ inv.1.0 in
     let next = point-is _ _ at-point-at2.point_at-next.ensures in
-    let stretch = stretch_of start.requires.spans.0.tables start.requires.spans.1 (point-length _ _ inv.1.0) (point-length _ _ at-point-at2.point_at-next.ensures) in
+    let stretch = stretch_of start.requires.spans.0.tables start.requires.spans.1 (point-length _ _ inv.1.0) (point-length _ _
+        at-point-at2.point_at-next.ensures) in
     let part = recalls_part lefts at-loop.loop-j.j _ more inv.1.1.1 start.requires.recalls in
     let memory = recalls_as (span-lefts ev _ _ at-loop.loop-j.j _ _ inv.0 refl prev next) part in
     let few : at-loop.loop-j.j ≤ most_points = omega (arith, spline.few, more) in

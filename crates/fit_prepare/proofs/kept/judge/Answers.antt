@@ -1,3 +1,4 @@
+-- `fit_prepare::kept::judge`: the answers to its goals. Assumes nothing.
 use Rattle.fit_prepare.proofs.kept.judge.Goals as goal
 
 pub returns-then-ts-i : goal.returns-then-ts-i

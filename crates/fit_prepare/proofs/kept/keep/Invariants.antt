@@ -1,3 +1,4 @@
+-- `fit_prepare::kept::keep`: what holds at each turn of its loops. Assumes nothing.
 use Prim.Native.Nat.{◌≤◌, ◌-◌}
 use Rattle.fit_knots.specs.Kept.{Kept}
 use Rattle.fit_prepare.proofs.kept.keep.Given as goal

@@ -1,3 +1,4 @@
+-- `fit_slopes::akima::akima_of`: the answers to its goals. Assumes nothing.
 use Rattle.fit_slopes.specs.Akima.{akima_of}
 use Rattle.fit_slopes.proofs.akima.akima_of.Goals as goal
 

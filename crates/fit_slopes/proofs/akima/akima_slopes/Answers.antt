@@ -1,3 +1,4 @@
+-- `fit_slopes::akima::akima_slopes`: the answers to its goals. Assumes nothing.
 use mathlib.Core.Path.{◌∙◌}
 use Rattle.fit_slopes.proofs.Slopes.{akima_straight, akima_many}
 use Rattle.fit_slopes.proofs.akima.akima_slopes.Goals as goal

@@ -1,3 +1,4 @@
+-- `fit_slopes::akima::widened_at`: the answers to its goals. Assumes nothing.
 use native.Mathlib.Omega.{arith}
 use Rattle.fit_slopes.specs.AkimaLaws.{wide-first, wide-second, wide_step, wide-behind, wide-last}
 use Rattle.fit_slopes.proofs.akima.widened_at.Goals as goal

@@ -1,3 +1,4 @@
+-- `saved_state::state::axes_ok`: the answers to its goals. Assumes nothing.
 use mathlib.Core.Path.{sym, ap, ◌∙◌}
 use borrow.Author.Tests.{le-leb, lt-leb}
 use Rattle.floats.specs.Truth.{and_t, and_f}

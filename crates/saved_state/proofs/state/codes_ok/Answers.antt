@@ -1,3 +1,4 @@
+-- `saved_state::state::codes_ok`: the answers to its goals. Assumes nothing.
 use mathlib.Core.Path.{◌≡◌, sym, ◌∙◌, subst}
 use mathlib.Core.Bool.{true}
 use native.Mathlib.Omega.{arith}

@@ -1,3 +1,4 @@
+-- `saved_state::state::codes_ok`: what holds at each turn of its loops. Assumes nothing.
 use Prim.Native.Nat.{◌-◌, ◌≤◌}
 use lib.ListN.{length}
 use Rattle.layout.specs.Layout.{list_codes}

@@ -1,3 +1,4 @@
+-- `saved_state::state::geometric_mask`: the answers to its goals. Assumes nothing.
 use mathlib.Core.Path.{◌∙◌}
 use Rattle.saved_state.specs.Walk.{part-codes}
 use Rattle.saved_state.proofs.Marks.{mask_of_codes}

@@ -1,3 +1,4 @@
+-- `saved_state::state::is_geometric`: the answers to its goals. Assumes nothing.
 use mathlib.Core.Path.{sym, ap, ◌∙◌}
 use Prim.Native.Nat.{ℕ}
 use Rattle.row_cells.specs.Bits.{has}

@@ -1,3 +1,4 @@
+-- `saved_state::state::place`: the answers to its goals. Assumes nothing.
 use mathlib.Core.Path.{ap}
 use native.Mathlib.Omega.{arith}
 use Prim.Native.Nat.{ℕ, ◌+◌}

@@ -1,3 +1,4 @@
+-- `saved_state::state::tol_ok`: the answers to its goals. Assumes nothing.
 use borrow.Author.Tests.{lt-ltb, le-ltb}
 use Rattle.saved_state.specs.State.{tol_ok}
 use Rattle.saved_state.proofs.state.tol_ok.Goals as goal

@@ -1,3 +1,4 @@
+-- `spline_emission::memory::emit_few`: the answers to its goals. Assumes nothing.
 use native.Mathlib.Omega.{arith}
 use Rattle.spline_curve.specs.Curves.{few-zeros}
 use Rattle.spline_emission.specs.Sizes.{middle_points}

@@ -1,3 +1,4 @@
+-- `spline_emission::memory::emit_many`: the answers to its goals. Assumes nothing.
 use native.Mathlib.Omega.{arith}
 use Rattle.layout.specs.Layout.{most_points}
 use Rattle.spline_curve.specs.Curves.{few-zeros}

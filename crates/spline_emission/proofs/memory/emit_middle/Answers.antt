@@ -1,3 +1,4 @@
+-- `spline_emission::memory::emit_middle`: the answers to its goals. Assumes nothing.
 use native.Mathlib.Omega.{arith}
 use Rattle.spline_emission.specs.Sizes.{middle_numbers}
 use Rattle.spline_emission.proofs.Emitting.{numbers_in}

@@ -1,3 +1,4 @@
+-- `spline_emission::memory::emit_most`: the answers to its goals. Assumes nothing.
 use Prim.Native.Nat.{◌*◌}
 use native.Mathlib.Omega.{arith}
 use Rattle.layout.specs.Layout.{axis_codes, most_points}

@@ -1,3 +1,4 @@
+-- `spline_emission::memory::emit_small`: the answers to its goals. Assumes nothing.
 use native.Mathlib.Omega.{arith}
 use Rattle.fit_tables.specs.Asks.{small_numbers}
 use Rattle.spline_emission.proofs.Emitting.{numbers_in}

@@ -1,3 +1,4 @@
+-- `spline_places::frame::places_of`: what holds at each turn of its loops. Assumes nothing.
 use Prim.Native.Nat.{ℕ, ◌≤◌, ◌-◌}
 use Rattle.floats.specs.Fill.{Filling}
 use Rattle.layout.specs.Layout.{axis_codes}

@@ -1,3 +1,4 @@
+-- `spline_places::place::after_block`: the answers to its goals. Assumes nothing.
 use lib.ListN.{get_or}
 use native.Mathlib.Omega.{arith}
 use Rattle.spline_places.specs.SizeLaws.{moved_plain, moved-point, size_most}

@@ -1,3 +1,4 @@
+-- `spline_places::place::before_block`: the answers to its goals. Assumes nothing.
 use native.Mathlib.Omega.{arith}
 use Rattle.spline_places.specs.SizeLaws.{unmoved-plain, unmoved-point, behind-plain, behind-point}
 use Rattle.spline_places.proofs.place.before_block.Goals as goal

@@ -1,3 +1,4 @@
+-- `spline_places::place::size_of`: the answers to its goals. Assumes nothing.
 use Rattle.spline_places.specs.SizeLaws.{size_zero, size_some}
 use Rattle.spline_places.proofs.place.size_of.Goals as goal
 

@@ -1,3 +1,4 @@
+-- `spline_places::place::total`: the answers to its goals. Assumes nothing.
 use mathlib.Core.Path.{◌≡◌, refl, ap, ◌∙◌}
 use Prim.Native.Nat.{◌-◌}
 use native.Mathlib.Omega.{arith}

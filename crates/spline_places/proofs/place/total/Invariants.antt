@@ -1,3 +1,4 @@
+-- `spline_places::place::total`: what holds at each turn of its loops. Assumes nothing.
 use mathlib.Core.Path.{◌≡◌}
 use Prim.Native.Nat.{◌≤◌, ◌-◌}
 use Rattle.row_cells.specs.Codes.{geometric_of}
