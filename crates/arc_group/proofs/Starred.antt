@@ -37,7 +37,7 @@ pub circle : ℕ → Answer
 unfolding block from upto keep member any_of floor_root root_units sqrt ceil_count half_up_count sin_steps cos_steps atan_from atan_right atan_left atan_up
     atan2_steps acos_steps plane_u plane_v has cell number shown mask_of row_of out_row has_point rides with_riders made_row passed silent side_of cr_centre
     centre_of radius wide_centre agree sweep_left sweep_of turned arc_of step_of wanted_of count_of ramp last_cell mid_cell arc_row held_axes
-        arc_rows from_centre
+    arc_rows from_centre
     from_start arc_answer Ieee.add Ieee.sub Ieee.mul Ieee.div Ieee.rem Ieee.neg Ieee.lt Ieee.le Ieee.eq Ieee.of_bits Ieee.to_bits Ieee.of_int
 circle t = arc_answer (num t) (0 ∷ 1 ∷ 2 ∷ []) plane_xy false (from ten) (block c_offset 0xc024000000000000)
 
@@ -46,7 +46,7 @@ pub chord : Bool → ℕ → Answer
 unfolding block from upto keep member any_of floor_root root_units sqrt ceil_count half_up_count sin_steps cos_steps atan_from atan_right atan_left atan_up
     atan2_steps acos_steps plane_u plane_v has cell number shown mask_of row_of out_row has_point rides with_riders made_row passed silent side_of cr_centre
     centre_of radius wide_centre agree sweep_left sweep_of turned arc_of step_of wanted_of count_of ramp last_cell mid_cell arc_row held_axes
-        arc_rows from_centre
+    arc_rows from_centre
     from_start arc_answer Ieee.add Ieee.sub Ieee.mul Ieee.div Ieee.rem Ieee.neg Ieee.lt Ieee.le Ieee.eq Ieee.of_bits Ieee.to_bits Ieee.of_int
 chord cw cr = arc_answer (num 0x3fb999999999999a) (0 ∷ 1 ∷ 2 ∷ []) plane_xy cw (from 0) (block c_cr cr)
 

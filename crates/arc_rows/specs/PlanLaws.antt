@@ -59,7 +59,7 @@ module _ (tol : Float) (gs : List ℕ) (plane : ℕ) (cw : Bool) (known : ℕ) (
 
   answer-there : silent_at gs u v r ≡ false → has known u ≡ true → has known v ≡ true
       → arc_answer tol gs plane cw (shown known at) r ≡ from_centre tol gs plane cw (shown known at) r (ends_at r at u v) (centre_at cw (ends_at r at
-          u v) u v r)
+      u v) u v r)
   answer-there h a b = rw (u_is, v_is) (answer_at tol gs plane cw known at r (rw (u_is, v_is) at h) (rw u_is at a) (rw v_is at b))
 
   pub answer-found : {e : Ends} {m : Centre} → silent_at gs u v r ≡ false → has known u ≡ true → has known v ≡ true

@@ -67,7 +67,7 @@ eval_basis b u =
 unfoldable pub basis_samples : Bspline → List ℕ → Float → List Sample
 basis_samples b ms tol =
     flatten (upto (λ (j : ℕ). samples (eval_basis b) ms tol depth (of_nat j) (eval_basis b (of_nat j)) (of_nat (j + 1)) (eval_basis b (of_nat (j +
-        1)))) (spans_of b))
+    1)))) (spans_of b))
 
 -- Greville value of control point i: the mean of the p knots after knot i
 unfoldable pub knot_sum : List Float → ℕ → ℕ → Float

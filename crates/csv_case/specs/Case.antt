@@ -69,7 +69,7 @@ unfolding Lists.all Lists.any_of Lists.flatten Lists.keep Lists.member Lists.spl
     Codes.plane_ok Codes.plane_u Codes.plane_v Row.cell Row.has_point Row.mask_of Row.number Row.out_row Row.row_of RowNumbers.above1000 RowNumbers.cell_ok
     RowNumbers.numbers_ok Check.row_check Check.shape_ok RowNumbers.turn_ok RowNumbers.within Made.made_row Made.rides Made.with_riders Centre.centre_of
     Centre.cr_centre Centre.radius Centre.side_of Centre.wide_centre Arc.agree Arc.arc_of Arc.count_of Arc.step_of Arc.sweep_left Arc.sweep_of
-        Arc.turned Arc.wanted_of
+    Arc.turned Arc.wanted_of
     Samples.arc_row Samples.last_cell Samples.mid_cell Samples.ramp ArcRowsArc.arc_answer ArcRowsArc.arc_rows ArcRowsArc.from_centre ArcRowsArc.from_start
     ArcRowsArc.held_axes ArcRowsArc.passed ArcRowsArc.silent Metric.along Metric.chord_to Metric.chords Metric.deviation_of Metric.dist_to Metric.dot_to
     Metric.len_to Walk.flat Walk.near Walk.samples Slopes.akima_at Slopes.akima_slope Slopes.bend Slopes.bend_back Slopes.bent Slopes.cubic_slope

@@ -250,7 +250,7 @@ module _ (st r : List ℕ) (n : length st ≡ state_words) where
   unfolding laid
   laid-low j h =
       cond_both (λ (s : List ℕ). get_or s j 0 ≡ get_or (worded st r) j 0) (is_spline (motion_then st r)) (buffered-low (worded st r) r (worded-length
-          st r n) j h)
+      st r n) j h)
       refl
 
   -- every word of a push but the positions
@@ -285,7 +285,7 @@ module _ (st r : List ℕ) (n : length st ≡ state_words) where
   unfolding point_word
   told-position k h =
       ap₂ (λ (a b : ℕ). cond (has a k) (some b) none) (told-known w_known (omega arith) (omega arith)) (told-known (w_known + 1 + k) (omega arith)
-          (omega arith))
+      (omega arith))
 
   told-low : (j : ℕ) → j < w_motion → get_or (told st r) j 0 ≡ get_or st j 0
   told-low j h = told-else j (λ e. omega arith) ∙ laid-low j (omega arith) ∙ worded-else j (λ e. omega arith) (λ e. omega arith) ∙ emptied-low j (omega arith)

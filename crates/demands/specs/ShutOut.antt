@@ -52,19 +52,19 @@ computed : ((pushed_line 1).reply.code ∷ []) ∷ (pushed_line 1).rows ∷ (pus
     ≡ (0 ∷ []) ∷ line 1 ∷ line 2 ∷ line 2 ∷ (0 ∷ []) ∷ []
 unfolding fresh Start.fresh_word Lists.upto Lists.keep Lists.member Lists.flatten Lists.spliced Motion.kind_of Motion.is_spline Motion.is_other Motion.is_basis
     Motion.is_cubic Codes.plane_ok Codes.geometric_of Bits.has Lists.all Row.cell Row.mask_of Row.row_of Row.out_row Check.shape_ok RowNumbers.within
-        RowNumbers.cell_ok
+    RowNumbers.cell_ok
     RowNumbers.numbers_ok RowNumbers.above1000 RowNumbers.turn_ok Check.row_check passed State.geometric State.point_word State.tol_ok State.code_ok
-        State.codes_ok
+    State.codes_ok
     State.axes_ok State.point_at_ok State.point_ok State.held_ok State.state_ok State.store_ok State.held_rows State.held_row_ok State.saved_check Bits.with_bit
     State.placed Blocks.or_now Blocks.emits Blocks.kept Own.answer_as Own.own_answer Blocks.news Pushed.track_to Pushed.push_state Pushed.push_store
-        Push.push_rows
+    Push.push_rows
     Refusal.is_full Refusal.push_check Push.push_done Push.push_spec
 computed = refl
 
 -- the first word of answer i
 word : (i : ℕ)
     → get_or (get_or (((pushed_line 1).reply.code ∷ []) ∷ (pushed_line 1).rows ∷ (pushed_line 2).rows ∷ pushed_next.rows ∷ ((pushed_line
-        2).reply.code ∷ []) ∷ []) i
+    2).reply.code ∷ []) ∷ []) i
     []) 0 0
     ≡ get_or (get_or ((0 ∷ []) ∷ line 1 ∷ line 2 ∷ line 2 ∷ (0 ∷ []) ∷ []) i []) 0 0
 word i = ap (λ (l : List (List ℕ)). get_or (get_or l i []) 0 0) computed

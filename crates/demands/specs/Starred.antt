@@ -75,9 +75,9 @@ xyz = 0 ∷ 1 ∷ 2 ∷ []
 unfoldable pub asked : ℕ → List Call → List ℕ
 unfolding Lists.upto Lists.keep Lists.member Lists.any_of Lists.flatten Lists.rows_of Lists.spliced Lists.Agrees Root.floor_root Root.root_units Root.sqrt
     Whole.ceil_count Whole.half_up_count Whole.trunc_count Trig.sin_steps Trig.cos_steps Trig.atan_from Trig.atan_right Trig.atan_left Trig.atan_up
-        Trig.atan2_steps
+    Trig.atan2_steps
     Trig.acos_steps Motion.kind_of Motion.is_spline Motion.is_other Motion.is_basis Motion.is_cubic Codes.plane_u Codes.plane_v Codes.plane_ok
-        Codes.geometric_of
+    Codes.geometric_of
     Bits.has Lists.all Row.cell Row.number Row.shown Row.axes_of Row.mask_of Row.row_of Row.out_row Row.has_point Made.rides Made.with_riders Made.made_row
     Check.shape_ok RowNumbers.within RowNumbers.cell_ok RowNumbers.numbers_ok RowNumbers.above1000 RowNumbers.turn_ok Check.row_check Arc.passed Arc.silent
     Arc.side_of Arc.cr_centre Arc.centre_of

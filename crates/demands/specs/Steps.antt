@@ -187,7 +187,7 @@ module _ {tol : ℕ} {gs : List ℕ} {s : Standing} {st store : List ℕ} (t : S
         stands = push-stands r t p;
         adds = λ es. push-adds r t p es
             ∙ ap (λ (l : List ℕ). l ++ words (to_come tol gs (with_block gs s r) es)) (sym (take-written rows (push_rows st store r) (push_rows-long
-                st store r)));
+            st store r)));
       })
 
   close-rows : Saved st store → close_rows st store ≡ flatten (opened tol gs s)
@@ -247,7 +247,7 @@ module _ {tol : ℕ} {gs : List ℕ} {s : Standing} {st store : List ℕ} (t : S
       (push_step rows r)
       (λ f.
       let k : ((push_spec st store rows r).state ≡ st) × ((push_spec st store rows r).store ≡ store) × ((push_spec st store rows r).rows ≡ rows) =
-          (demand1.push st
+      (demand1.push st
       store rows r).same (eqb-false _ 0 f) in
       refused-step (push_spec st store rows r) (pushing rows r) t f k.0 k.1)
   step (seeding c x) =
@@ -259,7 +259,7 @@ module _ {tol : ℕ} {gs : List ℕ} {s : Standing} {st store : List ℕ} (t : S
       (close-step rows)
       (λ f.
       let k : ((close_spec st store rows).state ≡ st) × ((close_spec st store rows).store ≡ store) × ((close_spec st store rows).rows ≡ rows) =
-          (demand1.close st
+      (demand1.close st
       store rows).same (eqb-false _ 0 f) in
       refused-step (close_spec st store rows) (closing rows) t f k.0 k.1)
 

@@ -24,4 +24,4 @@ not_tried = 4
 unfoldable pub lot_of : ℕ → ℕ → ℕ → ℕ
 lot_of m tries tolerances =
     cond (has m b_final) (cond (has m b_first) at_first when_coarser) (cond (is_over m tries tolerances) (cond (has m b_closed) never_passed
-        not_closed) not_tried)
+    not_closed) not_tried)

@@ -35,7 +35,7 @@ position-mask st m k l =
 
 pub open_done : (st t : List ℕ) → length st ≡ state_words
     → t ≡ spliced (set st w_start (get_or st w_known 0)) (w_start + 1) (upto (λ (k : ℕ). Option.get_or (position (set st w_start (get_or st w_known
-        0)) k) 0) axis_codes)
+    0)) k) 0) axis_codes)
     → set t w_degree plain_degree ≡ opened st
 unfolding opened
 open_done st t h e =
@@ -49,6 +49,6 @@ open_done st t h e =
 
 pub open_length : (st t : List ℕ) → length st ≡ state_words
     → t ≡ spliced (set st w_start (get_or st w_known 0)) (w_start + 1) (upto (λ (k : ℕ). Option.get_or (position (set st w_start (get_or st w_known
-        0)) k) 0) axis_codes)
+    0)) k) 0) axis_codes)
     → length (set t w_degree plain_degree) ≡ length st
 open_length st t h e = ap length (open_done st t h e) ∙ (same-opened st h).long

@@ -59,7 +59,7 @@ pub placed-keeps : (st : List ℕ) (k x j : ℕ) → (j ≡ w_known → ⊥) →
 unfolding placed
 placed-keeps st k x j a b =
     get_or-set_other (set st w_known (with_bit (get_or st w_known 0) k)) (w_known + 1 + k) j x 0 b ∙ get_or-set_other st w_known j (with_bit (get_or
-        st w_known 0) k) 0 a
+    st w_known 0) k) 0 a
 
 -- ---- the curve start, forgotten and opened
 abbrev pub none-at : ℕ → ℕ

@@ -59,7 +59,7 @@ and_trailing (suc n) p h l =
     let e2 : (p - 1) / 2 ≡ p / 2 - 1 = omega (arith, e) in
     let s : p / 2 < 2 ^ n = (let t : p < 2 ^ n * 2 = rw (pow-suc 2 n) at l in omega arith) in
     rw (trailing_even n p e, and_step p (p - 1), e, e1, e2, and_trailing n (p / 2) (omega arith) s, pow-suc 2 (count_trailing_zeros n (p / 2)))
-        (omega (arith, e)))
+    (omega (arith, e)))
 
 pub and_others : (p : ℕ) → 0 < p → p < 2 ^ 64 → bit_and p (p - 1) ≡ others p
 and_others p h l = and_trailing 64 p h l

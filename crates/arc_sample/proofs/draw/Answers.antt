@@ -35,8 +35,19 @@ put_last_row-requires c =
     let plane-u = back.plane_u-u in
     let pre = back.requires in
     let shows = subst (λ (m : ℕ). m < 2 ^ axis_codes) (sym drawn-axes.ensures) (mask_lt _ axis_codes) in
-    record { drawing_of = record { long = pre.long; axes = pre.axes; shows = shows; on_u = omega (arith, plane-u.ensures.1); on_v = omega (arith,
-        plane-v.ensures.1) }; row_words_in_bounds = omega (arith, put-mid-rows.ensures.same, put-mid-rows.ensures.ends, pre.room, pre.some) }
+    record {
+      drawing_of = record {
+        long = pre.long;
+        axes = pre.axes;
+        shows = shows;
+        on_u = omega (arith, plane-u.ensures.1);
+        on_v = omega (
+          arith,
+          plane-v.ensures.1,
+        );
+      };
+      row_words_in_bounds = omega (arith, put-mid-rows.ensures.same, put-mid-rows.ensures.ends, pre.room, pre.some);
+    }
 
 pub returns : goal.returns
 returns c =

@@ -12,8 +12,17 @@ loop-r-init c = (omega arith, climbed_none _ _ _ _ _ _)
 pub raise_rows-requires : goal.raise_rows-requires
 raise_rows-requires c =
     let pre = c.requires in
-    record { le_r = (omega arith, (omega arith, (omega arith, omega arith))); width = pre.width; m_le_p = (omega arith, omega (arith,
-        c.loop-r.invariant.1.same)) }
+    record {
+      le_r = (omega arith, (omega arith, (omega arith, omega arith)));
+      width = pre.width;
+      m_le_p = (
+        omega arith,
+        omega (
+          arith,
+          c.loop-r.invariant.1.same,
+        ),
+      );
+    }
 
 pub loop-r-preserved : goal.loop-r-preserved
 loop-r-preserved c =

@@ -15,8 +15,19 @@ pub load_four-requires : goal.load_four-requires
 load_four-requires c =
     let inv = c.loop-c.invariant in
     let pre = c.requires in
-    record { n_in_bounds = pre.n_in_bounds; c_le_most_wide = (omega (arith, pre.width.few), omega (arith, inv.0.1.0, inv.0.1.1, pre.width.fours,
-        pre.wide_in_bounds)) }
+    record {
+      n_in_bounds = pre.n_in_bounds;
+      c_le_most_wide = (
+        omega (arith, pre.width.few),
+        omega (
+          arith,
+          inv.0.1.0,
+          inv.0.1.1,
+          pre.width.fours,
+          pre.wide_in_bounds,
+        ),
+      );
+    }
 
 pub loop-c-preserved : goal.loop-c-preserved
 loop-c-preserved c =

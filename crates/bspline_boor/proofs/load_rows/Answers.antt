@@ -15,8 +15,15 @@ pub load_row-requires : goal.load_row-requires
 load_row-requires c =
     let at-loop = c.loop-h in
     let start = c in
-    record { n_in_bounds = (start.requires.n_in_bounds.0, omega arith); width = start.requires.width.0; wide_in_bounds = (omega (arith, within
-        at-loop.h (start.args.p + 1) start.args.wide at-loop.i _ (omega arith) start.requires.wide_in_bounds at-loop.invariant.0.1.0)) }
+    record {
+      n_in_bounds = (start.requires.n_in_bounds.0, omega arith);
+      width = start.requires.width.0;
+      wide_in_bounds = (omega (
+        arith,
+        within
+            at-loop.h (start.args.p + 1) start.args.wide at-loop.i _ (omega arith) start.requires.wide_in_bounds at-loop.invariant.0.1.0,
+      ));
+    }
 
 pub overflow_add-i : goal.overflow_add-i
 overflow_add-i c =

@@ -18,5 +18,12 @@ unfolding span_in
 returns c =
     let if1 = c.if-u-hi in
     let pre = c.requires in
-    record { value = rw (← pre.hi_value, if1.false, c.trunc_count.ensures); lower_bound = omega (arith, in_span _ _ _ _ pre.p_lt_n.0 pre.p_lt_n.1
-        pre.hi_value if1.false, c.trunc_count.ensures) }
+    record {
+      value = rw (← pre.hi_value, if1.false, c.trunc_count.ensures);
+      lower_bound = omega (
+        arith,
+        in_span _ _ _ _ pre.p_lt_n.0 pre.p_lt_n.1
+            pre.hi_value if1.false,
+        c.trunc_count.ensures,
+      );
+    }

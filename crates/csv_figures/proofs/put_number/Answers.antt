@@ -15,7 +15,7 @@ returns-then-v-gt0 c =
     let b10 = b9 in
     let b11 = b10 in
     with-minus _ _ _ _ b11.in_millionths-v.ensures b10.if-v-ge1000000000000000.false b8.if-v-gt0.true b9.if-x.true b6.put_byte-a.ensures
-        b2.put_millionths-b.ensures
+    b2.put_millionths-b.ensures
 
 pub returns-then-x : goal.returns-then-x
 returns-then-x c =

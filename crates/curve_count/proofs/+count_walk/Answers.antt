@@ -12,8 +12,17 @@ use Rattle.curve_count.proofs.+count_walk.Goals as goal
 pub count_sample-requires : goal.count_sample-requires
 count_sample-requires t c =
     let start = c in
-    record { owners = owners_of start.requires.stretch.tables _ start.requires.counts.0.owned; counts = (counts-one start.requires.counts.0, (omega
-        arith, cursor_one start.requires.counts.1)) }
+    record {
+      owners = owners_of start.requires.stretch.tables _ start.requires.counts.0.owned;
+      counts = (
+        counts-one start.requires.counts.0,
+        (
+          omega
+              arith,
+          cursor_one start.requires.counts.1,
+        ),
+      );
+    }
 
 pub shape_of-counts-then-left-eq0 : goal.shape_of-counts-then-left-eq0
 shape_of-counts-then-left-eq0 t c = c.count_sample.auto.counts
@@ -27,8 +36,11 @@ returns-then-left-eq0 t c =
     let at-if1 = at-count-sample in
     let start = at-if1 in
     let ev = eval_of start.args.s start.args.ks.now start.args.cs.now in
-    record { counted = counted-zero ev _ _ _ _ _ _ _ at-if1.if-left-eq0.true at-count-sample.count_sample.ensures.bumped; stored = stored_zero ev _ _
-        _ _ _ _ _ at-if1.if-left-eq0.true at-count-sample.count_sample.ensures.sample_value }
+    record {
+      counted = counted-zero ev _ _ _ _ _ _ _ at-if1.if-left-eq0.true at-count-sample.count_sample.ensures.bumped;
+      stored = stored_zero ev _ _
+          _ _ _ _ _ at-if1.if-left-eq0.true at-count-sample.count_sample.ensures.sample_value;
+    }
 
 pub point_at-pm-requires : goal.point_at-pm-requires
 point_at-pm-requires t c = c.requires.stretch.tables
@@ -48,8 +60,13 @@ is_flat-requires t c =
 pub count_sample-requires-then-is_flat : goal.count_sample-requires-then-is_flat
 count_sample-requires-then-is_flat t c =
     let start = c in
-    record { owners = owners_of start.requires.stretch.tables _ start.requires.counts.0.owned; counts = (counts-one start.requires.counts.0,
-        (start.requires.counts.1.low, cursor_one start.requires.counts.1)) }
+    record {
+      owners = owners_of start.requires.stretch.tables _ start.requires.counts.0.owned;
+      counts = (
+        counts-one start.requires.counts.0,
+        (start.requires.counts.1.low, cursor_one start.requires.counts.1),
+      );
+    }
 
 pub shape_of-counts-then-is_flat : goal.shape_of-counts-then-is_flat
 shape_of-counts-then-is_flat t c = c.count_sample-then-is_flat.auto.counts
@@ -67,8 +84,11 @@ returns-then-is_flat t c =
     let ev = eval_of start.args.s start.args.ks.now start.args.cs.now in
     let pm = point-is _ _ at-point-at.point_at-pm.ensures in
     let flat = at-is-flat.is_flat.ensures in
-    record { counted = counted-flat ev _ _ _ _ _ _ _ pm flat at-if2.if-is_flat.true at-count-sample2.count_sample-then-is_flat.ensures.bumped; stored
-        = stored_flat ev _ _ _ _ _ _ _ pm flat at-if2.if-is_flat.true at-count-sample2.count_sample-then-is_flat.ensures.sample_value }
+    record {
+      counted = counted-flat ev _ _ _ _ _ _ _ pm flat at-if2.if-is_flat.true at-count-sample2.count_sample-then-is_flat.ensures.bumped;
+      stored
+          = stored_flat ev _ _ _ _ _ _ _ pm flat at-if2.if-is_flat.true at-count-sample2.count_sample-then-is_flat.ensures.sample_value;
+    }
 
 pub overflow_sub-less : goal.overflow_sub-less
 overflow_sub-less t c = omega (arith, c.if-left-eq0.false)
@@ -87,9 +107,17 @@ count_walk-reached-requires t c =
     let at-if1 = at-point-at in
     let start = at-if1 in
     let some = at-if1.if-left-eq0.false in
-    let middle = point-length _ _ at-point-at.point_at-pm.ensures in
-    (omega (arith, some, start.requires-raw.0), (stretch-at start.requires.stretch start.requires.stretch.first middle, (counts-half
-        start.requires.counts.0 some, cursor_half start.requires.counts.1 some)))
+    let middle = point-length _ _ at-point-at.point_at-pm.ensures in (
+      omega (arith, some, start.requires-raw.0),
+      (
+        stretch-at start.requires.stretch start.requires.stretch.first middle,
+        (
+          counts-half
+              start.requires.counts.0 some,
+          cursor_half start.requires.counts.1 some,
+        ),
+      ),
+    )
 
 pub slice_bounds-pm-end-3 : goal.slice_bounds-pm-end-3
 slice_bounds-pm-end-3 t c =
@@ -136,6 +164,9 @@ returns t c =
     let some = at-if1.if-left-eq0.false in
     let pm = point-is _ _ at-point-at.point_at-pm.ensures in
     let flat = at-is-flat.is_flat.ensures in
-    record { counted = counted-halves ev _ _ _ _ _ _ _ some pm flat at-if2.if-is_flat.false at-count-walk.count_walk-reached.ensures.counted
-        at-count-walk2.count_walk.ensures.counted; stored = stored_halves ev _ _ _ _ _ _ _ some pm flat at-if2.if-is_flat.false
-        at-count-walk.count_walk-reached.ensures.stored at-count-walk2.count_walk.ensures.stored }
+    record {
+      counted = counted-halves ev _ _ _ _ _ _ _ some pm flat at-if2.if-is_flat.false at-count-walk.count_walk-reached.ensures.counted
+          at-count-walk2.count_walk.ensures.counted;
+      stored = stored_halves ev _ _ _ _ _ _ _ some pm flat at-if2.if-is_flat.false
+          at-count-walk.count_walk-reached.ensures.stored at-count-walk2.count_walk.ensures.stored;
+    }

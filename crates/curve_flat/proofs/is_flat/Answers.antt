@@ -19,7 +19,7 @@ returns-then-near_at c =
     let start = at-is-near in
     let ev = eval_of start.args.s start.args.ks.now start.args.cs.now in
     flat-last ev _ _ _ _ _ _ _ at-is-near.is_near.ensures at-if1.if-is_near.true at-near-at.near_at.ensures at-if2.if-near_at.true
-        c.near_at-then-near_at.ensures
+    c.near_at-then-near_at.ensures
 
 pub returns-else-near_at : goal.returns-else-near_at
 returns-else-near_at c =

@@ -11,8 +11,18 @@ slice_bounds-is_near-end c = sym (point-length _ _ c.point_at-p.ensures)
 pub is_near-requires : goal.is_near-requires
 is_near-requires c =
     let pre = c.requires in
-    record { below = rw pre.first pre.metric; a_in_bounds = (omega (arith, pre.first, pre.end), omega (arith, pre.first, point-length _ _
-        c.point_at-p.ensures)) }
+    record {
+      below = rw pre.first pre.metric;
+      a_in_bounds = (
+        omega (arith, pre.first, pre.end),
+        omega (
+          arith,
+          pre.first,
+          point-length _ _
+              c.point_at-p.ensures,
+        ),
+      );
+    }
 
 pub returns : goal.returns
 returns c =

@@ -24,8 +24,13 @@ pub overflow_add-counts : goal.overflow_add-counts
 overflow_add-counts c =
     let at-owner-at = c in
     let start = at-owner-at in
-    omega (arith, start.requires.counts.room (at-owner-at.owner_at-owner.result - 1) (owner_index start.args.t (start.requires.owners,
-        start.requires.counts) at-owner-at.owner_at-owner.ensures).1)
+    omega (
+      arith,
+      start.requires.counts.room (at-owner-at.owner_at-owner.result - 1) (owner_index start.args.t (
+        start.requires.owners,
+        start.requires.counts,
+      ) at-owner-at.owner_at-owner.ensures).1,
+    )
 
 pub offset_bounds-counts-i-2 : goal.offset_bounds-counts-i-2
 offset_bounds-counts-i-2 c =

@@ -39,7 +39,7 @@ put_sample-requires-then-is_remembered t c =
     let start = at-if1 in
     let ev = eval_of start.args.s start.args.ks.now start.args.cs.now in
     let flat = flat-known ev _ _ _ _ _ _ _ start.requires.recalls.0 at-if1.if-left-eq0.false at-is-remembered.is_remembered.ensures
-        at-if2.if-is_remembered.true in
+    at-if2.if-is_remembered.true in
     leaf_room (leaf_flat ev _ _ _ _ _ _ _ refl flat) start.args.out.now _ start.requires.p1_in_bounds start.requires.recalls.1
 
 pub shape_of-out-then-is_remembered : goal.shape_of-out-then-is_remembered
@@ -54,7 +54,7 @@ returns-then-is_remembered t c =
     let start = at-if1 in
     let ev = eval_of start.args.s start.args.ks.now start.args.cs.now in
     let flat = flat-known ev _ _ _ _ _ _ _ start.requires.recalls.0 at-if1.if-left-eq0.false at-is-remembered.is_remembered.ensures
-        at-if2.if-is_remembered.true in
+    at-if2.if-is_remembered.true in
     let both = leaf_written (leaf_flat ev _ _ _ _ _ _ _ refl flat) start.args.at.sample at-put-sample2.put_sample-then-is_remembered.ensures in
     record { written = both.0; sample_value = both.1 }
 
@@ -160,7 +160,7 @@ write_walk-requires t c =
     let two = halves_of ev _ _ _ _ _ _ _ some pm no in
     let middle = point-length _ _ at-point-at.point_at-pm.ensures in
     let half = second-half two start.args.out.now start.args.at.word start.requires.p1_in_bounds start.requires.recalls
-        (at-write-walk.write_walk-mid.ensures.written, at-write-walk.write_walk-mid.ensures.sample_value) in
+    (at-write-walk.write_walk-mid.ensures.written, at-write-walk.write_walk-mid.ensures.sample_value) in
     (omega (arith, some, start.requires-raw.0), (stretch-at start.requires.stretch middle start.requires.stretch.end, half))
 
 pub shape_of-out : goal.shape_of-out
@@ -188,6 +188,8 @@ returns t c =
     let no = not-flat ev _ _ _ _ _ _ _ start.requires.recalls.0 some pm known at-if2.if-is_remembered.false asked at-if3.if-is_flat_from.false in
     let two = halves_of ev _ _ _ _ _ _ _ some pm no in
     let both = both_halves two start.args.out.now start.args.at.word start.requires.p1_in_bounds start.requires.recalls
-        (at-write-walk.write_walk-mid.ensures.written, at-write-walk.write_walk-mid.ensures.sample_value) (at-write-walk2.write_walk.ensures.written,
-        at-write-walk2.write_walk.ensures.sample_value) in
+    (at-write-walk.write_walk-mid.ensures.written, at-write-walk.write_walk-mid.ensures.sample_value) (
+      at-write-walk2.write_walk.ensures.written,
+      at-write-walk2.write_walk.ensures.sample_value,
+    ) in
     record { written = both.0; sample_value = both.1 }

@@ -40,8 +40,16 @@ slopes_of-requires c =
     let start = c in
     let fits = row_fits_lem start.args.c start.args.ch start.args.m (length start.args.slopes.now) start.requires.c_lt_ch.0 start.requires.c_lt_ch.1.1 in
     let long = mid_len (start.args.c * start.args.m) (start.args.c * start.args.m + start.args.m) start.args.slopes.now fits in
-    record { le_n = (search rules, search rules); n_in_bounds = (le_of_eq (sym (length-take-le _ _ (search rules))), (omega (arith, column.auto.out),
-        omega arith)) }
+    record {
+      le_n = (search rules, search rules);
+      n_in_bounds = (
+        le_of_eq (sym (length-take-le _ _ (search rules))),
+        (
+          omega (arith, column.auto.out),
+          omega arith,
+        ),
+      );
+    }
 
 pub returns : goal.returns
 returns c =

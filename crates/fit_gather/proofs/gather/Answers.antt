@@ -21,8 +21,14 @@ gather_slopes-requires c =
     let args = start.args in
     let few = start.requires.in_bounds.1 in
     let rows = fewer-rows (length args.ks.now) args.n args.ch (length args.fps.now) few start.requires.fit_room.points in
-    record { le_m = (start.requires.in_bounds.0, (omega arith, omega arith)); ch_in_bounds = (omega (arith, rows), fewer-blocks _ _ _ _ few
-        start.requires.fit_room.bends) }
+    record {
+      le_m = (start.requires.in_bounds.0, (omega arith, omega arith));
+      ch_in_bounds = (
+        omega (arith, rows),
+        fewer-blocks _ _ _ _ few
+            start.requires.fit_room.bends,
+      );
+    }
 
 pub returns : goal.returns
 returns c =

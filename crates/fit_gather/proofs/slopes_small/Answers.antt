@@ -14,5 +14,8 @@ slice_bounds-slopes_in-end c = sym (length-take-le c.args.m (replicate small_poi
 pub slopes_in-requires : goal.slopes_in-requires
 slopes_in-requires c =
     let args = c.args in
-    record { le_m = (search rules, (omega arith, (search rules, length-take-le args.m (replicate small_points f0) (search rules)))); ch_in_bounds =
-        search rules }
+    record {
+      le_m = (search rules, (omega arith, (search rules, length-take-le args.m (replicate small_points f0) (search rules))));
+      ch_in_bounds =
+          search rules;
+    }

@@ -28,8 +28,13 @@ gather-requires c =
     let pre = c.requires in
     let some = pre.fit_room.some in
     let kept = keep.ensures in
-    record { fit_room = pre.fit_room; below = kept-below some kept; in_bounds = omega (arith, kept-length some kept, kept-few some kept); times_rise
-        = kept-rise some kept }
+    record {
+      fit_room = pre.fit_room;
+      below = kept-below some kept;
+      in_bounds = omega (arith, kept-length some kept, kept-few some kept);
+      times_rise
+          = kept-rise some kept;
+    }
 
 pub returns : goal.returns
 returns c =

@@ -63,7 +63,7 @@ prepare_fit-m-requires c =
     let ks = at-copy-to.copy_to.new.dst in
     let knots : 2 * start.args.n ≤ length at-copy-to.copy_to.new.dst = omega (arith, at-copy-to.copy_to.auto.dst, start.requires.n_in_bounds.0) in
     fit-room _ _ ks start.args.cs.now start.args.slopes.now given.0 given.1.0 given.1.1 start.requires.below.1 long knots
-        start.requires.n_in_bounds.1 start.requires.n_in_bounds_2.1
+    start.requires.n_in_bounds.1 start.requires.n_in_bounds_2.1
 
 pub slice_bounds-copy_to-end-3 : goal.slice_bounds-copy_to-end-3
 slice_bounds-copy_to-end-3 c =
@@ -113,8 +113,11 @@ copy_to-requires-2 c =
     let start = back1 in
     let cells = cells_in start.args.n start.args.ch start.requires.le_n.1.1 in
     let a = start.args in
-    copy_room (a.n * a.ch) a.cs.now a.slopes.now at-prepare-fit.prepare_fit-m.new.fps at-prepare-fit.prepare_fit-m.new.slopes (omega (arith, cells,
-        start.requires.n_in_bounds.1)) start.requires.n_in_bounds_2.1 at-prepare-fit.prepare_fit-m.auto.fps at-prepare-fit.prepare_fit-m.auto.slopes
+    copy_room (a.n * a.ch) a.cs.now a.slopes.now at-prepare-fit.prepare_fit-m.new.fps at-prepare-fit.prepare_fit-m.new.slopes (omega (
+      arith,
+      cells,
+      start.requires.n_in_bounds.1,
+    )) start.requires.n_in_bounds_2.1 at-prepare-fit.prepare_fit-m.auto.fps at-prepare-fit.prepare_fit-m.auto.slopes
 
 pub returns : goal.returns
 returns c =
@@ -130,6 +133,9 @@ returns c =
     let fit = at-prepare-fit.prepare_fit-m in
     laid a.cubic a.n a.ch a.ms.now a.pts.now a.ks.now a.cs.now a.slopes.now _
     {ts = ts} {fts = fit.new.fts} {fps = fit.new.fps} {bends = fit.new.slopes}
-    start.requires.n_in_bounds.0 (omega (arith, cells, start.requires.n_in_bounds.1)) start.requires.n_in_bounds_2.1 (omega (arith, sums.auto.out,
-        start.requires.n_in_bounds_2.0))
+    start.requires.n_in_bounds.0 (omega (arith, cells, start.requires.n_in_bounds.1)) start.requires.n_in_bounds_2.1 (omega (
+      arith,
+      sums.auto.out,
+      start.requires.n_in_bounds_2.0,
+    ))
     sums.ensures at-copy-to.copy_to.ensures fit.auto.fts fit.auto.fps fit.auto.slopes at-copy-to2.copy_to-2.ensures fit.ensures

@@ -2,5 +2,10 @@
 use Rattle.fit_tables.proofs.lay_wide.Goals as goal
 
 pub lay_in-requires : goal.lay_in-requires
-lay_in-requires c = record { le_n = c.requires.le_n; below = c.requires.below; n_in_bounds = c.requires.n_in_bounds; n_in_bounds_2 =
-    (c.requires.le_n.1.0, c.requires.ch_bound) }
+lay_in-requires c = record {
+  le_n = c.requires.le_n;
+  below = c.requires.below;
+  n_in_bounds = c.requires.n_in_bounds;
+  n_in_bounds_2 =
+      (c.requires.le_n.1.0, c.requires.ch_bound);
+}

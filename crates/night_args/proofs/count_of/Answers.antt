@@ -60,7 +60,7 @@ loop-at-preserved c =
     let b5 = b4 in
     let b6 = b5 in
     counts-more b6.loop-at.invariant b5.loop-at-test.true b4.field_end-end.ensures (sym b2.is_tolerance.ensures ∙ c.if-not-is_tolerance.false)
-        c.if-k-eq-MOST_TOLERANCES.false
+    c.if-k-eq-MOST_TOLERANCES.false
 
 pub returns : goal.returns
 returns c = counts_all c.loop-at.invariant (omega arith)

@@ -39,4 +39,4 @@ returns-then-settles-2 c =
     let k = at.upper-a.result * 2 ^ 22 + (b + 1) in
     over x.m x.base (x.base + at.upper-a.result * 2 ^ 22 + (b + 1)) k (omega arith)
     (settled (x.m * 2 ^ 8 - q) at.upper-a.result (b + 1) c.settles-then-u-lt30064771072.result c.if-settles-2.true
-        c.settles-then-u-lt30064771072.ensures x.m (omega arith))
+    c.settles-then-u-lt30064771072.ensures x.m (omega arith))

@@ -19,7 +19,7 @@ returns-then-row-gt-LAST_MOTION c =
     let two = c in
     let one = two in
     sym (and_t _ (eq-eqb _ _ one.if-row-ne-ROW_WORDS.false) ∙ and_t _ (lt-ltb _ _ two.if-row-ge-LINE_NUMBERS.false) ∙ and_f _ (lt-leb _ _
-        c.if-row-gt-LAST_MOTION.true))
+    c.if-row-gt-LAST_MOTION.true))
 
 pub returns : goal.returns
 unfolding shape_ok
@@ -28,5 +28,5 @@ returns c =
     let two = three in
     let one = two in
     let passed = and_t _ (eq-eqb _ _ one.if-row-ne-ROW_WORDS.false) ∙ and_t _ (lt-ltb _ _ two.if-row-ge-LINE_NUMBERS.false) ∙ and_t _ (le-leb _ _
-        three.if-row-gt-LAST_MOTION.false) in
+    three.if-row-gt-LAST_MOTION.false) in
     c.fields_ok.ensures ∙ sym passed

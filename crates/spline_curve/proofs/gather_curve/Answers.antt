@@ -44,8 +44,18 @@ points_of-n-requires c =
     let short = chan_short _ _ _ _ _ start.requires.holds.once listed in
     let codes = chan_codes _ _ start.requires.holds.once _ listed.is in
     let long = ap length listed.is in
-    record { row_words_in_bounds = (start.requires.holds.lent, (start.requires.holds.many, codes)); chans_len_bound = (short, (rw long
-        start.requires.held_in_bounds.0, start.requires.held_in_bounds.1)); axis_codes_in_bounds = start.requires.holds.start }
+    record {
+      row_words_in_bounds = (start.requires.holds.lent, (start.requires.holds.many, codes));
+      chans_len_bound = (
+        short,
+        (
+          rw long
+              start.requires.held_in_bounds.0,
+          start.requires.held_in_bounds.1,
+        ),
+      );
+      axis_codes_in_bounds = start.requires.holds.start;
+    }
 
 pub returns : goal.returns
 returns c =
@@ -55,4 +65,4 @@ returns c =
     let start = at-channels-of in
     let listed = at-channels-of.channels_of-ch.ensures in
     gathered-is _ _ _ _ _ _ _ _ _ _ _ _ start.requires.holds.once start.requires.axis_codes_in_bounds.1 listed at-metric-of.metric_of-metric.ensures
-        at-points-of.points_of-n.ensures
+    at-points-of.points_of-n.ensures

@@ -15,8 +15,11 @@ add_point-n-requires c =
     let inv = c.loop-i.invariant in
     let pre = c.requires in
     let long = ap length c.block.ensures ∙ block-length _ _ (omega arith) in
-    record { row_len = (long, pre.row_words_in_bounds.1.1); le_n = points-room _ _ _ _ _ _ pre.chans_len_bound.1.0 pre.chans_len_bound.1.1 _ _ _ _
-        (omega arith) inv.1.0 inv.1.1 }
+    record {
+      row_len = (long, pre.row_words_in_bounds.1.1);
+      le_n = points-room _ _ _ _ _ _ pre.chans_len_bound.1.0 pre.chans_len_bound.1.1 _ _ _ _
+          (omega arith) inv.1.0 inv.1.1;
+    }
 
 pub loop-i-preserved : goal.loop-i-preserved
 loop-i-preserved c =

@@ -10,8 +10,17 @@ pub add_points-requires : goal.add_points-requires
 add_points-requires c =
     let codes = c.requires.row_words_in_bounds.1.1 in
     let same = c.start_point.ensures.same in
-    record { row_words_in_bounds = (search rules, (search rules, codes)); chans_len_bound = (search rules, (omega (arith, same), simp length-set
-        (omega arith))) }
+    record {
+      row_words_in_bounds = (search rules, (search rules, codes));
+      chans_len_bound = (
+        search rules,
+        (
+          omega (arith, same),
+          simp length-set
+              (omega arith),
+        ),
+      );
+    }
 
 pub shape_of-pts : goal.shape_of-pts
 shape_of-pts c =

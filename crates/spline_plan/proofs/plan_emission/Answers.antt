@@ -11,8 +11,14 @@ use Rattle.spline_plan.proofs.plan_emission.Goals as goal
 pub gather_curve-curve-requires : goal.gather_curve-curve-requires
 gather_curve-curve-requires c =
     let start = c in
-    record { holds = start.requires.holds; axis_codes_in_bounds = (search rules, search rules); held_in_bounds = (start.requires.rooms.points,
-        start.requires.rooms.weights) }
+    record {
+      holds = start.requires.holds;
+      axis_codes_in_bounds = (search rules, search rules);
+      held_in_bounds = (
+        start.requires.rooms.points,
+        start.requires.rooms.weights,
+      );
+    }
 
 pub slice_bounds-ms-end : goal.slice_bounds-ms-end
 slice_bounds-ms-end c =
@@ -35,7 +41,7 @@ tabulate-form-requires c =
     let a = start.args in
     let asked = curved-kept _ _ _ _ a.job _ _ _ _ _ _ at-drawing-of.drawing_of-drawing.ensures gathered a.pts.now a.ws.now in
     let curved = asked start.requires.holds.many at-gather-curve.gather_curve-curve.auto.pts room.points at-gather-curve.gather_curve-curve.auto.ws
-        room.weights in
+    room.weights in
     let controls = draws_within _ _ _ _ a.job _ _ _ _ _ _ at-drawing-of.drawing_of-drawing.ensures gathered _ room.controls in
     record { curved = curved; n_in_bounds = (omega (arith, few, room.knots), controls); n_in_bounds_2 = omega (arith, few, room.blocks) }
 
@@ -50,7 +56,7 @@ total-place-requires c =
     let a = start.args in
     let asked = curved-kept _ _ _ _ a.job _ _ _ _ _ _ at-drawing-of.drawing_of-drawing.ensures gathered a.pts.now a.ws.now in
     let curved = asked start.requires.holds.many at-gather-curve.gather_curve-curve.auto.pts room.points at-gather-curve.gather_curve-curve.auto.ws
-        room.weights in
+    room.weights in
     let tabulate = at-tabulate.tabulate-form in
     let few = few_runs _ _ _ _ _ _ curved.few room.few tabulate.ensures.counts_after in
     record { row_words_in_bounds = (start.requires.holds.lent, (start.requires.holds.many, omega (arith, room.blocks, tabulate.auto.counts))); few = few }
@@ -66,7 +72,7 @@ returns c =
     let a = start.args in
     let asked = curved-kept _ _ _ _ a.job _ _ _ _ _ _ at-drawing-of.drawing_of-drawing.ensures gathered a.pts.now a.ws.now in
     let curved = asked start.requires.holds.many at-gather-curve.gather_curve-curve.auto.pts room.points at-gather-curve.gather_curve-curve.auto.ws
-        room.weights in
+    room.weights in
     let tabulate = at-tabulate.tabulate-form in
     let few = few_runs _ _ _ _ _ _ curved.few room.few tabulate.ensures.counts_after in (
       refl,

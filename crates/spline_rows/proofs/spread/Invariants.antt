@@ -11,7 +11,7 @@ use Rattle.spline_rows.proofs.spread.Given as goal
 abbrev pub invariant-loop-i : goal.invariant-loop-i
 invariant-loop-i l = let gs : List ℕ = geometric_of l.axes in
     (l.i ≤ l.held) × ((l.place ≡ place_to gs l.counts (block_at l.store) l.i) × HeldFrom l.o gs l.places l.counts (block_at l.store) l.held l.i
-        l.place l.initial.rows l.rows)
+    l.place l.initial.rows l.rows)
 
 abbrev pub decreases-loop-i : goal.decreases-loop-i
 decreases-loop-i l = l.i

@@ -8,8 +8,11 @@ spread-requires c =
     let at-axes = at-chans in
     let at-places-of = at-axes in
     let start = at-places-of in
-    record { spreads = spreads_at _ _ _ _ _ _ _ _ _ _ _ at-axes.axes_mask.ensures at-chans.axes_mask-2.ensures at-places-of.places_of.ensures _
-        start.requires.spreads; row_words_in_bounds = start.requires.row_words_in_bounds }
+    record {
+      spreads = spreads_at _ _ _ _ _ _ _ _ _ _ _ at-axes.axes_mask.ensures at-chans.axes_mask-2.ensures at-places-of.places_of.ensures _
+          start.requires.spreads;
+      row_words_in_bounds = start.requires.row_words_in_bounds;
+    }
 
 pub returns : goal.returns
 returns c =

@@ -24,7 +24,7 @@ returns-then-k-eq-W_MARKED c =
     let b3 = b2 in
     c.if_accepted-then-k-eq-W_MARKED.ensures
     ∙ sym (cond-f _ _ (ne_eqb _ _ b3.if-k-eq-W_BLOCKS.false) ∙ cond-f _ _ (ne_eqb _ _ b2.if-k-eq-W_ROWS.false) ∙ cond-t _ _ (eq-eqb _ _
-        c.if-k-eq-W_MARKED.true))
+    c.if-k-eq-W_MARKED.true))
 
 pub returns-then-k-gt-W_TURNED : goal.returns-then-k-gt-W_TURNED
 unfolding figure
@@ -35,7 +35,7 @@ returns-then-k-gt-W_TURNED c =
     let b5 = b4 in
     c.number_of-then-k-gt-W_TURNED.ensures
     ∙ sym (cond-f _ _ (ne_eqb _ _ b5.if-k-eq-W_BLOCKS.false) ∙ cond-f _ _ (ne_eqb _ _ b4.if-k-eq-W_ROWS.false) ∙ cond-f _ _ (ne_eqb _ _
-        b3.if-k-eq-W_MARKED.false)
+    b3.if-k-eq-W_MARKED.false)
     ∙ cond-f _ _ (lt-leb _ _ b2.if-k-gt-W_TURNED.true))
 
 pub returns : goal.returns
@@ -47,5 +47,5 @@ returns c =
     let b5 = b4 in
     c.number_of-2.ensures
     ∙ sym (cond-f _ _ (ne_eqb _ _ b5.if-k-eq-W_BLOCKS.false) ∙ cond-f _ _ (ne_eqb _ _ b4.if-k-eq-W_ROWS.false) ∙ cond-f _ _ (ne_eqb _ _
-        b3.if-k-eq-W_MARKED.false)
+    b3.if-k-eq-W_MARKED.false)
     ∙ cond-t _ _ (le-leb _ _ b2.if-k-gt-W_TURNED.false))

@@ -42,8 +42,11 @@ count_segments-requires c =
     let ready = ready_as e start.requires.ready in
     let es = at-shape-of.shape_of-s.ensures ∙ ap (shape_of start.args.d) e in
     let long = ap (λ (s : Shape). s.n) es in
-    record { segments = fit_segments ready at-if1.if-points-lt2.false es; fresh = fresh_of start.args.counts.now long start.requires.n_in_bounds
-        at_clear.clear.ensures }
+    record {
+      segments = fit_segments ready at-if1.if-points-lt2.false es;
+      fresh = fresh_of start.args.counts.now long start.requires.n_in_bounds
+          at_clear.clear.ensures;
+    }
 
 pub returns-in-Basis : goal.returns-in-Basis
 returns-in-Basis c =
@@ -57,9 +60,12 @@ returns-in-Basis c =
     let ready = ready_as e start.requires.ready in
     let es = at-shape-of.shape_of-s.ensures ∙ ap (shape_of start.args.d) e in
     let shaped = at-shape-of.shape_of-s.ensures in
-    record { counts_after = spline-counted ready es a.counts.now start.requires.n_in_bounds at_clear.clear.ensures
-        at-count-spline.count_spline.ensures.counts_after; remembers = spline_remembers (shape_of a.d a.form) a.ms.now a.pts.now a.ks.now a.cs.now
-        shaped e a.lefts.now at-count-spline.count_spline.ensures.lefts_after }
+    record {
+      counts_after = spline-counted ready es a.counts.now start.requires.n_in_bounds at_clear.clear.ensures
+          at-count-spline.count_spline.ensures.counts_after;
+      remembers = spline_remembers (shape_of a.d a.form) a.ms.now a.pts.now a.ks.now a.cs.now
+          shaped e a.lefts.now at-count-spline.count_spline.ensures.lefts_after;
+    }
 
 pub returns-else-points-lt2 : goal.returns-else-points-lt2
 returns-else-points-lt2 c =
@@ -75,6 +81,8 @@ returns-else-points-lt2 c =
     let es = at-shape-of.shape_of-s.ensures ∙ ap (shape_of start.args.d) e in
     let some = at-if1.if-points-lt2.false in
     let shaped = at-shape-of.shape_of-s.ensures in
-    record { counts_after = fit-counted ready some es a.counts.now at_clear.clear.ensures at-count-segments.count_segments.ensures.counts_after;
-        remembers = fit_remembers (shape_of a.d a.form) a.ms.now a.pts.now a.ks.now a.cs.now shaped e some a.lefts.now
-        at-count-segments.count_segments.ensures.lefts_after }
+    record {
+      counts_after = fit-counted ready some es a.counts.now at_clear.clear.ensures at-count-segments.count_segments.ensures.counts_after;
+      remembers = fit_remembers (shape_of a.d a.form) a.ms.now a.pts.now a.ks.now a.cs.now shaped e some a.lefts.now
+          at-count-segments.count_segments.ensures.lefts_after;
+    }

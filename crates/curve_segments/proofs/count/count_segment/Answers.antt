@@ -59,8 +59,14 @@ slice_bounds-count_walk-end-2 c =
 pub count_walk-reached-requires : goal.count_walk-reached-requires
 count_walk-reached-requires c =
     let start = c in
-    record { stretch = stretch_of_points start.requires.segments start.args.i start.requires.fresh_at.0.here; counts = (counts-at
-        start.requires.fresh_at.0, start.requires.fresh_at.1) }
+    record {
+      stretch = stretch_of_points start.requires.segments start.args.i start.requires.fresh_at.0.here;
+      counts = (
+        counts-at
+            start.requires.fresh_at.0,
+        start.requires.fresh_at.1,
+      );
+    }
 
 pub returns : goal.returns
 returns c =
@@ -69,6 +75,9 @@ returns c =
     let start = at-if1 in
     let a = start.args in
     let long = at-if1.if-t1-t0.false in
-    record { counts_after = walk_counted a.s a.ms.now a.pts.now a.ks.now a.cs.now a.i a.counts.now refl long start.requires.segments.kind
-        start.requires.fresh_at.0 at-count-walk.count_walk-reached.ensures.counted; stored = stored_as (lefts_walk a.s a.ms.now a.pts.now a.ks.now
-        a.cs.now a.i refl long) at-count-walk.count_walk-reached.ensures.stored }
+    record {
+      counts_after = walk_counted a.s a.ms.now a.pts.now a.ks.now a.cs.now a.i a.counts.now refl long start.requires.segments.kind
+          start.requires.fresh_at.0 at-count-walk.count_walk-reached.ensures.counted;
+      stored = stored_as (lefts_walk a.s a.ms.now a.pts.now a.ks.now
+          a.cs.now a.i refl long) at-count-walk.count_walk-reached.ensures.stored;
+    }

@@ -49,8 +49,14 @@ count_segment-c-requires c =
     let few : at-loop.loop-i.i ≤ most_points = omega (arith, at-loop-test.loop-i-test.true, start.requires.segments.0.tables.few) in
     let few-lefts = lefts-few a.s a.ms.now a.pts.now a.ks.now a.cs.now in
     let cursor = cursor_part (fit_lefts a.s a.ms.now a.pts.now a.ks.now a.cs.now) few-lefts at-loop.loop-i.i few inv.1.end in
-    record { segments = segments_as _ start.requires.segments.1 here start.requires.segments.0; fresh_at = (fresh_as _ start.requires.segments.1 here
-        fresh, cursor) }
+    record {
+      segments = segments_as _ start.requires.segments.1 here start.requires.segments.0;
+      fresh_at = (
+        fresh_as _ start.requires.segments.1 here
+            fresh,
+        cursor,
+      );
+    }
 
 pub loop-i-smaller : goal.loop-i-smaller
 loop-i-smaller c = omega (arith, c.loop-i-test.true)
@@ -71,7 +77,7 @@ loop-i-preserved c =
     let set_here = at-count-segment.count_segment-c.ensures.counts_after ∙ ap (λ (z : List (List Float)). set at-loop.loop-i.counts i (length z)) run in
     let f = filling-set inv.0 (omega (arith, start.requires.fresh.table, at-loop-test.loop-i-test.true)) set_here in
     let stored = stored_more (fit_lefts a.s a.ms.now a.pts.now a.ks.now a.cs.now) i inv.1 (stored_as (sym lefts)
-        at-count-segment.count_segment-c.ensures.stored) in
+    at-count-segment.count_segment-c.ensures.stored) in
     ((omega (arith, at-loop-test.loop-i-test.true), f.same), (f, stored))
 
 pub shape_of-counts : goal.shape_of-counts
@@ -87,5 +93,8 @@ returns c =
     let a = start.args in
     let inv = at-loop.loop-i.invariant in
     let e : at-loop.loop-i.i ≡ start.args.s.n - 1 = omega (arith, c.loop-i-test.false, inv.0.0) in
-    record { counts_after = inv.1.0.is ∙ ap (λ (z : ℕ). filled (λ (j : ℕ). length (fit_run_at a.s a.ms.now a.pts.now a.ks.now a.cs.now j)) z
-        a.counts.now) e; lefts_after = inv.1.1.is ∙ ap (λ (z : ℕ). sets a.lefts.now 0 (joined (fit_lefts a.s a.ms.now a.pts.now a.ks.now a.cs.now) z)) e }
+    record {
+      counts_after = inv.1.0.is ∙ ap (λ (z : ℕ). filled (λ (j : ℕ). length (fit_run_at a.s a.ms.now a.pts.now a.ks.now a.cs.now j)) z
+          a.counts.now) e;
+      lefts_after = inv.1.1.is ∙ ap (λ (z : ℕ). sets a.lefts.now 0 (joined (fit_lefts a.s a.ms.now a.pts.now a.ks.now a.cs.now) z)) e;
+    }

@@ -12,7 +12,7 @@ use Rattle.curve_segments.proofs.count.count_segments.Given as goal
 abbrev pub invariant-loop-i : goal.invariant-loop-i
 invariant-loop-i l = ((l.i ≤ l.s.n - 1) × (length l.counts ≡ length l.initial.counts))
     × (Filling (λ (j : ℕ). length (fit_run_at l.s l.ms l.pts l.ks l.cs j)) l.i l.initial.counts l.counts × Stored l.initial.lefts 0 (joined
-        (fit_lefts l.s l.ms l.pts l.ks l.cs) l.i) l.c l.lefts)
+    (fit_lefts l.s l.ms l.pts l.ks l.cs) l.i) l.c l.lefts)
 
 abbrev pub decreases-loop-i : goal.decreases-loop-i
 decreases-loop-i l = l.s.n - 1 - l.i

@@ -85,8 +85,11 @@ write_walk-requires c =
     let memory = recalls_as (lefts_walk a.s a.ms.now a.pts.now a.ks.now a.cs.now a.i refl long) start.requires.recalls.0 in
     let run = run_walk a.s a.ms.now a.pts.now a.ks.now a.cs.now a.i refl long in
     let room = subst (λ (z : List (List Float)). a.at.word + length (encode z) ≤ length a.out.now) run start.requires.i_bound.1 in
-    record { stretch = stretch_of_points start.requires.segments a.i start.requires.i_bound.0; recalls = (memory, start.requires.recalls.1);
-        p1_in_bounds = room }
+    record {
+      stretch = stretch_of_points start.requires.segments a.i start.requires.i_bound.0;
+      recalls = (memory, start.requires.recalls.1);
+      p1_in_bounds = room;
+    }
 
 pub returns : goal.returns
 returns c =
@@ -96,5 +99,7 @@ returns c =
     let a = start.args in
     let long = at-if1.if-t1-t0.false in
     let lefts = lefts_walk a.s a.ms.now a.pts.now a.ks.now a.cs.now a.i refl long in
-    record { written = written_as (run_walk a.s a.ms.now a.pts.now a.ks.now a.cs.now a.i refl long) at-write-walk.write_walk.ensures.written;
-        sample_value = at-write-walk.write_walk.ensures.sample_value ∙ ap (λ (z : List ℕ). a.at.sample + length z) (sym lefts) }
+    record {
+      written = written_as (run_walk a.s a.ms.now a.pts.now a.ks.now a.cs.now a.i refl long) at-write-walk.write_walk.ensures.written;
+      sample_value = at-write-walk.write_walk.ensures.sample_value ∙ ap (λ (z : List ℕ). a.at.sample + length z) (sym lefts);
+    }

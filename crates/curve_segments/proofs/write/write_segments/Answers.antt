@@ -53,8 +53,18 @@ write_segment-at-requires c =
     let cursor = cursor_part (fit_lefts a.s a.ms.now a.pts.now a.ks.now a.cs.now) few-lefts i few inv.1 in
     let fits = run_room (fit_run_at a.s a.ms.now a.pts.now a.ks.now a.cs.now) i _ more start.requires.n_in_bounds inv.0 in
     let room = subst (λ (z : List (List Float)). at-loop.loop-i.at.word + length (encode z) ≤ length at-loop.loop-i.out) (sym run) fits in
-    record { segments = segments_as _ start.requires.segments.1 here start.requires.segments.0; recalls = (memory, cursor); i_bound = (omega (arith,
-        more, count_as a.s start.requires.segments.1 here), room) }
+    record {
+      segments = segments_as _ start.requires.segments.1 here start.requires.segments.0;
+      recalls = (memory, cursor);
+      i_bound = (
+        omega (
+          arith,
+          more,
+          count_as a.s start.requires.segments.1 here,
+        ),
+        room,
+      );
+    }
 
 pub loop-i-smaller : goal.loop-i-smaller
 loop-i-smaller c = omega (arith, c.loop-i-test.true)

@@ -127,5 +127,7 @@ returns c =
     let inv = at-loop.loop-j.invariant in
     let ev = eval_of a.s a.ks.now a.cs.now in
     let e : at-loop.loop-j.j ≡ start.args.s.n - start.args.degree = omega (arith, c.loop-j-test.false, inv.0.0) in
-    record { counts_after = inv.1.1.1.0.is ∙ ap (λ (z : ℕ). counted (own_of a.s a.ks.now) 1 (span_samples ev a.ms.now a.s.tol z) a.counts.now) e;
-        lefts_after = inv.1.1.1.1.is ∙ ap (λ (z : ℕ). sets a.lefts.now 0 (joined (span_lefts ev a.ms.now a.s.tol) z)) e }
+    record {
+      counts_after = inv.1.1.1.0.is ∙ ap (λ (z : ℕ). counted (own_of a.s a.ks.now) 1 (span_samples ev a.ms.now a.s.tol z) a.counts.now) e;
+      lefts_after = inv.1.1.1.1.is ∙ ap (λ (z : ℕ). sets a.lefts.now 0 (joined (span_lefts ev a.ms.now a.s.tol) z)) e;
+    }

@@ -82,7 +82,7 @@ write_walk-at-requires c =
     let prev = point-is _ _ inv.1.0 in
     let next = point-is _ _ at-point-at2.point_at-next.ensures in
     let stretch = stretch_of start.requires.spans.0.tables start.requires.spans.1 (point-length _ _ inv.1.0) (point-length _ _
-        at-point-at2.point_at-next.ensures) in
+    at-point-at2.point_at-next.ensures) in
     let part = recalls_part lefts at-loop.loop-j.j _ more inv.1.1.1 start.requires.recalls in
     let memory = recalls_as (span-lefts ev _ _ at-loop.loop-j.j _ _ inv.0 refl prev next) part in
     let few : at-loop.loop-j.j ≤ most_points = omega (arith, spline.few, more) in
