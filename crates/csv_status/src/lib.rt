@@ -1,11 +1,14 @@
 // How a run of a row text program stands: whether it may end or goes on, its status, and one line for what failed.
+#![tactic(auto)]
+
 ghost use Rattle.std.specs.Prelude.{◌⊎◌, ◌≡◌, ◌≤◌, ◌<◌};
 ghost use Rattle.csv_status.specs.Status.{goes_on, may_end, status_of};
 
-use libc::STDERR_FILENO;
+use std::fs::{Files, OpenOptions};
+use std::io::Write;
 
-// The descriptor of the status.
-const STATUS_FILENO: i32 = 3;
+// The descriptor of the status, as a file.
+const STATUS_FILE: &str = "/dev/fd/3";
 
 // The run goes on; it has ended; standard input, output or error failed.
 pub const GOES_ON: u64 = 0;
@@ -19,6 +22,7 @@ pub const NO_OUTPUT: u64 = 3;
 pub const NO_ERROR: u64 = 4;
 
 // Whether the input may end: behind its last line, and not before its header.
+#[tactic(auto, unfolding(crate::specs::Status::may_end))]
 pub fn may_end(left: usize, physical: u64) -> bool
     ensures { result ≡ may_end left physical }
 {
@@ -36,30 +40,39 @@ pub fn turns_left(turns: u64, over: u64) -> u64
     if over == GOES_ON { turns - 1 } else { 0 }
 }
 
+// Whether all of the bytes could be written.
+pub fn is_written<W: Write>(to: &mut W, bytes: &[u8]) -> bool {
+    match to.write_all(bytes) {
+        Ok(()) => true,
+        Err(_) => false,
+    }
+}
+
 // What failed, in the words that stand behind the program's name.
-fn words_of(over: u64) -> bool {
+fn words_of<E: Write>(over: u64, errors: &mut E) -> bool {
     match over {
-        NO_INPUT => io::write_all(STDERR_FILENO, b": standard input could not be read\n"),
-        NO_OUTPUT => io::write_all(STDERR_FILENO, b": standard output could not be written\n"),
+        NO_INPUT => is_written(errors, b": standard input could not be read\n"),
+        NO_OUTPUT => is_written(errors, b": standard output could not be written\n"),
         _ => true,
     }
 }
 
 // One plain line by which the program of this name says what failed. Nothing is said where standard error did.
-pub fn tell(name: &[u8], over: u64) -> bool {
+pub fn tell<E: Write>(name: &[u8], over: u64, errors: &mut E) -> bool {
     if over < NO_INPUT {
         return true;
     }
     if over > NO_OUTPUT {
         return true;
     }
-    if io::write_all(STDERR_FILENO, name) {
-        return words_of(over);
+    if is_written(errors, name) {
+        return words_of(over, errors);
     }
     false
 }
 
 // 0 done, 1 refused, 2 could not read or write, or did not come to the end.
+#[tactic(auto, unfolding(crate::specs::Status::status_of))]
 fn status_of(over: u64, refused: bool) -> u8
     ensures { (result ≡ status_of over refused) × (result ≤ 2) }
 {
@@ -70,7 +83,13 @@ fn status_of(over: u64, refused: bool) -> u8
 }
 
 // The status, as one digit.
-pub fn report(over: u64, refused: bool) -> bool {
+pub fn report<F: Files>(files: &F, over: u64, refused: bool) -> bool {
     let digit = [b'0' + status_of(over, refused)];
-    io::write_all(STATUS_FILENO, &digit)
+    match OpenOptions::new().write(true).open(files, STATUS_FILE) {
+        Ok(file) => {
+            let mut to = file;
+            is_written(&mut to, &digit)
+        }
+        Err(_) => false,
+    }
 }

@@ -1,5 +1,7 @@
 // A night: every file is tried at each tolerance in turn until a try passes, every try is a line of a table, and the rates are
 // counts over it. docs/NIGHT.md says what is read, written and printed.
+#![tactic(auto)]
+
 ghost use Rattle.std.specs.Prelude.{◌≡◌, length};
 ghost use Rattle.tally_words.specs.Words.{tally_words};
 
@@ -11,7 +13,7 @@ use night_course::{CLOSED, Ticket, UNTOLD};
 use night_flush::{Files, Tried};
 use night_print::{done_of, print_report};
 use night_start::{Began, begun, complain_plainly, explain, has_room};
-use night_steps::{Facts, Next, Night, Place, next_try, settle};
+use night_steps::{Coming, Facts, Made, Next, Night, Place, TryFiles, next_try, settle};
 use night_try::{INPUT, LISTED_ROOM, OUT_ROOM, ROWS, STORE, whole_try};
 use tally::tally_start;
 use tally_words::TALLY_WORDS;
@@ -53,11 +55,11 @@ fn ticket_of(next: Next) -> Ticket {
     }
 }
 
-fn files_of(night: Night, next: Next) -> Files {
+fn files_of<'a>(night: &'a Night, files: &'a TryFiles) -> Files<'a> {
     Files {
-        input: next.input,
-        rows: next.output,
-        curved: night.curved,
+        input: &files.input,
+        rows: &files.output,
+        curved: &night.curved,
     }
 }
 
@@ -72,10 +74,10 @@ fn passed_over(next: Next) -> Place {
 
 // A try that is due: where the night stands, and what comes next.
 #[derive(Drop)]
-struct Due {
-    night: Night,
+struct Due<'a> {
+    night: &'a Night,
     place: Place,
-    next: Next,
+    coming: Coming,
 }
 
 // A tally as it stands, kept.
@@ -101,7 +103,8 @@ fn tally_for(job: usize, told: usize, tally: &mut [u64; TALLY_WORDS]) -> usize {
 
 // One try, made, told and written down; a file that could not be opened is passed over.
 fn one_try(
-    due: Due,
+    rt: &HostRuntime,
+    due: Due<'_>,
     marks: &mut [u64; MOST_FILES],
     tries: &mut [u64; MOST_FILES],
     buf: &mut [u8; INPUT],
@@ -113,13 +116,14 @@ fn one_try(
     listed: &mut [u8; LISTED_ROOM],
 ) -> Place {
     let night = due.night;
-    let next = due.next;
-    if !next.ready {
+    let place = due.place;
+    let Coming { next, files } = due.coming;
+    let Some(opened) = files else {
         return passed_over(next);
-    }
+    };
     let before = kept(tally);
     let tried = whole_try(
-        files_of(night, next),
+        files_of(night, &opened),
         ticket_of(next),
         next.tolerance,
         buf,
@@ -131,9 +135,13 @@ fn one_try(
         listed,
     );
     settle(
+        rt,
         night,
-        due.place,
-        next,
+        Made {
+            place,
+            next,
+            files: opened,
+        },
         facts_of(tried),
         &before,
         tally,
@@ -144,7 +152,8 @@ fn one_try(
 
 // All tries of a night, one after another.
 fn tries_in(
-    night: Night,
+    rt: &HostRuntime,
+    night: &Night,
     marks: &mut [u64; MOST_FILES],
     tries: &mut [u64; MOST_FILES],
     buf: &mut [u8; INPUT],
@@ -163,13 +172,18 @@ fn tries_in(
     };
     let mut turns = MOST_TURNS;
     while turns > 0 {
-        let next = next_try(night, place, marks, tries);
-        if !next.found {
+        let coming = next_try(rt, night, place, marks, tries);
+        if !coming.next.found {
             return place;
         }
-        told = tally_for(next.job, told, tally);
+        told = tally_for(coming.next.job, told, tally);
         place = one_try(
-            Due { night, place, next },
+            rt,
+            Due {
+                night,
+                place,
+                coming,
+            },
             marks,
             tries,
             buf,
@@ -193,13 +207,14 @@ fn rounds_of(files: usize) -> u64 {
 // The same, in memory of a fixed size that is all here. A function that calls itself is not made a part of its caller: so
 // its arrays are in no other frame, and a night that is not begun needs no large stack.
 fn all_tries(
-    night: Night,
+    rt: &HostRuntime,
+    night: &Night,
     marks: &mut [u64; MOST_FILES],
     tries: &mut [u64; MOST_FILES],
     rounds: u64,
 ) -> Place {
     if rounds > 0 {
-        return all_tries(night, marks, tries, rounds - 1);
+        return all_tries(rt, night, marks, tries, rounds - 1);
     }
     let mut buf = [0u8; INPUT];
     let mut state = [0u64; STATE_WORDS];
@@ -209,6 +224,7 @@ fn all_tries(
     let mut listed = [0u8; LISTED_ROOM];
     let mut tally = [0u64; TALLY_WORDS];
     tries_in(
+        rt,
         night,
         marks,
         tries,
@@ -223,67 +239,72 @@ fn all_tries(
 }
 
 // The status: 0 where every job's first try passed, 1 where not, 2 where something failed.
-fn status(ok: bool, all: bool) {
+fn status(rt: &HostRuntime, ok: bool, all: bool) {
     if ok {
-        report(ENDED, !all);
+        report(rt, ENDED, !all);
         return;
     }
-    report(NO_INPUT, false);
+    report(rt, NO_INPUT, false);
 }
 
 // What is shown and printed once no try is left, and the status.
 fn ended(
+    rt: &HostRuntime,
     command: Command,
     began: Began,
     faults: bool,
     marks: &[u64; MOST_FILES],
     tries: &[u64; MOST_FILES],
 ) {
-    night_steps::show_end(done_of(command, marks, tries), command.files);
-    let told = print_report(began.night.tries, began.from, command, marks, tries);
+    night_steps::show_end(rt, done_of(command, marks, tries), command.files);
+    let told = print_report(rt, &began.night.tries, began.from, command, marks, tries);
+    // The status goes to descriptor 3, which is none of these files: they are closed before.
+    drop(began);
     if !told.ok {
         complain_plainly(
+            rt,
             b"night: standard output could not be written, or tries.csv not be read\n",
         );
     }
     if faults {
-        status(false, false);
+        status(rt, false, false);
         return;
     }
-    status(told.ok, told.all);
+    status(rt, told.ok, told.all);
 }
 
 // The night that was asked for.
-fn whole_night(command: Command) {
+fn whole_night(rt: &HostRuntime, command: Command) {
     let mut marks = [0u64; MOST_FILES];
     let mut tries = [0u64; MOST_FILES];
-    if !has_room() {
+    if !has_room(rt) {
         complain_plainly(
+            rt,
             b"night: the stack is limited to less than 128 MB; raise it (ulimit -s 262144), as ./night does\n",
         );
-        status(false, false);
+        status(rt, false, false);
         return;
     }
-    let began = begun(command, &mut marks, &mut tries);
-    if !began.ok {
-        status(false, false);
+    let Some(began) = begun(rt, command, &mut marks, &mut tries) else {
+        status(rt, false, false);
         return;
-    }
+    };
     let place = all_tries(
-        began.night,
+        rt,
+        &began.night,
         &mut marks,
         &mut tries,
         rounds_of(command.files),
     );
-    ended(command, began, place.faults, &marks, &tries);
+    ended(rt, command, began, place.faults, &marks, &tries);
 }
 
-fn main() {
-    match command_of() {
-        Asked::Night(command) => whole_night(command),
+fn main(rt: HostRuntime) {
+    match command_of(&rt) {
+        Asked::Night(command) => whole_night(&rt, command),
         Asked::Nothing(reason) => {
-            explain(reason);
-            status(false, false);
+            explain(&rt, reason);
+            status(&rt, false, false);
         }
     }
 }

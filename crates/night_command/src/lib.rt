@@ -1,11 +1,15 @@
 // What the arguments of a night ask for, by their places: nothing of them is kept but numbers.
+#![tactic(auto)]
+
 ghost use Rattle.std.specs.Prelude.{◌+◌, ◌<◌, ◌≤◌};
 
 use csv_digits::wide;
 use night_args::{count_of, end_from, field_from};
 use night_names::is_ours;
-use night_path::name_of;
+use night_path::{MOST_PATH, argument, name_of};
 use night_stands::may_stand;
+use std::env::FillError;
+use std::rt::Env;
 
 // At most so many files.
 pub const MOST_FILES: usize = 65536;
@@ -14,7 +18,7 @@ pub const MOST_FILES: usize = 65536;
 pub const LIST_ROOM: usize = 288;
 
 // The places of the list of tolerances, of DIR and of the first FILE among the arguments, and how many there are.
-#[derive(Drop)]
+#[derive(Clone, Copy)]
 pub struct Command {
     pub list: usize,
     pub tolerances: usize,
@@ -24,13 +28,13 @@ pub struct Command {
 }
 
 // What is asked for: a night; or nothing that makes sense, for a reason, at an argument.
-#[derive(Drop)]
+#[derive(Clone, Copy)]
 pub enum Asked {
     Night(Command),
     Nothing(Reason),
 }
 
-#[derive(Drop)]
+#[derive(Clone, Copy)]
 pub struct Reason {
     pub why: u64,
     pub at: usize,
@@ -62,9 +66,9 @@ const OUT: u64 = 2;
 // Arguments before the first FILE: the program, and two options with a value each.
 const FIRST: usize = 5;
 
-fn option_at(i: usize) -> u64 {
+fn option_at(rt: &HostRuntime, i: usize) -> u64 {
     let mut text = [0u8; 32];
-    let n = os::arg(i, &mut text);
+    let n = argument(rt, i, &mut text);
     if check::same(&text[..n], b"--tolerances") {
         return TOLERANCES;
     }
@@ -75,21 +79,15 @@ fn option_at(i: usize) -> u64 {
 }
 
 // How many tolerances argument i lists, 0 where it lists none.
-fn tolerances_at(i: usize) -> usize {
+fn tolerances_at(rt: &HostRuntime, i: usize) -> usize {
     let mut text = [0u8; LIST_ROOM];
-    let n = os::arg(i, &mut text);
-    if os::errno() != 0 {
-        return 0;
-    }
+    let n = argument(rt, i, &mut text);
     count_of(&text[..n])
 }
 
-fn is_whole(i: usize) -> bool {
-    let mut text = io::buffer();
-    let n = os::arg(i, &mut text);
-    if os::errno() != 0 {
-        return false;
-    }
+fn is_whole(rt: &HostRuntime, i: usize) -> bool {
+    let mut text = [0u8; MOST_PATH];
+    let n = argument(rt, i, &mut text);
     n > 0
 }
 
@@ -109,12 +107,9 @@ fn names_file(path: &[u8]) -> bool {
 }
 
 // Whether argument i may be a FILE.
-fn is_file(i: usize) -> bool {
-    let mut text = io::buffer();
-    let n = os::arg(i, &mut text);
-    if os::errno() != 0 {
-        return false;
-    }
+fn is_file(rt: &HostRuntime, i: usize) -> bool {
+    let mut text = [0u8; MOST_PATH];
+    let n = argument(rt, i, &mut text);
     if names_file(&text[..n]) {
         return !is_ours(&text[..n]);
     }
@@ -122,12 +117,9 @@ fn is_file(i: usize) -> bool {
 }
 
 // Why it may not, where it may not.
-fn fault_of(i: usize) -> u64 {
-    let mut text = io::buffer();
-    let n = os::arg(i, &mut text);
-    if os::errno() != 0 {
-        return BAD_NAME;
-    }
+fn fault_of(rt: &HostRuntime, i: usize) -> u64 {
+    let mut text = [0u8; MOST_PATH];
+    let n = argument(rt, i, &mut text);
     if names_file(&text[..n]) {
         return OUR_NAME;
     }
@@ -135,11 +127,11 @@ fn fault_of(i: usize) -> u64 {
 }
 
 // The first argument from `first` on, of `files`, that may be no FILE, or 0.
-fn bad_file(first: usize, files: usize) -> usize {
+fn bad_file(rt: &HostRuntime, first: usize, files: usize) -> usize {
     let mut k: usize = 0;
     while k < files {
         let i = std::num::wrapping_add_usize(first, k);
-        if !is_file(i) {
+        if !is_file(rt, i) {
             return i;
         }
         k += 1;
@@ -164,11 +156,11 @@ fn slot_of(name: &[u8]) -> usize
 }
 
 // The slot for the NAME of argument i.
-fn slot_at(i: usize) -> usize
+fn slot_at(rt: &HostRuntime, i: usize) -> usize
     ensures { result < 131071 }
 {
-    let mut text = io::buffer();
-    let n = os::arg(i, &mut text);
+    let mut text = [0u8; MOST_PATH];
+    let n = argument(rt, i, &mut text);
     let name = name_of(&text[..n]);
     let from = name.from;
     let upto = name.upto;
@@ -186,17 +178,17 @@ fn same_name(a: &[u8], b: &[u8]) -> bool {
     check::same(&a[from..upto], &b[start..end])
 }
 
-fn are_twins(i: usize, j: usize) -> bool {
-    let mut a = io::buffer();
-    let n = os::arg(i, &mut a);
-    let mut b = io::buffer();
-    let m = os::arg(j, &mut b);
+fn are_twins(rt: &HostRuntime, i: usize, j: usize) -> bool {
+    let mut a = [0u8; MOST_PATH];
+    let n = argument(rt, i, &mut a);
+    let mut b = [0u8; MOST_PATH];
+    let m = argument(rt, j, &mut b);
     same_name(&a[..n], &b[..m])
 }
 
 // Puts argument i into the table, or finds one of the same NAME there: the answer then is true.
-fn has_twin(slots: &mut [u64; SLOTS], i: u64) -> bool {
-    let mut at = slot_at(i as usize);
+fn has_twin(rt: &HostRuntime, slots: &mut [u64; SLOTS], i: u64) -> bool {
+    let mut at = slot_at(rt, i as usize);
     let mut left: usize = SLOTS;
     while left > 0 {
         let there = slots[at];
@@ -204,7 +196,7 @@ fn has_twin(slots: &mut [u64; SLOTS], i: u64) -> bool {
             slots[at] = i;
             return false;
         }
-        if are_twins(there as usize, i as usize) {
+        if are_twins(rt, there as usize, i as usize) {
             return true;
         }
         at = (at + 1) % SLOTS;
@@ -214,13 +206,13 @@ fn has_twin(slots: &mut [u64; SLOTS], i: u64) -> bool {
 }
 
 // The first argument from `first` on, of `files`, whose NAME another before it has, or 0.
-fn twin_file(first: u64, files: u64) -> usize
+fn twin_file(rt: &HostRuntime, first: u64, files: u64) -> usize
     requires { (first ≤ 5) × (files ≤ 65536) }
 {
     let mut slots = [0u64; SLOTS];
     let mut k: u64 = 0;
     while k < files {
-        if has_twin(&mut slots, first + k) {
+        if has_twin(rt, &mut slots, first + k) {
             return (first + k) as usize;
         }
         k += 1;
@@ -233,15 +225,15 @@ fn nothing(why: u64, at: usize) -> Asked {
 }
 
 // The files from `first` on.
-fn with_files(list: usize, tolerances: usize, dir: usize, files: usize) -> Asked {
+fn with_files(rt: &HostRuntime, list: usize, tolerances: usize, dir: usize, files: usize) -> Asked {
     if files > MOST_FILES {
         return nothing(TOO_MANY, 0);
     }
-    let bad = bad_file(FIRST, files);
+    let bad = bad_file(rt, FIRST, files);
     if bad != 0 {
-        return nothing(fault_of(bad), bad);
+        return nothing(fault_of(rt, bad), bad);
     }
-    let twin = twin_file(FIRST as u64, files as u64);
+    let twin = twin_file(rt, FIRST as u64, files as u64);
     if twin != 0 {
         return nothing(SAME_NAME, twin);
     }
@@ -255,35 +247,54 @@ fn with_files(list: usize, tolerances: usize, dir: usize, files: usize) -> Asked
 }
 
 // The values of the options at their places.
-fn with_values(list: usize, dir: usize, files: usize) -> Asked {
-    let tolerances = tolerances_at(list);
+fn with_values(rt: &HostRuntime, list: usize, dir: usize, files: usize) -> Asked {
+    let tolerances = tolerances_at(rt, list);
     if tolerances == 0 {
         return nothing(BAD_TOLERANCES, list);
     }
-    if !is_whole(dir) {
+    if !is_whole(rt, dir) {
         return nothing(BAD_DIR, dir);
     }
-    with_files(list, tolerances, dir, files)
+    with_files(rt, list, tolerances, dir, files)
+}
+
+// Whether there is an argument i, however long it is.
+fn is_there(rt: &HostRuntime, i: usize) -> bool {
+    let mut first = [0u8; 1];
+    !matches!(rt.arg(i, &mut first), Err(FillError::NotPresent))
+}
+
+// So many arguments are more than a night may have.
+const TOO_MANY_ARGUMENTS: usize = FIRST + MOST_FILES + 1;
+
+// How many arguments there are; of so many that they are too many, no more are counted.
+fn argument_count(rt: &HostRuntime) -> usize {
+    for i in 0..TOO_MANY_ARGUMENTS {
+        if !is_there(rt, i) {
+            return i;
+        }
+    }
+    TOO_MANY_ARGUMENTS
 }
 
 // What the arguments ask for.
-pub fn command_of() -> Asked {
-    let count = os::arg_count();
+pub fn command_of(rt: &HostRuntime) -> Asked {
+    let count = argument_count(rt);
     if count <= FIRST {
         return nothing(BAD_FORM, 0);
     }
     let files = count - FIRST;
-    let one = option_at(1);
-    let other = option_at(3);
+    let one = option_at(rt, 1);
+    let other = option_at(rt, 3);
     if one == TOLERANCES {
         if other == OUT {
-            return with_values(2, 4, files);
+            return with_values(rt, 2, 4, files);
         }
         return nothing(BAD_FORM, 0);
     }
     if one == OUT {
         if other == TOLERANCES {
-            return with_values(4, 2, files);
+            return with_values(rt, 4, 2, files);
         }
         return nothing(BAD_FORM, 0);
     }
@@ -301,15 +312,15 @@ fn lists(list: &[u8], i: usize, text: &[u8]) -> bool {
 }
 
 // Whether tolerance i of a command is this text.
-pub fn is_tolerance_text(command: Command, i: usize, text: &[u8]) -> bool {
+pub fn is_tolerance_text(rt: &HostRuntime, command: Command, i: usize, text: &[u8]) -> bool {
     let mut list = [0u8; LIST_ROOM];
-    let n = os::arg(command.list, &mut list);
+    let n = argument(rt, command.list, &mut list);
     lists(&list[..n], i, text)
 }
 
 // Whether argument i is this text.
-pub fn is_argument(i: usize, text: &[u8]) -> bool {
-    let mut path = io::buffer();
-    let n = os::arg(i, &mut path);
+pub fn is_argument(rt: &HostRuntime, i: usize, text: &[u8]) -> bool {
+    let mut path = [0u8; MOST_PATH];
+    let n = argument(rt, i, &mut path);
     check::same(&path[..n], text)
 }

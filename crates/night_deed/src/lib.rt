@@ -1,5 +1,7 @@
 // What a turn of a try found is done up to the call that it asks for, and what that call answered is told: over slices, with no
 // descriptor and no flattener.
+#![tactic(auto)]
+
 ghost use Rattle.std.specs.Prelude.{◌≡◌, ◌+◌, ◌-◌, ◌≤◌, length};
 ghost use Rattle.layout.specs.Layout.{row_words};
 ghost use Rattle.text_lines.specs.declared.Found.TheVariants.{Line};
@@ -21,7 +23,7 @@ use night_told::call_told;
 use text_lines::{Found, Turn};
 
 // The try as it then stands, and the call that is due.
-#[derive(Drop)]
+#[derive(Clone, Copy)]
 pub struct Asked {
     pub run: TryRun,
     pub call: Call,

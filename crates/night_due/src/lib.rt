@@ -1,4 +1,6 @@
 // What is due behind what a turn of a try found: whether its end is told, which call is made, and as what it is told.
+#![tactic(auto)]
+
 ghost use Rattle.std.specs.Prelude.{◌≡◌, length};
 ghost use Rattle.layout.specs.Layout.{row_words};
 ghost use Rattle.night_course.specs.Course.{is_open};
@@ -10,7 +12,7 @@ use night_course::{Course, GOES, REFUSED};
 use tally_call::{K_CLOSE, K_PUSH};
 
 // The call that is due.
-#[derive(Drop)]
+#[derive(Clone, Copy)]
 pub enum Call {
     Nothing,
     Push,

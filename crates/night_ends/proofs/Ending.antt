@@ -29,13 +29,13 @@ digits-none t zero h = refl
 digits-none t (suc i) h = absurd (omega arith)
 
 -- ---- `.try` and digits
-pub try-none : (t : List ℕ) (k : ℕ) → k ≡ digits_from t → k ≡ length t → false ≡ ends_try t
+pub try_none : (t : List ℕ) (k : ℕ) → k ≡ digits_from t → k ≡ length t → false ≡ ends_try t
 unfolding ends_try
-try-none t k e n = sym (and_f _ (le-ltb (digits_from t) (length t) (omega (arith, e, n))))
+try_none t k e n = sym (and_f _ (le-ltb (digits_from t) (length t) (omega (arith, e, n))))
 
-pub try-some : (t : List ℕ) (k : ℕ) (r : Bool) → k ≡ digits_from t → k ≤ length t → (k ≡ length t → ⊥) → r ≡ ends_in (take k t) (bytes ".try")
+pub try_some : (t : List ℕ) (k : ℕ) (r : Bool) → k ≡ digits_from t → k ≤ length t → (k ≡ length t → ⊥) → r ≡ ends_in (take k t) (bytes ".try")
     → r ≡ ends_try t
 unfolding ends_try
-try-some t k r e l n h =
+try_some t k r e l n h =
     let below : k < length t = omega (arith, l, n) in
     h ∙ ap (λ (i : ℕ). ends_in (take i t) (bytes ".try")) e ∙ sym (and_t _ (lt-ltb (digits_from t) (length t) (omega (arith, e, below))))

@@ -1,4 +1,6 @@
 // What a text ends in: a word, or `.try` and digits, as the rows of a try are named.
+#![tactic(auto)]
+
 ghost use Rattle.std.specs.Prelude.{◌≡◌, ◌≤◌, length};
 ghost use Rattle.csv_fields.specs.Read.{is_digit};
 ghost use Rattle.night_ends.specs.Ends.{ends_in, digits_upto, ends_try};
@@ -39,6 +41,7 @@ fn digits_from(text: &[u8]) -> usize
 }
 
 // Whether a NAME ends in `.try` and digits.
+#[tactic(auto, using(crate::proofs::Ending::try_none, crate::proofs::Ending::try_some))]
 pub fn ends_try(name: &[u8]) -> bool
     ensures { result ≡ ends_try name.now }
 {

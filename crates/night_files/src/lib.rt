@@ -1,16 +1,19 @@
 // The files of a night in its folder DIR: their paths, opening them, and cutting them back to what counts.
+#![tactic(auto)]
+
 ghost use Rattle.std.specs.Prelude.{◌≤◌, length};
 ghost use Rattle.io.specs.Counts.{IsPrefixLen};
 
 use csv_figures::{put_byte, put_whole};
 use csv_line::put_bytes;
-use libc::{SEEK_END, SEEK_SET};
-use night_path::name_of;
+use night_path::{MOST_PATH, argument, name_of};
+use std::fs;
+use std::fs::{File, OpenOptions};
+use std::io::{Seek, SeekFrom, Write};
+use std::os::unix::fs::FileExt;
 
 // Room for a path: DIR, a slash, a name, and what stands behind it. One over 4,095 bytes cannot be opened.
 pub const PATH_ROOM: usize = 8704;
-
-const MOST_PATH: usize = 4096;
 
 // How a file is opened.
 pub const READ: u64 = 0;
@@ -49,49 +52,83 @@ pub fn put_path(out: &mut [u8], dir: &[u8], name: &[u8]) -> usize
     put_bytes(out, b, name)
 }
 
-fn open_path(path: &[u8], how: u64) -> i32 {
+// Opens the file of a path. One that is no UTF-8 text cannot be opened.
+pub fn open_path(rt: &HostRuntime, path: &[u8], how: u64) -> Option<File> {
+    let Ok(text) = str::from_utf8(path) else {
+        return None;
+    };
+    let mut options = OpenOptions::new();
     match how {
-        OVERWRITE => os::open_overwrite(path),
-        UPDATE => os::open_update(path),
-        CREATE => os::create(path),
-        _ => os::open_read(path),
+        OVERWRITE => {
+            options.write(true).create(true).truncate(true);
+        }
+        UPDATE => {
+            options.read(true).write(true);
+        }
+        CREATE => {
+            options.write(true).create_new(true);
+        }
+        _ => {
+            options.read(true);
+        }
     }
+    options.open(rt, text).ok()
 }
 
 // Opens a file of DIR, which is argument `dir`.
-pub fn open_in(dir: usize, name: &[u8], how: u64) -> i32 {
-    let mut folder = io::buffer();
-    let n = os::arg(dir, &mut folder);
+pub fn open_in(rt: &HostRuntime, dir: usize, name: &[u8], how: u64) -> Option<File> {
+    let mut folder = [0u8; MOST_PATH];
+    let n = argument(rt, dir, &mut folder);
     let mut path = [0u8; PATH_ROOM];
     let m = put_path(&mut path, &folder[..n], name);
-    open_path(&path[..m], how)
+    open_path(rt, &path[..m], how)
+}
+
+fn rename_path(rt: &HostRuntime, from: &[u8], to: &[u8]) -> bool {
+    let Ok(old) = str::from_utf8(from) else {
+        return false;
+    };
+    let Ok(new) = str::from_utf8(to) else {
+        return false;
+    };
+    fs::rename(rt, old, new).is_ok()
 }
 
 // Renames a file of DIR.
-pub fn rename_in(dir: usize, from: &[u8], to: &[u8]) -> bool {
-    let mut folder = io::buffer();
-    let n = os::arg(dir, &mut folder);
+pub fn rename_in(rt: &HostRuntime, dir: usize, from: &[u8], to: &[u8]) -> bool {
+    let mut folder = [0u8; MOST_PATH];
+    let n = argument(rt, dir, &mut folder);
     let mut old = [0u8; PATH_ROOM];
     let m = put_path(&mut old, &folder[..n], from);
     let mut new = [0u8; PATH_ROOM];
     let k = put_path(&mut new, &folder[..n], to);
-    os::rename(&old[..m], &new[..k]) == 0
+    rename_path(rt, &old[..m], &new[..k])
+}
+
+fn remove_path(rt: &HostRuntime, path: &[u8]) -> bool {
+    match str::from_utf8(path) {
+        Ok(text) => fs::remove_file(rt, text).is_ok(),
+        Err(_) => false,
+    }
 }
 
 // Removes a file of DIR.
-pub fn remove_in(dir: usize, name: &[u8]) -> bool {
-    let mut folder = io::buffer();
-    let n = os::arg(dir, &mut folder);
+pub fn remove_in(rt: &HostRuntime, dir: usize, name: &[u8]) -> bool {
+    let mut folder = [0u8; MOST_PATH];
+    let n = argument(rt, dir, &mut folder);
     let mut path = [0u8; PATH_ROOM];
     let m = put_path(&mut path, &folder[..n], name);
-    os::unlink(&path[..m]) == 0
+    remove_path(rt, &path[..m])
 }
 
 // Makes DIR where it is not there; whether it can be used shows where a file in it is opened.
-pub fn make_dir(dir: usize) -> bool {
-    let mut folder = io::buffer();
-    let n = os::arg(dir, &mut folder);
-    os::mkdir(&folder[..n]) == 0
+pub fn make_dir(rt: &HostRuntime, dir: usize) -> bool {
+    let mut folder = [0u8; MOST_PATH];
+    let n = argument(rt, dir, &mut folder);
+    match str::from_utf8(&folder[..n]) {
+        Ok(text) => fs::create_dir(rt, text).is_ok(),
+        Err(_) => false,
+    }
 }
 
 // The name of the rows of a try, `NAME.tryN.csv`, for the FILE that is argument i; 0 where it is too long.
@@ -130,45 +167,88 @@ pub fn put_part_name(out: &mut [u8], path: &[u8], number: u64) -> usize
 // Places in a file are kept below this one.
 const MOST_PLACE: u64 = 0x4000_0000_0000_0000;
 
-pub fn place_of(at: u64) -> i64 {
+pub fn place_of(at: u64) -> u64 {
     if at < MOST_PLACE {
-        return at as i64;
+        return at;
     }
     0
 }
 
-// Cuts a file off at a place, where the next byte is written then.
-pub fn cut_back(file: i32, at: i64) -> bool {
-    if libc::ftruncate(file, at) != 0 {
-        return false;
+// The place in a file at which the next byte is read or written; one that no file has, where the system does not tell it.
+pub fn place_in(file: &File) -> u64 {
+    let mut there = file;
+    match there.stream_position() {
+        Ok(at) => at,
+        Err(_) => u64::MAX,
     }
-    libc::lseek(file, at, SEEK_SET) >= 0
 }
 
-pub fn cut_at(file: i32, at: u64) -> bool {
+// Cuts a file off at a place, where the next byte is written then.
+pub fn cut_back(file: &File, at: u64) -> bool {
+    if file.set_len(at).is_err() {
+        return false;
+    }
+    let mut there = file;
+    there.seek(SeekFrom::Start(at)).is_ok()
+}
+
+pub fn cut_at(file: &File, at: u64) -> bool {
     cut_back(file, place_of(at))
 }
 
-fn place_behind(at: u64, n: usize) -> i64 {
+// All the bytes go to a file, or it is no place for them.
+pub fn put_all(file: &File, bytes: &[u8]) -> bool {
+    let mut to = file;
+    to.write_all(bytes).is_ok()
+}
+
+// Reads once from a place of a file on, and answers how many bytes came: none where it cannot be read.
+fn read_from(file: &File, at: u64, buf: &mut [u8]) -> usize
+    ensures { IsPrefixLen result buf.new }
+{
+    match file.read_at(buf, place_of(at)) {
+        Ok(n) => n,
+        Err(_) => 0,
+    }
+}
+
+fn place_behind(at: u64, n: usize) -> u64 {
     place_of(std::num::wrapping_add_u64(at, n as u64))
 }
 
+// The place of the first LF of bytes, or how many they are.
+fn line_feed(part: &[u8]) -> usize
+    ensures { result ≤ length part.now }
+{
+    for i in 0..part.len() {
+        if part[i] == b'\n' {
+            return i;
+        }
+    }
+    part.len()
+}
+
+// The bytes that are read at once, where lines are only counted.
+const MUCH: usize = 65536;
+
 // Whether no whole line stands in a file from a place on, and all that is there was read: only then may it be cut off.
-pub fn is_torn(file: i32, at: u64) -> bool {
-    let mut buf = io::large_buffer();
-    let got = libc::pread(file, &mut buf, place_of(at));
-    if got < 0 {
+pub fn is_torn(file: &File, at: u64) -> bool {
+    let mut buf = [0u8; MUCH];
+    let Ok(n) = file.read_at(&mut buf, place_of(at)) else {
+        return false;
+    };
+    if line_feed(&buf[..n]) < n {
         return false;
     }
-    let n = io::count(got, &buf);
-    if bytes::scan::find(&buf, 0, n, b'\n') < n {
-        return false;
+    let mut there = file;
+    match there.seek(SeekFrom::End(0)) {
+        Ok(end) => end == place_behind(at, n),
+        Err(_) => false,
     }
-    libc::lseek(file, 0, SEEK_END) == place_behind(at, n)
 }
 
 // What a file begins with: its header; a part of it or nothing; something else.
-#[derive(Drop)]
+#[derive(Clone, Copy)]
 pub enum Head {
     Whole,
     Torn,
@@ -192,15 +272,14 @@ fn head_of(there: &[u8], header: &[u8]) -> Head {
 }
 
 // What a file begins with.
-pub fn head_at(file: i32, header: &[u8]) -> Head {
+pub fn head_at(file: &File, header: &[u8]) -> Head {
     let mut there = [0u8; 512];
-    let got = libc::pread(file, &mut there, 0);
-    let n = io::count(got, &there);
+    let n = read_from(file, 0, &mut there);
     head_of(&there[..n], header)
 }
 
 // Sees to it that a file has its header, and answers whether it has.
-pub fn headed(file: i32, header: &[u8]) -> bool {
+pub fn headed(file: &File, header: &[u8]) -> bool {
     match head_at(file, header) {
         Head::Whole => true,
         Head::Torn => {
@@ -210,19 +289,18 @@ pub fn headed(file: i32, header: &[u8]) -> bool {
             if !cut_at(file, 0) {
                 return false;
             }
-            io::write_all(file, header)
+            put_all(file, header)
         }
         Head::Other => false,
     }
 }
 
 // Reads from a place of a file on, and answers how many bytes the first line there has with its LF; 0 where none stands whole.
-pub fn line_at(file: i32, at: u64, buf: &mut [u8]) -> usize
+pub fn line_at(file: &File, at: u64, buf: &mut [u8]) -> usize
     ensures { IsPrefixLen result buf.new }
 {
-    let got = libc::pread(file, buf, place_of(at));
-    let n = io::count(got, buf);
-    let end = bytes::scan::find(buf, 0, n, b'\n');
+    let n = read_from(file, at, buf);
+    let end = line_feed(&buf[..n]);
     if end < n {
         return end + 1;
     }
@@ -230,7 +308,7 @@ pub fn line_at(file: i32, at: u64, buf: &mut [u8]) -> usize
 }
 
 // Where lines end in bytes: the place behind so many of them, and how many are left where there are not so many.
-#[derive(Drop)]
+#[derive(Clone, Copy)]
 pub struct Skipped {
     pub at: usize,
     pub left: u64,
@@ -254,17 +332,16 @@ fn behind_lines(part: &[u8], lines: u64) -> Skipped
 }
 
 // One reading of a file from a place on, of which so many lines are to be skipped.
-fn skip_some(file: i32, at: u64, lines: u64) -> Skipped
+fn skip_some(file: &File, at: u64, lines: u64) -> Skipped
     ensures { result.at ≤ 65536 }
 {
-    let mut buf = io::large_buffer();
-    let got = libc::pread(file, &mut buf, place_of(at));
-    let n = io::count(got, &buf);
+    let mut buf = [0u8; MUCH];
+    let n = read_from(file, at, &mut buf);
     behind_lines(&buf[..n], lines)
 }
 
 // The place in a file behind so many lines from a place on; 0 where it has not so many.
-pub fn behind(file: i32, from: u64, lines: u64) -> u64 {
+pub fn behind(file: &File, from: u64, lines: u64) -> u64 {
     let mut at = from;
     let mut left = lines;
     while at < MOST_PLACE {

@@ -1,24 +1,27 @@
 // What waits is handed to a try's two files, and so a try ends.
+#![tactic(auto)]
+
 ghost use Rattle.std.specs.Prelude.{◌≡◌, ◌≤◌, length};
 ghost use Rattle.csv_status.specs.Status.{ended};
 ghost use Rattle.night_flush.specs.Flush.{empty_run, LastIs};
 
-use csv_status::{GOES_ON, NO_INPUT, NO_OUTPUT};
+use csv_status::{GOES_ON, NO_INPUT, NO_OUTPUT, is_written};
 use night_course::{Course, TryRun};
+use std::fs::File;
 
 // What may wait in each buffer before a line, and the bytes of the input buffer.
 pub const KEPT: usize = 65536;
 
-// The descriptors of a try: its row text, its rows, and the lines that name blocks.
-#[derive(Drop)]
-pub struct Files {
-    pub input: i32,
-    pub rows: i32,
-    pub curved: i32,
+// The open files of a try: its row text, its rows, and the lines that name blocks.
+#[derive(Clone, Copy)]
+pub struct Files<'a> {
+    pub input: &'a File,
+    pub rows: &'a File,
+    pub curved: &'a File,
 }
 
 // Where the reading stands: the unread bytes of the input buffer are from `at` up to `end`.
-#[derive(Drop)]
+#[derive(Clone, Copy)]
 pub struct Reading {
     pub at: usize,
     pub end: usize,
@@ -29,7 +32,7 @@ pub struct Reading {
 }
 
 // How a try ended: its numbers; ENDED, or what failed; the checksum of its file, and the file's length.
-#[derive(Drop)]
+#[derive(Clone, Copy)]
 pub struct Tried {
     pub course: Course,
     pub over: u64,
@@ -38,7 +41,7 @@ pub struct Tried {
 }
 
 // What is left after a flush.
-#[derive(Drop)]
+#[derive(Clone, Copy)]
 pub struct Left {
     pub run: TryRun,
     pub over: u64,
@@ -59,11 +62,13 @@ fn emptied(run: TryRun) -> TryRun
 }
 
 // Rows, and then the lines that name blocks, each to its file.
-fn hand_over(files: Files, rows: &[u8], curved: &[u8]) -> u64
+fn hand_over(files: Files<'_>, rows: &[u8], curved: &[u8]) -> u64
     ensures { result ≡ ended → ⊥ }
 {
-    if io::write_all(files.rows, rows) {
-        if io::write_all(files.curved, curved) {
+    let mut to_rows = files.rows;
+    let mut to_curved = files.curved;
+    if is_written(&mut to_rows, rows) {
+        if is_written(&mut to_curved, curved) {
             return GOES_ON;
         }
         return NO_OUTPUT;
@@ -72,7 +77,7 @@ fn hand_over(files: Files, rows: &[u8], curved: &[u8]) -> u64
 }
 
 // All that waits is handed over.
-pub fn flush(files: Files, run: TryRun, out: &[u8], listed: &[u8]) -> Left
+pub fn flush(files: Files<'_>, run: TryRun, out: &[u8], listed: &[u8]) -> Left
     requires { (run.out ≤ length out.now) × (run.listed ≤ length listed.now) }
     ensures { (result.run ≡ empty_run run) × (result.over ≡ ended → ⊥) }
 {
@@ -97,7 +102,7 @@ fn worst(flushed: u64, over: u64) -> u64
 }
 
 // What waits is written, unless writing failed before.
-pub fn last(files: Files, s: Reading, out: &[u8], listed: &[u8]) -> Tried
+pub fn last(files: Files<'_>, s: Reading, out: &[u8], listed: &[u8]) -> Tried
     requires { (s.run.out ≤ length out.now) × (s.run.listed ≤ length listed.now) }
     ensures { LastIs s result }
 {

@@ -1,4 +1,6 @@
 // What comes next in a try's file: room is made for what a call can answer, and then a line is found or more is read.
+#![tactic(auto)]
+
 ghost use Rattle.std.specs.Prelude.{◌≤◌, length};
 ghost use Rattle.night_found.specs.Next.{Emptied, Held, Ready};
 
@@ -8,7 +10,7 @@ use night_flush::{Files, KEPT, Left, Reading, flush};
 use text_lines::{Found, Turn, next_turn};
 
 // What the turn found, with room for what a call can answer; where there is none, `over` says what failed.
-#[derive(Drop)]
+#[derive(Clone, Copy)]
 pub struct Next {
     pub turn: Turn,
     pub run: TryRun,
@@ -16,7 +18,7 @@ pub struct Next {
 }
 
 // Makes room for what a call can answer: where much waits, all of it is handed over.
-fn made_room(files: Files, run: TryRun, out: &[u8], listed: &[u8]) -> Left
+fn made_room(files: Files<'_>, run: TryRun, out: &[u8], listed: &[u8]) -> Left
     requires { (run.out ≤ length out.now) × (run.listed ≤ length listed.now) }
     ensures { Emptied run result }
 {
@@ -30,7 +32,7 @@ fn made_room(files: Files, run: TryRun, out: &[u8], listed: &[u8]) -> Left
 }
 
 // Room is made, and then the reading goes on by one turn.
-pub fn next_found(files: Files, s: Reading, buf: &mut [u8], out: &[u8], listed: &[u8]) -> Next
+pub fn next_found(files: Files<'_>, s: Reading, buf: &mut [u8], out: &[u8], listed: &[u8]) -> Next
     requires { Held s (length buf.old) (length out.now) (length listed.now) }
     ensures { Ready s buf.old result buf.new }
 {
@@ -49,7 +51,8 @@ pub fn next_found(files: Files, s: Reading, buf: &mut [u8], out: &[u8], listed: 
             over: room.over,
         };
     }
-    let turn = next_turn(files.input, buf, s.at, s.end);
+    let mut input = files.input;
+    let turn = next_turn(&mut input, buf, s.at, s.end);
     Next {
         turn,
         run,

@@ -1,4 +1,6 @@
 // The lines of tries that stand already, where a night goes on: each is the next try of its job.
+#![tactic(auto)]
+
 ghost use Rattle.std.specs.Prelude.{◌≡◌, length};
 ghost use Rattle.night_columns.specs.Columns.{columns};
 
@@ -12,12 +14,13 @@ use night_files::{behind, cut_at, line_at, within};
 use night_marks::{is_over, mark_after};
 use night_table::read_line;
 use night_tried::{same_file, tried_word, tries_of};
+use std::fs::File;
 
 // Room for a line of tries: a path, and the rest.
 pub const TRY_ROOM: usize = 8192;
 
 // A line of tries that stands already: whether it may, its bytes, and how many blocks it says stay curved.
-#[derive(Drop)]
+#[derive(Clone, Copy)]
 pub struct Line {
     pub ok: bool,
     pub bytes: usize,
@@ -33,23 +36,23 @@ fn bad_line() -> Line {
 }
 
 // Whether field k of a text is argument i.
-fn field_is_argument(text: &[u8], k: usize, i: usize) -> bool {
+fn field_is_argument(rt: &HostRuntime, text: &[u8], k: usize, i: usize) -> bool {
     let from = field_from(text, k);
     if from > text.len() {
         return false;
     }
     let end = end_from(text, from);
-    is_argument(i, &text[from..end])
+    is_argument(rt, i, &text[from..end])
 }
 
 // Whether field k of a text is tolerance i of a command.
-fn field_is_tolerance(text: &[u8], k: usize, command: Command, i: usize) -> bool {
+fn field_is_tolerance(rt: &HostRuntime, text: &[u8], k: usize, command: Command, i: usize) -> bool {
     let from = field_from(text, k);
     if from > text.len() {
         return false;
     }
     let end = end_from(text, from);
-    is_tolerance_text(command, i, &text[from..end])
+    is_tolerance_text(rt, command, i, &text[from..end])
 }
 
 // Whether a line's numbers are those of the next try of its job, of which this mark and this word of its tries are known.
@@ -92,6 +95,7 @@ fn job_of(command: Command, job: u64) -> usize {
 
 // The text of a line that stands: it is the next try of its job, and its job's marks are as behind it.
 fn take_text(
+    rt: &HostRuntime,
     text: &[u8],
     command: Command,
     marks: &mut [u64; MOST_FILES],
@@ -110,10 +114,10 @@ fn take_text(
         return bad_line();
     }
     let place = std::num::wrapping_add_usize(command.first, i);
-    if !field_is_argument(text, C_FILE, place) {
+    if !field_is_argument(rt, text, C_FILE, place) {
         return bad_line();
     }
-    if !field_is_tolerance(text, C_TOLERANCE, command, tries_of(word) as usize) {
+    if !field_is_tolerance(rt, text, C_TOLERANCE, command, tries_of(word) as usize) {
         return bad_line();
     }
     marks[i] = mark_after(marks[i], numbers[C_CLOSED] == 1, numbers[C_PASSED] == 1);
@@ -127,6 +131,7 @@ fn take_text(
 
 // A line with its end.
 fn take_line(
+    rt: &HostRuntime,
     line: &[u8],
     command: Command,
     marks: &mut [u64; MOST_FILES],
@@ -136,7 +141,7 @@ fn take_line(
         return bad_line();
     };
     let n = within(end, line);
-    let taken = take_text(&line[..n], command, marks, tries);
+    let taken = take_text(rt, &line[..n], command, marks, tries);
     Line {
         ok: taken.ok,
         bytes: line.len(),
@@ -146,7 +151,8 @@ fn take_line(
 
 // The line at a place of tries.csv; no bytes where none stands whole there.
 fn take_at(
-    file: i32,
+    rt: &HostRuntime,
+    file: &File,
     at: u64,
     command: Command,
     marks: &mut [u64; MOST_FILES],
@@ -161,12 +167,12 @@ fn take_at(
             curved: 0,
         };
     }
-    take_line(&buf[..n], command, marks, tries)
+    take_line(rt, &buf[..n], command, marks, tries)
 }
 
 // How a table stands that was there already: whether it is of this night, the place behind its last whole line, and how
 // many blocks its lines say stay curved.
-#[derive(Drop)]
+#[derive(Clone, Copy)]
 pub struct Stood {
     pub ok: bool,
     pub at: u64,
@@ -178,7 +184,8 @@ pub const MOST_LINES: u64 = 16 * 65536 + 1;
 
 // The lines of tries.csv from a place on.
 pub fn take_lines(
-    file: i32,
+    rt: &HostRuntime,
+    file: &File,
     from: u64,
     command: Command,
     marks: &mut [u64; MOST_FILES],
@@ -188,7 +195,7 @@ pub fn take_lines(
     let mut curved: u64 = 0;
     let mut left = MOST_LINES;
     while left > 0 {
-        let line = take_at(file, at, command, marks, tries);
+        let line = take_at(rt, file, at, command, marks, tries);
         if !line.ok {
             return Stood {
                 ok: false,
@@ -215,7 +222,7 @@ pub fn take_lines(
 }
 
 // Cuts curved.csv behind so many lines, from a place on; not where it has fewer.
-pub fn cut_curved(file: i32, from: u64, lines: u64) -> bool {
+pub fn cut_curved(file: &File, from: u64, lines: u64) -> bool {
     let at = behind(file, from, lines);
     if at == 0 {
         return false;

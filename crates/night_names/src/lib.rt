@@ -1,4 +1,6 @@
 // The names of what a night writes, which no FILE may have.
+#![tactic(auto)]
+
 ghost use Rattle.std.specs.Prelude.{◌≡◌};
 ghost use Rattle.night_names.specs.Ours.{is_our_name, is_ours};
 

@@ -11,15 +11,15 @@ use Rattle.floats.specs.Truth.{and_left, cond-t, cond-f}
 use Rattle.night_path.specs.Names.{start_upto, slash, start, ending, ends_csv, name_of}
 
 -- ---- the place behind the last slash, from the end on
-pub start-hit : (t : List ℕ) (i : ℕ) → 0 < i → get_or t (i - 1) 0 ≡ slash → start_upto t i ≡ i
+pub start_hit : (t : List ℕ) (i : ℕ) → 0 < i → get_or t (i - 1) 0 ≡ slash → start_upto t i ≡ i
 unfolding start_upto
-start-hit t zero h e = absurd (omega arith)
-start-hit t (suc i) h e = let z : suc i - 1 ≡ i = omega arith in cond-t _ _ (eq-eqb (get_or t i 0) slash (sym (ap (λ (k : ℕ). get_or t k 0) z) ∙ e))
+start_hit t zero h e = absurd (omega arith)
+start_hit t (suc i) h e = let z : suc i - 1 ≡ i = omega arith in cond-t _ _ (eq-eqb (get_or t i 0) slash (sym (ap (λ (k : ℕ). get_or t k 0) z) ∙ e))
 
-pub start-on : (t : List ℕ) (i : ℕ) → 0 < i → (get_or t (i - 1) 0 ≡ slash → ⊥) → start_upto t i ≡ start_upto t (i - 1)
+pub start_on : (t : List ℕ) (i : ℕ) → 0 < i → (get_or t (i - 1) 0 ≡ slash → ⊥) → start_upto t i ≡ start_upto t (i - 1)
 unfolding start_upto
-start-on t zero h e = absurd (omega arith)
-start-on t (suc i) h e =
+start_on t zero h e = absurd (omega arith)
+start_on t (suc i) h e =
     let z : suc i - 1 ≡ i = omega arith in
     cond-f _ _ (ne_eqb (get_or t i 0) slash (λ (w : get_or t i 0 ≡ slash). e (ap (λ (k : ℕ). get_or t k 0) z ∙ w))) ∙ ap (start_upto t) (sym z)
 

@@ -1,9 +1,10 @@
 // What a night prints at its end: counts over the marks of its jobs, and the jobs that its table of tries names.
+#![tactic(auto)]
+
 ghost use Rattle.std.specs.Prelude.{◌≡◌, ◌+◌, ◌<◌, ◌≤◌, length};
 ghost use Rattle.night_columns.specs.Columns.{columns};
 
 use csv_line::{End, put_bytes, text_end};
-use libc::STDOUT_FILENO;
 use night_args::{end_from, field_from};
 use night_columns::{C_FILE, C_JOB, C_TOLERANCE, C_TRY, COLUMNS};
 use night_command::{Command, MOST_FILES};
@@ -12,10 +13,17 @@ use night_files::{is_torn, line_at, within};
 use night_jobs::count_lot;
 use night_lines::{MOST_LINES, TRY_ROOM};
 use night_lots::{NEVER_PASSED, NOT_CLOSED, NOT_TRIED, WHEN_COARSER, lot_of};
+use night_path::{MOST_PATH, argument};
 use night_report::{put_count, put_rate, put_reasons, put_tried};
 use night_table::read_line;
 use night_tried::tries_of;
+use std::fs::File;
 use tally_words::{B_CLOSED, B_FINAL, B_FIRST};
+
+// All the bytes on standard output, or it is no place for them.
+fn print_all(rt: &HostRuntime, bytes: &[u8]) -> bool {
+    rt.stdout().write_all(bytes).is_ok()
+}
 
 // Whether the try of these numbers is the last one of a job in a lot, by its mark and the word of its tries.
 fn stands_in(lot: u64, tolerances: u64, numbers: &[u64], mark: u64, word: u64) -> bool
@@ -53,6 +61,7 @@ fn put_job(out: &mut [u8], lot: u64, file: &[u8], tolerance: &[u8], numbers: &[u
 
 // The line of tries with this text, printed where it is the last of its job, which is in a lot.
 fn print_text(
+    rt: &HostRuntime,
     text: &[u8],
     lot: u64,
     tolerances: u64,
@@ -74,10 +83,10 @@ fn print_text(
     if !stands_in(lot, tolerances, &numbers, marks[i], tries[i]) {
         return true;
     }
-    print_job(text, lot, &numbers)
+    print_job(rt, text, lot, &numbers)
 }
 
-fn print_job(text: &[u8], lot: u64, numbers: &[u64]) -> bool
+fn print_job(rt: &HostRuntime, text: &[u8], lot: u64, numbers: &[u64]) -> bool
     requires { length numbers.now ≡ columns }
 {
     let from = field_from(text, C_FILE);
@@ -95,11 +104,12 @@ fn print_job(text: &[u8], lot: u64, numbers: &[u64]) -> bool
         put_job(&mut out, lot, &text[from..end], &text[start..stop], numbers),
         &out,
     );
-    io::write_all(STDOUT_FILENO, &out[..n])
+    print_all(rt, &out[..n])
 }
 
 // A line of tries with its end.
 fn print_line(
+    rt: &HostRuntime,
     line: &[u8],
     lot: u64,
     tolerances: u64,
@@ -110,18 +120,19 @@ fn print_line(
         return false;
     };
     let n = within(end, line);
-    print_text(&line[..n], lot, tolerances, marks, tries)
+    print_text(rt, &line[..n], lot, tolerances, marks, tries)
 }
 
 // The line at a place: how many bytes it has, and whether it could be printed.
-#[derive(Drop)]
+#[derive(Clone, Copy)]
 struct Printed {
     bytes: usize,
     ok: bool,
 }
 
 fn print_at(
-    file: i32,
+    rt: &HostRuntime,
+    file: &File,
     at: u64,
     lot: u64,
     tolerances: u64,
@@ -135,13 +146,14 @@ fn print_at(
     }
     Printed {
         bytes: n,
-        ok: print_line(&buf[..n], lot, tolerances, marks, tries),
+        ok: print_line(rt, &buf[..n], lot, tolerances, marks, tries),
     }
 }
 
 // The jobs of a lot, by the lines of tries from a place on; a table that cannot be read to its end is no whole list.
 fn print_list(
-    file: i32,
+    rt: &HostRuntime,
+    file: &File,
     from: u64,
     lot: u64,
     tolerances: u64,
@@ -151,7 +163,7 @@ fn print_list(
     let mut at = from;
     let mut left = MOST_LINES;
     while left > 0 {
-        let printed = print_at(file, at, lot, tolerances, marks, tries);
+        let printed = print_at(rt, file, at, lot, tolerances, marks, tries);
         if !printed.ok {
             return false;
         }
@@ -164,39 +176,40 @@ fn print_list(
     false
 }
 
-fn print_count(what: &[u8], a: u64) -> bool
+fn print_count(rt: &HostRuntime, what: &[u8], a: u64) -> bool
     requires { length what.now ≤ 32 }
 {
     let mut out = [0u8; 512];
     let n = within(put_count(&mut out, what, a), &out);
-    io::write_all(STDOUT_FILENO, &out[..n])
+    print_all(rt, &out[..n])
 }
 
-fn print_rate(what: &[u8], a: u64, b: u64) -> bool
+fn print_rate(rt: &HostRuntime, what: &[u8], a: u64, b: u64) -> bool
     requires { length what.now ≤ 32 }
 {
     let mut out = [0u8; 512];
     let n = within(put_rate(&mut out, what, a, b), &out);
-    io::write_all(STDOUT_FILENO, &out[..n])
+    print_all(rt, &out[..n])
 }
 
 // The line of a job that was not tried to its end, whose FILE is argument i.
-fn print_tried(i: usize, tries: u64, tolerances: u64) -> bool {
-    let mut path = io::buffer();
-    let n = os::arg(i, &mut path);
+fn print_tried(rt: &HostRuntime, i: usize, tries: u64, tolerances: u64) -> bool {
+    let mut path = [0u8; MOST_PATH];
+    let n = argument(rt, i, &mut path);
     let mut out = [0u8; TRY_ROOM];
     let a = put_bytes(&mut out, 0, b"  ");
     let b = put_bytes(&mut out, a, &path[..n]);
     let m = within(put_tried(&mut out, b, tries, tolerances), &out);
-    io::write_all(STDOUT_FILENO, &out[..m])
+    print_all(rt, &out[..m])
 }
 
 // The same for the job at a place among the files, where it was not.
-fn print_untried(command: Command, i: usize, mark: u64, word: u64) -> bool {
+fn print_untried(rt: &HostRuntime, command: Command, i: usize, mark: u64, word: u64) -> bool {
     let tries = tries_of(word);
     let tolerances = command.tolerances as u64;
     if lot_of(mark, tries, tolerances) == NOT_TRIED {
         return print_tried(
+            rt,
             std::num::wrapping_add_usize(command.first, i),
             tries,
             tolerances,
@@ -207,6 +220,7 @@ fn print_untried(command: Command, i: usize, mark: u64, word: u64) -> bool {
 
 // All of them.
 fn print_all_untried(
+    rt: &HostRuntime,
     command: Command,
     marks: &[u64; MOST_FILES],
     tries: &[u64; MOST_FILES],
@@ -216,7 +230,7 @@ fn print_all_untried(
         if i >= command.files {
             return true;
         }
-        if !print_untried(command, i, marks[i], tries[i]) {
+        if !print_untried(rt, command, i, marks[i], tries[i]) {
             return false;
         }
         i += 1;
@@ -225,14 +239,14 @@ fn print_all_untried(
 }
 
 // How a night stands: whether all was printed, and whether the first try of every job passed.
-#[derive(Drop)]
+#[derive(Clone, Copy)]
 pub struct Report {
     pub ok: bool,
     pub all: bool,
 }
 
 // The counts over the jobs: of all, of those with a closed try, and of these whose first and whose last one passed.
-#[derive(Drop)]
+#[derive(Clone, Copy)]
 pub struct Counts {
     pub jobs: u64,
     pub closed: u64,
@@ -250,17 +264,17 @@ fn most(files: usize) -> usize
     MOST_FILES
 }
 
-fn print_head(c: Counts) -> bool {
-    if !print_count(b"jobs ", c.jobs) {
+fn print_head(rt: &HostRuntime, c: Counts) -> bool {
+    if !print_count(rt, b"jobs ", c.jobs) {
         return false;
     }
-    if !print_count(b"closed ", c.closed) {
+    if !print_count(rt, b"closed ", c.closed) {
         return false;
     }
-    if !print_rate(b"first tries passed ", c.first, c.closed) {
+    if !print_rate(rt, b"first tries passed ", c.first, c.closed) {
         return false;
     }
-    print_rate(b"final tries passed ", c.last, c.closed)
+    print_rate(rt, b"final tries passed ", c.last, c.closed)
 }
 
 fn in_lot(command: Command, lot: u64, marks: &[u64; MOST_FILES], tries: &[u64; MOST_FILES]) -> u64 {
@@ -276,9 +290,10 @@ pub fn done_of(command: Command, marks: &[u64; MOST_FILES], tries: &[u64; MOST_F
 
 // A lot: how many jobs it has, and each by its last line of tries.
 fn print_lot(
+    rt: &HostRuntime,
     what: &[u8],
     lot: u64,
-    file: i32,
+    file: &File,
     from: u64,
     command: Command,
     marks: &[u64; MOST_FILES],
@@ -286,33 +301,40 @@ fn print_lot(
 ) -> bool
     requires { length what.now ≤ 32 }
 {
-    if !print_count(what, in_lot(command, lot, marks, tries)) {
+    if !print_count(rt, what, in_lot(command, lot, marks, tries)) {
         return false;
     }
-    print_list(file, from, lot, command.tolerances as u64, marks, tries)
+    print_list(rt, file, from, lot, command.tolerances as u64, marks, tries)
 }
 
 // The jobs that were not tried to their end, where there are any.
-fn print_rest(command: Command, marks: &[u64; MOST_FILES], tries: &[u64; MOST_FILES]) -> bool {
+fn print_rest(
+    rt: &HostRuntime,
+    command: Command,
+    marks: &[u64; MOST_FILES],
+    tries: &[u64; MOST_FILES],
+) -> bool {
     let count = in_lot(command, NOT_TRIED, marks, tries);
     if count == 0 {
         return true;
     }
-    if !print_count(b"not tried ", count) {
+    if !print_count(rt, b"not tried ", count) {
         return false;
     }
-    print_all_untried(command, marks, tries)
+    print_all_untried(rt, command, marks, tries)
 }
 
 // All lots but that of the jobs that passed at first.
 fn print_lots(
-    file: i32,
+    rt: &HostRuntime,
+    file: &File,
     from: u64,
     command: Command,
     marks: &[u64; MOST_FILES],
     tries: &[u64; MOST_FILES],
 ) -> bool {
     if !print_lot(
+        rt,
         b"passed only when coarser ",
         WHEN_COARSER,
         file,
@@ -324,6 +346,7 @@ fn print_lots(
         return false;
     }
     if !print_lot(
+        rt,
         b"never passed ",
         NEVER_PASSED,
         file,
@@ -335,6 +358,7 @@ fn print_lots(
         return false;
     }
     if !print_lot(
+        rt,
         b"not closed ",
         NOT_CLOSED,
         file,
@@ -345,12 +369,13 @@ fn print_lots(
     ) {
         return false;
     }
-    print_rest(command, marks, tries)
+    print_rest(rt, command, marks, tries)
 }
 
 // Prints what is to be said at the end of a night, by the lines of its tries from a place on.
 pub fn print_report(
-    file: i32,
+    rt: &HostRuntime,
+    file: &File,
     from: u64,
     command: Command,
     marks: &[u64; MOST_FILES],
@@ -363,14 +388,14 @@ pub fn print_report(
         first: count_with(marks, n, B_FIRST),
         last: count_with(marks, n, B_FINAL),
     };
-    if !print_head(c) {
+    if !print_head(rt, c) {
         return Report {
             ok: false,
             all: false,
         };
     }
     Report {
-        ok: print_lots(file, from, command, marks, tries),
+        ok: print_lots(rt, file, from, command, marks, tries),
         all: c.first == c.jobs,
     }
 }

@@ -1,4 +1,6 @@
 // Where the reading of a try's file stands: every byte that is read is counted and summed once.
+#![tactic(auto)]
+
 ghost use Rattle.std.specs.Prelude.{◌≡◌, ◌+◌, ◌<◌, ◌^◌, length};
 ghost use Rattle.night_reading.specs.Reading.{first_reading, over_of, from_of, came_by};
 ghost use Rattle.night_reading.specs.Readings.{Summed, Places, BehindIs};
@@ -10,7 +12,7 @@ use night_flush::Reading;
 use text_lines::{Found, Turn};
 
 // The checksum so far, and how many bytes it is over.
-#[derive(Drop)]
+#[derive(Clone, Copy)]
 pub struct Sum {
     pub sum: u64,
     pub length: u64,

@@ -1,60 +1,88 @@
 // The steps of a night around its tries: the next try, and what a try leaves.
+#![tactic(auto)]
+
 ghost use Rattle.std.specs.Prelude.{◌≡◌, length};
 ghost use Rattle.night_columns.specs.Columns.{columns};
 
-use libc::{SEEK_CUR, STDERR_FILENO};
 use night_args::{end_from, field_from};
 use night_columns::{C_CLOSED, C_CURVED, C_JOB, C_PASSED, C_TRY, COLUMNS};
 use night_command::{Command, LIST_ROOM, MOST_FILES};
 use night_files::{
-    OVERWRITE, PATH_ROOM, cut_back, open_in, put_part_name, put_rows_name, remove_in, rename_in,
-    within,
+    OVERWRITE, PATH_ROOM, READ, cut_back, open_in, open_path, place_in, put_all, put_part_name,
+    put_rows_name, remove_in, rename_in, within,
 };
 use night_lines::TRY_ROOM;
 use night_marks::{is_over, mark_after};
+use night_path::{MOST_PATH, argument};
 use night_report::put_done;
 use night_table::put_line;
 use night_tolerance::bits_of;
 use night_tried::{same_file, tried_word, tries_of};
+use std::fs::File;
+use std::io::{ErrorKind, IsTerminal};
 
 // A line on standard error about the FILE that is argument i.
-pub fn complain(i: usize, what: &[u8]) {
-    let mut path = io::buffer();
-    let n = os::arg(i, &mut path);
-    io::write_all(STDERR_FILENO, b"night: ");
-    io::write_all(STDERR_FILENO, &path[..n]);
-    io::write_all(STDERR_FILENO, what);
+pub fn complain(rt: &HostRuntime, i: usize, what: &[u8]) {
+    let mut path = [0u8; MOST_PATH];
+    let n = argument(rt, i, &mut path);
+    say(rt, b"night: ");
+    say(rt, &path[..n]);
+    say(rt, what);
 }
 
-// A night that is under way: what was asked for, and the descriptors of its two tables.
+// Bytes on standard error, as far as they go there.
+pub fn say(rt: &HostRuntime, what: &[u8]) {
+    let _ = rt.stderr().write_all(what);
+}
+
+// A night that is under way: what was asked for, and its two tables, which are open.
 #[derive(Drop)]
 pub struct Night {
     pub command: Command,
-    pub tries: i32,
-    pub curved: i32,
+    pub tries: File,
+    pub curved: File,
 }
 
 // Where it stands: the job that is looked at next, whether something could not be read or written, and whether nothing more can
 // be tried.
-#[derive(Drop)]
+#[derive(Clone, Copy)]
 pub struct Place {
     pub job: usize,
     pub faults: bool,
     pub stop: bool,
 }
 
-// The try that is made next: whether there is one, whether its files are open, its job's place among the files, its number and
-// its tolerance's bits, its descriptors, and the place in curved.csv from which on its lines stand.
-#[derive(Drop)]
+// The try that is made next: whether there is one, its job's place among the files, its number and its tolerance's bits, and the
+// place in curved.csv from which on its lines stand.
+#[derive(Clone, Copy)]
 pub struct Next {
     pub found: bool,
-    pub ready: bool,
     pub job: usize,
     pub number: u64,
     pub tolerance: u64,
-    pub input: i32,
-    pub output: i32,
-    pub from: i64,
+    pub from: u64,
+}
+
+// The open files of a try: its FILE, and the file for its rows.
+#[derive(Drop)]
+pub struct TryFiles {
+    pub input: File,
+    pub output: File,
+}
+
+// A try that was made: where the night stood before it, what it was, and its open files.
+#[derive(Drop)]
+pub struct Made {
+    pub place: Place,
+    pub next: Next,
+    pub files: TryFiles,
+}
+
+// The try that is made next, and its files where they could be opened.
+#[derive(Drop)]
+pub struct Coming {
+    pub next: Next,
+    pub files: Option<TryFiles>,
 }
 
 // Whether a job is over, by its mark and the word of its tries.
@@ -92,117 +120,115 @@ fn bits_at(list: &[u8], i: usize) -> u64 {
     bits_of(&list[from..end])
 }
 
-fn tolerance_bits(command: Command, i: usize) -> u64 {
+fn tolerance_bits(rt: &HostRuntime, command: Command, i: usize) -> u64 {
     let mut list = [0u8; LIST_ROOM];
-    let n = os::arg(command.list, &mut list);
+    let n = argument(rt, command.list, &mut list);
     bits_at(&list[..n], i)
 }
 
-fn open_file(i: usize) -> i32 {
-    let mut path = io::buffer();
-    let n = os::arg(i, &mut path);
-    os::open_read(&path[..n])
+fn open_file(rt: &HostRuntime, i: usize) -> Option<File> {
+    let mut path = [0u8; MOST_PATH];
+    let n = argument(rt, i, &mut path);
+    open_path(rt, &path[..n], READ)
 }
 
 // Opens the file for the rows of a try, which has `.part` behind its name as long as the try is made.
-fn open_part(command: Command, i: usize, number: u64) -> i32 {
-    let mut path = io::buffer();
-    let n = os::arg(i, &mut path);
+fn open_part(rt: &HostRuntime, command: Command, i: usize, number: u64) -> Option<File> {
+    let mut path = [0u8; MOST_PATH];
+    let n = argument(rt, i, &mut path);
     let mut name = [0u8; PATH_ROOM];
     let m = put_part_name(&mut name, &path[..n], number);
-    open_in(command.dir, &name[..m], OVERWRITE)
+    open_in(rt, command.dir, &name[..m], OVERWRITE)
 }
 
 // The rows of a try have their own name.
-fn rename_part(command: Command, i: usize, number: u64) -> bool {
-    let mut path = io::buffer();
-    let n = os::arg(i, &mut path);
+fn rename_part(rt: &HostRuntime, command: Command, i: usize, number: u64) -> bool {
+    let mut path = [0u8; MOST_PATH];
+    let n = argument(rt, i, &mut path);
     let mut part = [0u8; PATH_ROOM];
     let m = put_part_name(&mut part, &path[..n], number);
     let mut name = [0u8; PATH_ROOM];
     let k = put_rows_name(&mut name, &path[..n], number);
-    rename_in(command.dir, &part[..m], &name[..k])
+    rename_in(rt, command.dir, &part[..m], &name[..k])
 }
 
 // Neither name is left: what has no line in tries.csv has no rows.
-fn remove_rows(command: Command, i: usize, number: u64) {
-    let mut path = io::buffer();
-    let n = os::arg(i, &mut path);
+fn remove_rows(rt: &HostRuntime, command: Command, i: usize, number: u64) {
+    let mut path = [0u8; MOST_PATH];
+    let n = argument(rt, i, &mut path);
     let mut part = [0u8; PATH_ROOM];
     let m = put_part_name(&mut part, &path[..n], number);
-    remove_in(command.dir, &part[..m]);
+    remove_in(rt, command.dir, &part[..m]);
     let mut name = [0u8; PATH_ROOM];
     let k = put_rows_name(&mut name, &path[..n], number);
-    remove_in(command.dir, &name[..k]);
+    remove_in(rt, command.dir, &name[..k]);
 }
 
-fn not_ready(found: bool, job: usize) -> Next {
-    Next {
-        found,
-        ready: false,
-        job,
-        number: 0,
-        tolerance: 0,
-        input: -1,
-        output: -1,
-        from: 0,
+fn not_ready(found: bool, job: usize) -> Coming {
+    Coming {
+        next: Next {
+            found,
+            job,
+            number: 0,
+            tolerance: 0,
+            from: 0,
+        },
+        files: None,
     }
 }
 
 // The files of a try are opened.
-fn opened(night: Night, job: usize, count: u64) -> Next {
+fn opened(rt: &HostRuntime, night: &Night, job: usize, count: u64) -> Coming {
     let command = night.command;
     let i = std::num::wrapping_add_usize(command.first, job);
     let number = std::num::wrapping_add_u64(count, 1);
-    let input = open_file(i);
-    if input < 0 {
-        complain(i, b": could not be opened\n");
+    let Some(input) = open_file(rt, i) else {
+        complain(rt, i, b": could not be opened\n");
         return not_ready(true, job);
-    }
-    let output = open_part(command, i, number);
-    if output < 0 {
-        libc::close(input);
-        complain(i, b": the file for its rows could not be opened\n");
+    };
+    let Some(output) = open_part(rt, command, i, number) else {
+        complain(rt, i, b": the file for its rows could not be opened\n");
         return not_ready(true, job);
-    }
-    Next {
-        found: true,
-        ready: true,
-        job,
-        number,
-        tolerance: tolerance_bits(command, count as usize),
-        input,
-        output,
-        from: libc::lseek(night.curved, 0, SEEK_CUR),
+    };
+    Coming {
+        next: Next {
+            found: true,
+            job,
+            number,
+            tolerance: tolerance_bits(rt, command, count as usize),
+            from: place_in(&night.curved),
+        },
+        files: Some(TryFiles { input, output }),
     }
 }
 
 // On a terminal: how many of how many jobs are done.
-pub fn show(done: usize, files: usize) {
-    if libc::isatty(STDERR_FILENO) != 1 {
+pub fn show(rt: &HostRuntime, done: usize, files: usize) {
+    if !rt.stderr().is_terminal() {
         return;
     }
     let mut line = [0u8; 64];
     let n = within(put_done(&mut line, done as u64, files as u64), &line);
-    io::write_all(STDERR_FILENO, &line[..n]);
+    say(rt, &line[..n]);
 }
 
 // The line of the terminal ends, with the jobs that are done with.
-pub fn show_end(done: usize, files: usize) {
-    if libc::isatty(STDERR_FILENO) != 1 {
+pub fn show_end(rt: &HostRuntime, done: usize, files: usize) {
+    if !rt.stderr().is_terminal() {
         return;
     }
-    show(done, files);
-    io::write_all(STDERR_FILENO, b"\n");
+    show(rt, done, files);
+    say(rt, b"\n");
 }
 
 // The next try.
 pub fn next_try(
-    night: Night,
+    rt: &HostRuntime,
+    night: &Night,
     place: Place,
     marks: &[u64; MOST_FILES],
     tries: &[u64; MOST_FILES],
-) -> Next {
+) -> Coming {
     if place.stop {
         return not_ready(false, place.job);
     }
@@ -214,13 +240,13 @@ pub fn next_try(
     if job >= MOST_FILES {
         return not_ready(false, job);
     }
-    show(job, command.files);
-    opened(night, job, tries_of(tries[job]))
+    show(rt, job, command.files);
+    opened(rt, night, job, tries_of(tries[job]))
 }
 
 // What a try was: what failed, whether it was closed, its first refusal with its line, how many blocks it names, and the
 // checksum of its file.
-#[derive(Drop)]
+#[derive(Clone, Copy)]
 pub struct Facts {
     pub failed: u64,
     pub closed: bool,
@@ -242,27 +268,29 @@ pub const UNTOLD: u64 = 3;
 
 const CHANGED: u64 = 4;
 
-fn say_failed(i: usize, failed: u64) {
+fn say_failed(rt: &HostRuntime, i: usize, failed: u64) {
     match failed {
-        INPUT => complain(i, b": could not be read\n"),
+        INPUT => complain(rt, i, b": could not be read\n"),
         OUTPUT => complain(
+            rt,
             i,
             b": its rows or its lines of curved.csv could not be written\n",
         ),
-        CHANGED => complain(i, b": changed since its first try\n"),
-        _ => complain(i, b": a call could not be told\n"),
+        CHANGED => complain(rt, i, b": changed since its first try\n"),
+        _ => complain(rt, i, b": a call could not be told\n"),
     }
 }
 
 // The try is not counted: its rows and its lines of curved.csv go again, and its job is not tried again in this run.
-fn skipped(night: Night, next: Next) -> Place {
+fn skipped(rt: &HostRuntime, night: &Night, next: Next) -> Place {
     let command = night.command;
     remove_rows(
+        rt,
         command,
         std::num::wrapping_add_usize(command.first, next.job),
         next.number,
     );
-    let cut = cut_back(night.curved, next.from);
+    let cut = cut_back(&night.curved, next.from);
     Place {
         job: std::num::wrapping_add_usize(next.job, 1),
         faults: true,
@@ -311,7 +339,7 @@ fn numbers_of(
 }
 
 // Adds a line to tries.csv in one writing: with it the try is counted.
-fn add_line(file: i32, numbers: &[u64], path: &[u8], list: &[u8], i: usize) -> bool
+fn add_line(file: &File, numbers: &[u64], path: &[u8], list: &[u8], i: usize) -> bool
     requires { length numbers.now ≡ columns }
 {
     let from = field_from(list, i);
@@ -319,7 +347,7 @@ fn add_line(file: i32, numbers: &[u64], path: &[u8], list: &[u8], i: usize) -> b
         return false;
     }
     let end = end_from(list, from);
-    if path.len() > libc::PATH_MAX {
+    if path.len() > MOST_PATH {
         return false;
     }
     if list.len() > LIST_ROOM {
@@ -327,47 +355,57 @@ fn add_line(file: i32, numbers: &[u64], path: &[u8], list: &[u8], i: usize) -> b
     }
     let mut out = [0u8; TRY_ROOM];
     let n = within(put_line(&mut out, 0, numbers, path, &list[from..end]), &out);
-    io::write_all(file, &out[..n])
+    put_all(file, &out[..n])
 }
 
-fn counted(night: Night, next: Next, numbers: &[u64]) -> bool
+fn counted(rt: &HostRuntime, night: &Night, next: Next, numbers: &[u64]) -> bool
     requires { length numbers.now ≡ columns }
 {
     let command = night.command;
-    let mut path = io::buffer();
-    let n = os::arg(
+    let mut path = [0u8; MOST_PATH];
+    let n = argument(
+        rt,
         std::num::wrapping_add_usize(command.first, next.job),
         &mut path,
     );
     let mut list = [0u8; LIST_ROOM];
-    let m = os::arg(command.list, &mut list);
+    let m = argument(rt, command.list, &mut list);
     let i = std::num::wrapping_sub_u64(next.number, 1) as usize;
-    add_line(night.tries, numbers, &path[..n], &list[..m], i)
+    add_line(&night.tries, numbers, &path[..n], &list[..m], i)
 }
 
 // A try that was made: its rows get their name, and its line is added.
-fn kept(night: Night, next: Next, numbers: &[u64]) -> bool
+fn kept(rt: &HostRuntime, night: &Night, next: Next, numbers: &[u64]) -> bool
     requires { length numbers.now ≡ columns }
 {
     let command = night.command;
     let i = std::num::wrapping_add_usize(command.first, next.job);
-    if !rename_part(command, i, next.number) {
-        complain(i, b": the file of its rows could not be renamed\n");
+    if !rename_part(rt, command, i, next.number) {
+        complain(rt, i, b": the file of its rows could not be renamed\n");
         return false;
     }
-    if counted(night, next, numbers) {
+    if counted(rt, night, next, numbers) {
         return true;
     }
-    complain(i, b": its line of tries.csv could not be written\n");
+    complain(rt, i, b": its line of tries.csv could not be written\n");
     false
 }
 
-// What fails a try in the end, where its rows' file was closed with this status and its job has this word of its tries.
-fn failing(facts: Facts, closed: i32, word: u64) -> u64 {
+// Whether the rows of a try are in their file: the system may say only now that they could not be written. A file that is no
+// file of a disk has nothing that could still fail.
+fn are_written(files: &TryFiles) -> bool {
+    match files.output.sync_data() {
+        Ok(()) => true,
+        Err(e) => e.kind() == ErrorKind::InvalidInput,
+    }
+}
+
+// What fails a try in the end, where this is known of its rows' file and its job has this word of its tries.
+fn failing(facts: Facts, written: bool, word: u64) -> u64 {
     if facts.failed != NOTHING {
         return facts.failed;
     }
-    if closed != 0 {
+    if !written {
         return OUTPUT;
     }
     if same_file(word, facts.checksum) {
@@ -378,9 +416,9 @@ fn failing(facts: Facts, closed: i32, word: u64) -> u64 {
 
 // What a try leaves: its files are closed, and its line and its job's marks are added where nothing failed.
 pub fn settle(
-    night: Night,
-    place: Place,
-    next: Next,
+    rt: &HostRuntime,
+    night: &Night,
+    made: Made,
     facts: Facts,
     before: &[u64],
     after: &[u64],
@@ -388,21 +426,22 @@ pub fn settle(
     tries: &mut [u64; MOST_FILES],
 ) -> Place {
     let command = night.command;
+    let Made { place, next, files } = made;
     let job = next.job;
-    libc::close(next.input);
-    let closed = libc::close(next.output);
+    let written = are_written(&files);
+    drop(files);
     if job >= MOST_FILES {
-        return skipped(night, next);
+        return skipped(rt, night, next);
     }
-    let failed = failing(facts, closed, tries[job]);
+    let failed = failing(facts, written, tries[job]);
     if failed != NOTHING {
-        say_failed(std::num::wrapping_add_usize(command.first, job), failed);
-        return skipped(night, next);
+        say_failed(rt, std::num::wrapping_add_usize(command.first, job), failed);
+        return skipped(rt, night, next);
     }
     let passed = night_passed::has_passed(facts.closed, after);
     let numbers = numbers_of(next, facts, passed, before, after);
-    if !kept(night, next, &numbers) {
-        skipped(night, next);
+    if !kept(rt, night, next, &numbers) {
+        skipped(rt, night, next);
         return Place {
             job,
             faults: true,

@@ -1,5 +1,7 @@
 // A whole try of a night: the flattener is started, and the file is read turn after turn; lines are done as long as the try goes
 // on, and the rest is read for the checksum. Memory is of a fixed size and is lent.
+#![tactic(auto)]
+
 ghost use Rattle.std.specs.Prelude.{◌≡◌, length};
 ghost use Rattle.csv_status.specs.Status.{goes_on};
 ghost use Rattle.night_turns.specs.Steps.{slices};
@@ -87,7 +89,7 @@ fn done(
 
 // One turn: room is made, and then a line is done or more is read.
 fn step(
-    files: Files,
+    files: Files<'_>,
     s: Reading,
     buf: &mut [u8; INPUT],
     state: &mut [u64; STATE_WORDS],
@@ -121,7 +123,7 @@ fn step(
 
 // Turn after turn, up to the end.
 fn all_turns(
-    files: Files,
+    files: Files<'_>,
     begun: Reading,
     buf: &mut [u8; INPUT],
     state: &mut [u64; STATE_WORDS],
@@ -147,7 +149,7 @@ fn all_turns(
 
 // A whole try: the start, all turns, and the end.
 pub fn whole_try(
-    files: Files,
+    files: Files<'_>,
     ticket: Ticket,
     tolerance: u64,
     buf: &mut [u8; INPUT],

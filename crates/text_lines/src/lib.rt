@@ -1,14 +1,17 @@
 // Lines of an open file, in a buffer of a fixed size: each turn of a program's reading loop is `next_turn`.
+#![tactic(auto)]
+
 ghost use Rattle.std.specs.Prelude.{◌+◌, ◌<◌, ◌≤◌, length, ◌≡◌};
 ghost use Rattle.text_cut.specs.Cut.{cut, between};
 ghost use Rattle.text_lines.specs.Turns.{Turned};
 
+use std::io::Read;
 use text_cut::line_end;
 use text_front::{read_more, to_front};
 
 // What a turn found: a line that stands whole, more bytes, the end of the input, a buffer that no line fits in, or that
 // the input cannot be read.
-#[derive(Drop)]
+#[derive(Clone, Copy)]
 pub enum Found {
     Line,
     More,
@@ -18,7 +21,7 @@ pub enum Found {
 }
 
 // The unread bytes of the buffer are then from `at` up to `end`; a line that was found is from `from` up to `at`.
-#[derive(Drop)]
+#[derive(Clone, Copy)]
 pub struct Turn {
     pub from: usize,
     pub at: usize,
@@ -38,7 +41,7 @@ fn at_front(end: usize, found: Found) -> Turn
 }
 
 // No line stands whole: the unread bytes go to the front, and more are read behind them.
-fn read_on(file: i32, buf: &mut [u8], at: usize, end: usize) -> Turn
+fn read_on<R: Read>(input: &mut R, buf: &mut [u8], at: usize, end: usize) -> Turn
     requires at_le_end { (at ≤ end) × (end ≤ length buf.old) }
     requires end_bound { end < at + cut (between buf.old at end) }
     ensures { Turned buf.old at end buf.new result }
@@ -47,7 +50,7 @@ fn read_on(file: i32, buf: &mut [u8], at: usize, end: usize) -> Turn
     if n == buf.len() {
         return at_front(n, Found::Full);
     }
-    let came = read_more(file, buf, n);
+    let came = read_more(input, buf, n);
     if came.n > n {
         return at_front(came.n, Found::More);
     }
@@ -58,7 +61,7 @@ fn read_on(file: i32, buf: &mut [u8], at: usize, end: usize) -> Turn
 }
 
 // One turn of the reading loop: a line that stands whole in the buffer, or a reading.
-pub fn next_turn(file: i32, buf: &mut [u8], at: usize, end: usize) -> Turn
+pub fn next_turn<R: Read>(input: &mut R, buf: &mut [u8], at: usize, end: usize) -> Turn
     requires { (at ≤ end) × (end ≤ length buf.old) }
     ensures { Turned buf.old at end buf.new result }
 {
@@ -71,5 +74,5 @@ pub fn next_turn(file: i32, buf: &mut [u8], at: usize, end: usize) -> Turn
             found: Found::Line,
         };
     }
-    read_on(file, buf, at, end)
+    read_on(input, buf, at, end)
 }
