@@ -1,11 +1,13 @@
 // What the row text program hands to descriptors: the rows and the notices that wait.
+#![tactic(auto)]
+
 ghost use Rattle.std.specs.Prelude.{◌≡◌, ◌≤◌, length};
 ghost use Rattle.csv_status.specs.Status.{ended};
 ghost use Rattle.csv_io.specs.Flush.{HandedOver, Flushed, Emptied};
 
 use csv_out::{CALL_ROOM, NOTICE_ROOM, Run};
-use csv_status::{GOES_ON, NO_ERROR, NO_OUTPUT};
-use libc::{STDERR_FILENO, STDOUT_FILENO};
+use csv_status::{GOES_ON, NO_ERROR, NO_OUTPUT, is_written};
+use std::io::Write;
 
 // The bytes that the two buffers have room for: what may wait, and what a line adds to it.
 pub const OUT_ROOM: usize = 2 * CALL_ROOM;
@@ -18,7 +20,7 @@ const WAITING: usize = OUT_ROOM - CALL_ROOM;
 const NOTICES: usize = ERR_ROOM - NOTICE_ROOM;
 
 // How many bytes were handed to each of the two, and how it went: GOES_ON, NO_OUTPUT or NO_ERROR.
-#[derive(Drop)]
+#[derive(Clone, Copy)]
 pub struct Sent {
     pub rows: usize,
     pub notices: usize,
@@ -26,7 +28,7 @@ pub struct Sent {
 }
 
 // What is left after a flush.
-#[derive(Drop)]
+#[derive(Clone, Copy)]
 pub struct Left {
     pub run: Run,
     pub rows: usize,
@@ -46,11 +48,16 @@ fn lent(rows: usize, notices: usize, over: u64) -> Sent
 }
 
 // Rows to standard output, and then notices to standard error; where the rows cannot be written the notices are not.
-fn hand_over(rows: &[u8], notices: &[u8]) -> Sent
+fn hand_over<W: Write, E: Write>(
+    rows: &[u8],
+    notices: &[u8],
+    output: &mut W,
+    errors: &mut E,
+) -> Sent
     ensures { HandedOver (length rows.now) (length notices.now) result }
 {
-    if io::write_all(STDOUT_FILENO, rows) {
-        if io::write_all(STDERR_FILENO, notices) {
+    if is_written(output, rows) {
+        if is_written(errors, notices) {
             return lent(rows.len(), notices.len(), GOES_ON);
         }
         return lent(rows.len(), notices.len(), NO_ERROR);
@@ -59,13 +66,19 @@ fn hand_over(rows: &[u8], notices: &[u8]) -> Sent
 }
 
 // All that waits is handed over.
-pub fn flush(run: Run, out: &[u8], err: &[u8]) -> Left
+pub fn flush<W: Write, E: Write>(
+    run: Run,
+    out: &[u8],
+    err: &[u8],
+    output: &mut W,
+    errors: &mut E,
+) -> Left
     requires { (run.out ≤ length out.now) × (run.err ≤ length err.now) }
     ensures { Flushed run result }
 {
     let n = run.out;
     let m = run.err;
-    let handed = hand_over(&out[..n], &err[..m]);
+    let handed = hand_over(&out[..n], &err[..m], output, errors);
     Left {
         run: Run {
             out: 0,
@@ -81,15 +94,21 @@ pub fn flush(run: Run, out: &[u8], err: &[u8]) -> Left
 }
 
 // Makes room for what one line can say: where much waits, all of it is handed over, the rows first.
-pub fn emptied(run: Run, out: &[u8], err: &[u8]) -> Left
+pub fn emptied<W: Write, E: Write>(
+    run: Run,
+    out: &[u8],
+    err: &[u8],
+    output: &mut W,
+    errors: &mut E,
+) -> Left
     requires { (run.out ≤ length out.now) × (run.err ≤ length err.now) }
     ensures { Emptied run out.now err.now result }
 {
     if run.out > WAITING {
-        return flush(run, out, err);
+        return flush(run, out, err, output, errors);
     }
     if run.err > NOTICES {
-        return flush(run, out, err);
+        return flush(run, out, err, output, errors);
     }
     Left {
         run,

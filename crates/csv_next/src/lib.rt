@@ -1,5 +1,7 @@
 // What comes next in a run of the row text program: room is made for what a line can say, and then a line is found, or more
 // is read.
+#![tactic(auto)]
+
 ghost use Rattle.std.specs.Prelude.{length};
 ghost use Rattle.csv_next.specs.Next.{Held, Ready};
 
@@ -7,11 +9,11 @@ use csv_io::emptied;
 use csv_out::Run;
 use csv_reading::Reading;
 use csv_status::GOES_ON;
-use libc::STDIN_FILENO;
+use std::io::{Read, Write};
 use text_lines::{Found, Turn, next_turn};
 
 // What the turn found, with room for what a line can say; where there is none, `over` says what failed.
-#[derive(Drop)]
+#[derive(Clone, Copy)]
 pub struct Next {
     pub turn: Turn,
     pub run: Run,
@@ -19,11 +21,19 @@ pub struct Next {
 }
 
 // Room is made, and then the reading goes on by one turn.
-pub fn next_found(s: Reading, buf: &mut [u8], out: &[u8], err: &[u8]) -> Next
+pub fn next_found<R: Read, W: Write, E: Write>(
+    s: Reading,
+    buf: &mut [u8],
+    out: &[u8],
+    err: &[u8],
+    input: &mut R,
+    output: &mut W,
+    errors: &mut E,
+) -> Next
     requires { Held s (length buf.old) (length out.now) (length err.now) }
     ensures { Ready s buf.old out.now err.now result buf.new }
 {
-    let room = emptied(s.run, out, err);
+    let room = emptied(s.run, out, err, output, errors);
     let run = room.run;
     if room.over != GOES_ON {
         return Next {
@@ -37,7 +47,7 @@ pub fn next_found(s: Reading, buf: &mut [u8], out: &[u8], err: &[u8]) -> Next
             over: room.over,
         };
     }
-    let turn = next_turn(STDIN_FILENO, buf, s.at, s.end);
+    let turn = next_turn(input, buf, s.at, s.end);
     Next {
         turn,
         run,

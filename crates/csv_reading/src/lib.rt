@@ -1,4 +1,6 @@
 // Where the reading of the row text program stands behind a turn, and whether the run goes on.
+#![tactic(auto)]
+
 ghost use Rattle.std.specs.Prelude.{◌≡◌, ◌-◌, ◌≤◌, ◌<◌};
 ghost use Rattle.csv_status.specs.Status.{goes_on, ended};
 ghost use Rattle.csv_reading.specs.Reading.{first_reading, going_of, behind};
@@ -8,7 +10,7 @@ use csv_status::{ENDED, GOES_ON, NO_INPUT};
 use text_lines::Turn;
 
 // Where the reading stands: the unread bytes of the input buffer are from `at` up to `end`.
-#[derive(Drop)]
+#[derive(Clone, Copy)]
 pub struct Reading {
     pub at: usize,
     pub end: usize,

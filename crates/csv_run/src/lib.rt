@@ -1,5 +1,7 @@
 // A whole run of the row text program, which calls the flattener: a line and the end of the input, over slices; a turn; turn
 // after turn, and then what still waits is written. Memory is of a fixed size.
+#![tactic(auto)]
+
 ghost use Rattle.std.specs.Prelude.{◌≡◌, ◌≤◌, length};
 ghost use Rattle.layout.specs.Layout.{row_words};
 ghost use Rattle.csv_line.specs.LineText.{end_of};
@@ -23,6 +25,7 @@ use csv_reading::{Reading, behind, ends, fails, first, going, left_of, reads_on}
 use csv_replied::{call_answered, source_of};
 use csv_status::{GOES_ON, may_end, turns_left};
 use layout::{MOST_HELD, ROW_WORDS, STATE_WORDS};
+use std::io::{Read, Write};
 use text_lines::{Found, Turn};
 
 // The words of the spline store and of the lent rows, and the bytes of the input buffer.
@@ -222,7 +225,7 @@ fn done(
 }
 
 // One turn: room is made, and then a line is done or more is read.
-fn step(
+fn step<R: Read, W: Write, E: Write>(
     s: Reading,
     buf: &mut [u8; INPUT],
     state: &mut [u64; STATE_WORDS],
@@ -230,13 +233,16 @@ fn step(
     rows: &mut [u64; ROWS],
     out: &mut [u8; OUT_ROOM],
     err: &mut [u8; ERR_ROOM],
+    input: &mut R,
+    output: &mut W,
+    errors: &mut E,
 ) -> Reading
     requires { Within s × (s.over ≡ goes_on) }
     ensures { let was = slices state.old store.old rows.old out.old err.old in
         let is = slices state.new store.new rows.new out.new err.new in
         TurnIs s buf.old was result buf.new is }
 {
-    let n = next_found(s, buf, out, err);
+    let n = next_found(s, buf, out, err, input, output, errors);
     let run = n.run;
     if n.over != GOES_ON {
         return Reading {
@@ -251,13 +257,16 @@ fn step(
 }
 
 // Turn after turn, up to the end.
-fn all_turns(
+fn all_turns<R: Read, W: Write, E: Write>(
     buf: &mut [u8; INPUT],
     state: &mut [u64; STATE_WORDS],
     store: &mut [u64; STORE],
     rows: &mut [u64; ROWS],
     out: &mut [u8; OUT_ROOM],
     err: &mut [u8; ERR_ROOM],
+    input: &mut R,
+    output: &mut W,
+    errors: &mut E,
 ) -> Reading
     requires { (state.old ≡ begun.state) × ((store.old ≡ begun.store) × (rows.old ≡ begun.rows)) }
     ensures { let is = slices state.new store.new rows.new out.new err.new in
@@ -266,24 +275,27 @@ fn all_turns(
     let mut s = first();
     let mut turns = u64::MAX;
     while turns > 0 {
-        s = step(s, buf, state, store, rows, out, err);
+        s = step(s, buf, state, store, rows, out, err, input, output, errors);
         turns = turns_left(turns, s.over);
     }
     s
 }
 
 // All turns, and the end.
-pub fn whole_run(
+pub fn whole_run<R: Read, W: Write, E: Write>(
     buf: &mut [u8; INPUT],
     state: &mut [u64; STATE_WORDS],
     store: &mut [u64; STORE],
     rows: &mut [u64; ROWS],
     out: &mut [u8; OUT_ROOM],
     err: &mut [u8; ERR_ROOM],
+    input: &mut R,
+    output: &mut W,
+    errors: &mut E,
 ) -> Ending
     requires { (state.old ≡ begun.state) × ((store.old ≡ begun.store) × (rows.old ≡ begun.rows)) }
     ensures { Ran result out.new err.new }
 {
-    let s = all_turns(buf, state, store, rows, out, err);
-    last(s, out, err)
+    let s = all_turns(buf, state, store, rows, out, err, input, output, errors);
+    last(s, out, err, output, errors)
 }

@@ -1,5 +1,7 @@
 // Flattens the row text of standard input: axes X Y Z, tolerance 0.1, no seed, a full spline store, room for 256 rows.
 // Memory is of a fixed size and is all here; csv_run has the run.
+#![tactic(auto)]
+
 ghost use Rattle.csv_run.specs.Run.{Ran};
 
 use csv_ending::Ending;
@@ -10,14 +12,15 @@ use csv_status::{report, tell};
 use layout::STATE_WORDS;
 
 // What failed, if anything did, and the status: of a run that was made, with its last bytes in the two buffers.
-fn told(end: Ending, out: &[u8; OUT_ROOM], err: &[u8; ERR_ROOM])
+fn told(rt: HostRuntime, end: Ending, out: &[u8; OUT_ROOM], err: &[u8; ERR_ROOM])
     requires { Ran end out.now err.now }
 {
-    tell(b"flatcsv", end.over);
-    report(end.over, end.refused);
+    let mut errors = rt.stderr();
+    tell(b"flatcsv", end.over, &mut errors);
+    report(&rt, end.over, end.refused);
 }
 
-fn main() {
+fn main(rt: HostRuntime) {
     let mut buf = [0u8; INPUT];
     let mut state = [0u64; STATE_WORDS];
     let mut store = [0u64; STORE];
@@ -25,8 +28,19 @@ fn main() {
     let mut out = [0u8; OUT_ROOM];
     let mut err = [0u8; ERR_ROOM];
     start(&mut state);
+    let mut input = rt.stdin();
+    let mut output = rt.stdout();
+    let mut errors = rt.stderr();
     let end = whole_run(
-        &mut buf, &mut state, &mut store, &mut rows, &mut out, &mut err,
+        &mut buf,
+        &mut state,
+        &mut store,
+        &mut rows,
+        &mut out,
+        &mut err,
+        &mut input,
+        &mut output,
+        &mut errors,
     );
-    told(end, &out, &err);
+    told(rt, end, &out, &err);
 }

@@ -1,11 +1,14 @@
 // Draws the flattened row text of standard input as one SVG, in the plane that `--plane` names, X and Y where it is not given.
 // Memory is of a fixed size and is all here; picture_run has the run.
+#![tactic(auto)]
+
 ghost use Rattle.picture_pen.specs.Drawing.{PlaneOk};
 
 use csv_io::{ERR_ROOM, OUT_ROOM};
 use csv_status::{report, tell};
 use picture_run::{INPUT, whole_run};
 use picture_span::Plane;
+use std::env::Env;
 
 // The codes of the axes.
 const X: usize = 0;
@@ -28,23 +31,33 @@ fn plane_of(word: [u8; 2]) -> Plane
     }
 }
 
-fn asked_plane() -> Plane
+fn asked_plane<R: Env>(rt: &R) -> Plane
     ensures { PlaneOk result }
 {
     let mut word = [0u8; 2];
-    let n = os::arg(PLANE_ARGUMENT, &mut word);
-    if n == 2 {
-        return plane_of(word);
+    match rt.arg(PLANE_ARGUMENT, &mut word) {
+        Ok(2) => plane_of(word),
+        _ => plane_of([0u8; 2]),
     }
-    plane_of([0u8; 2])
 }
 
-fn main() {
+fn main(rt: HostRuntime) {
     let mut buf = [0u8; INPUT];
     let mut out = [0u8; OUT_ROOM];
     let mut err = [0u8; ERR_ROOM];
-    let plane = asked_plane();
-    let end = whole_run(plane, &mut buf, &mut out, &mut err);
-    tell(b"picture", end.over);
-    report(end.over, end.refused);
+    let plane = asked_plane(&rt);
+    let mut input = rt.stdin();
+    let mut output = rt.stdout();
+    let mut errors = rt.stderr();
+    let end = whole_run(
+        plane,
+        &mut buf,
+        &mut out,
+        &mut err,
+        &mut input,
+        &mut output,
+        &mut errors,
+    );
+    tell(b"picture", end.over, &mut errors);
+    report(&rt, end.over, end.refused);
 }

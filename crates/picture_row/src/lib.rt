@@ -1,4 +1,6 @@
 // A row of the picture program's input: it is drawn, and its bytes wait behind those that do.
+#![tactic(auto)]
+
 ghost use Rattle.std.specs.Prelude.{◌≡◌, length};
 ghost use Rattle.layout.specs.Layout.{row_words};
 ghost use Rattle.picture_pen.specs.Drawing.{PlaneOk};
@@ -10,7 +12,7 @@ use picture_pen::{Pen, draw};
 use picture_span::Plane;
 
 // How the lines so far stand, and the pen behind them.
-#[derive(Drop)]
+#[derive(Clone, Copy)]
 pub struct Sheet {
     pub run: Run,
     pub pen: Pen,

@@ -1,4 +1,6 @@
 // A whole run of the picture program: a line, a turn, turn after turn, and then the end of the picture. Memory is of a fixed size.
+#![tactic(auto)]
+
 ghost use Rattle.std.specs.Prelude.{◌≡◌, ◌≤◌, length};
 ghost use Rattle.csv_io.specs.Flush.{out_room, err_room};
 ghost use Rattle.picture_pen.specs.Drawing.{PlaneOk};
@@ -21,13 +23,14 @@ use picture_pen::{Pen, first_pen};
 use picture_row::{Sheet, row_line};
 use picture_span::Plane;
 use picture_text::put_end;
+use std::io::{Read, Write};
 use text_lines::{Found, Turn};
 
 // The bytes of the input buffer.
 pub const INPUT: usize = 65536;
 
 // How the reading stands, and the pen.
-#[derive(Drop)]
+#[derive(Clone, Copy)]
 pub struct Page {
     pub reading: Reading,
     pub pen: Pen,
@@ -164,19 +167,22 @@ fn done(
 }
 
 // One turn: room is made, and then a line is done or more is read.
-fn step(
+fn step<R: Read, W: Write, E: Write>(
     page: Page,
     plane: Plane,
     buf: &mut [u8; INPUT],
     out: &mut [u8; OUT_ROOM],
     err: &mut [u8; ERR_ROOM],
+    input: &mut R,
+    output: &mut W,
+    errors: &mut E,
 ) -> Page
     requires { Within page.reading × PlaneOk plane }
     ensures { Within result.reading }
 {
     let s = page.reading;
     let pen = page.pen;
-    let n = next_found(s, buf, out, err);
+    let n = next_found(s, buf, out, err, input, output, errors);
     let run = n.run;
     if n.over != GOES_ON {
         return Page {
@@ -219,11 +225,14 @@ fn begin(out: &mut [u8; OUT_ROOM]) -> Page
 }
 
 // Turn after turn, up to the end.
-fn all_turns(
+fn all_turns<R: Read, W: Write, E: Write>(
     plane: Plane,
     buf: &mut [u8; INPUT],
     out: &mut [u8; OUT_ROOM],
     err: &mut [u8; ERR_ROOM],
+    input: &mut R,
+    output: &mut W,
+    errors: &mut E,
 ) -> Page
     requires { PlaneOk plane }
     ensures { Within result.reading }
@@ -231,7 +240,7 @@ fn all_turns(
     let mut page = begin(out);
     let mut turns = u64::MAX;
     while turns > 0 {
-        page = step(page, plane, buf, out, err);
+        page = step(page, plane, buf, out, err, input, output, errors);
         turns = turns_left(turns, over_of(page));
     }
     page
@@ -279,15 +288,18 @@ fn close(page: Page, plane: Plane, out: &mut [u8; OUT_ROOM]) -> Reading
 }
 
 // All turns, and the end.
-pub fn whole_run(
+pub fn whole_run<R: Read, W: Write, E: Write>(
     plane: Plane,
     buf: &mut [u8; INPUT],
     out: &mut [u8; OUT_ROOM],
     err: &mut [u8; ERR_ROOM],
+    input: &mut R,
+    output: &mut W,
+    errors: &mut E,
 ) -> Ending
     requires { PlaneOk plane }
 {
-    let page = all_turns(plane, buf, out, err);
+    let page = all_turns(plane, buf, out, err, input, output, errors);
     let s = close(page, plane, out);
-    last(s, out, err)
+    last(s, out, err, output, errors)
 }

@@ -1,4 +1,6 @@
 // Runs the calls of docs/INTERFACE.md's `replay`, a line each, and writes what each answered.
+#![tactic(auto)]
+
 mod session;
 
 ghost use Rattle.std.specs.Prelude.{◌<◌, ◌≤◌};
@@ -9,16 +11,17 @@ use replay_lent::Lent;
 use replay_memory::{MOST_LENGTH, OLD_WORDS, ROOM_WORDS, STORE_WORDS, TEXT_ROOM, rest};
 use replay_output::flush;
 use replay_turn::{Window, turn_all, unasked};
+use std::io::{Read, Write};
 
 // Where the run stands: where reading does, and what is lent.
-#[derive(Drop)]
+#[derive(Clone, Copy)]
 struct Stand {
     window: Window,
     lent: Lent,
 }
 
 // One turn, and what its line asks for.
-fn step(
+fn step<R: Read, W: Write>(
     s: Stand,
     buf: &mut [u8; TEXT_ROOM],
     state: &mut [u64; MOST_LENGTH],
@@ -26,12 +29,14 @@ fn step(
     rows: &mut [u64; ROOM_WORDS],
     old: &mut [u64; OLD_WORDS],
     out: &mut [u8; TEXT_ROOM],
+    input: &mut R,
+    output: &mut W,
 ) -> Stand
     requires { (s.window.at ≤ s.window.end) × ((s.window.end ≤ 65536) × (0 < s.window.turns)) }
     ensures { (result.window.at ≤ result.window.end) × ((result.window.end ≤ 65536) × (result.window.turns < s.window.turns)) }
 {
     let mut words = [0u64; MOST_LENGTH];
-    let window = turn_all(s.window, buf, &mut words);
+    let window = turn_all(input, s.window, buf, &mut words);
     let ask = window.ask;
     let lent = done(
         ask,
@@ -43,6 +48,7 @@ fn step(
         rows,
         old,
         out,
+        output,
     );
     Stand { window, lent }
 }
@@ -62,12 +68,14 @@ fn begun() -> Stand
     }
 }
 
-fn flush_all(out: &[u8; TEXT_ROOM], s: Stand) {
-    flush(out, s.lent.at);
+fn flush_all<W: Write>(out: &[u8; TEXT_ROOM], s: Stand, output: &mut W) {
+    flush(out, s.lent.at, output);
 }
 
 // Every line, and then what of the answers is not written yet.
-fn main() {
+fn main(rt: HostRuntime) {
+    let mut input = rt.stdin();
+    let mut output = rt.stdout();
     let mut buf = [0u8; TEXT_ROOM];
     let mut out = [0u8; TEXT_ROOM];
     let mut state = [0u64; MOST_LENGTH];
@@ -78,8 +86,16 @@ fn main() {
     let mut s = begun();
     while s.window.turns > 0 {
         s = step(
-            s, &mut buf, &mut state, &mut store, &mut rows, &mut old, &mut out,
+            s,
+            &mut buf,
+            &mut state,
+            &mut store,
+            &mut rows,
+            &mut old,
+            &mut out,
+            &mut input,
+            &mut output,
         );
     }
-    flush_all(&out, s);
+    flush_all(&out, s, &mut output);
 }

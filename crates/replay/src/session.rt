@@ -4,6 +4,7 @@ use replay_answer::put_answer;
 use replay_ask::Ask;
 use replay_lent::{Lent, changed, is_call, is_kept, lent_after, save, tidy};
 use replay_memory::{MOST_LENGTH, OLD_WORDS, ROOM_WORDS, STORE_WORDS, TEXT_ROOM, part};
+use std::io::Write;
 
 fn call_start(state: &mut [u64], lent: usize, tol: u64, codes: &[u64], count: u64) -> Reply {
     let n = part(lent, state);
@@ -61,7 +62,7 @@ fn reply_to(
 }
 
 // A call and its answer.
-fn called(
+fn called<W: Write>(
     ask: Ask,
     words: &[u64],
     lent: Lent,
@@ -70,17 +71,18 @@ fn called(
     rows: &mut [u64],
     old: &mut [u64],
     out: &mut [u8],
+    output: &mut W,
 ) -> usize {
     save(state, store, old);
     let r = reply_to(ask, words, lent, state, store, rows);
     let kept = is_kept(r, state, store, rows, old);
-    let at = put_answer(r, kept, rows, out, lent.at);
+    let at = put_answer(r, kept, rows, out, lent.at, output);
     tidy(r, rows);
     at
 }
 
 // The line `number` of the input, done.
-pub fn done(
+pub fn done<W: Write>(
     ask: Ask,
     number: u64,
     words: &[u64; MOST_LENGTH],
@@ -90,9 +92,10 @@ pub fn done(
     rows: &mut [u64; ROOM_WORDS],
     old: &mut [u64; OLD_WORDS],
     out: &mut [u8; TEXT_ROOM],
+    output: &mut W,
 ) -> Lent {
     if is_call(ask) {
-        let at = called(ask, words, lent, state, store, rows, old, out);
+        let at = called(ask, words, lent, state, store, rows, old, out, output);
         return lent_after(ask, lent, at);
     }
     let at = changed(ask, number, lent.at, state, store, out);

@@ -1,6 +1,9 @@
 // What a call answered, as lines.
+#![tactic(auto)]
+
 use call_reply::Reply;
 use replay_output::{flushed, put_line, put_line_hex, put_line_number, put_line_numbers, put_rows};
+use std::io::Write;
 
 fn put_warning(r: Reply, out: &mut [u8], at: usize) -> usize {
     if r.warning == 0 {
@@ -30,17 +33,31 @@ fn put_done(r: Reply, out: &mut [u8], at: usize) -> usize {
 }
 
 // The rows of an answer and what was said with them, or its refusal.
-fn put_result(r: Reply, untouched: bool, rows: &[u64], out: &mut [u8], at: usize) -> usize {
+fn put_result<W: Write>(
+    r: Reply,
+    untouched: bool,
+    rows: &[u64],
+    out: &mut [u8],
+    at: usize,
+    output: &mut W,
+) -> usize {
     if r.code == 0 {
-        let after = put_rows(rows, r.count, out, at);
+        let after = put_rows(rows, r.count, out, at, output);
         return put_done(r, out, after);
     }
     put_refusal(r, untouched, out, at)
 }
 
 // The lines of an answer.
-pub fn put_answer(r: Reply, untouched: bool, rows: &[u64], out: &mut [u8], at: usize) -> usize {
-    let from = flushed(out, at);
-    let after = put_result(r, untouched, rows, out, from);
+pub fn put_answer<W: Write>(
+    r: Reply,
+    untouched: bool,
+    rows: &[u64],
+    out: &mut [u8],
+    at: usize,
+    output: &mut W,
+) -> usize {
+    let from = flushed(out, at, output);
+    let after = put_result(r, untouched, rows, out, from, output);
     put_line_number(out, after, b"done", r.count)
 }

@@ -1,4 +1,6 @@
 // What a line of input asks for.
+#![tactic(auto)]
+
 ghost use Rattle.layout.specs.Layout.{row_words};
 ghost use Rattle.std.specs.Prelude.{length, ◌≡◌};
 
@@ -10,7 +12,7 @@ use replay_memory::{MOST_BLOCKS, MOST_LENGTH, MOST_ROOM};
 
 // A call, or a change of what is lent or of what it holds. Codes and rows are in the words that reading filled, and
 // `count` is how many.
-#[derive(Drop)]
+#[derive(Clone, Copy)]
 pub enum Ask {
     Nothing,
     Bad,
@@ -58,7 +60,7 @@ fn seed_ask(line: &[u8], from: usize) -> Ask {
 }
 
 // The five fields before the cells of a push, and the place behind them.
-#[derive(Drop)]
+#[derive(Clone, Copy)]
 struct Head {
     ok: bool,
     line: u64,

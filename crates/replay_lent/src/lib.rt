@@ -1,11 +1,13 @@
 // What is lent, and what a line asks for that is no call; whether a refused call left the memory alone.
+#![tactic(auto)]
+
 use call_reply::Reply;
 use replay_ask::Ask;
 use replay_memory::{MOST_LENGTH, copy, is_resting, part, rest, row_words, same};
 use replay_output::put_line_number;
 
 // The words lent from now on, and where the output stands.
-#[derive(Drop)]
+#[derive(Clone, Copy)]
 pub struct Lent {
     pub state: usize,
     pub store: usize,

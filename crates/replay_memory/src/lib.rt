@@ -1,6 +1,7 @@
 // The memory that is lent, and whether a refused call left it alone.
-ghost use Rattle.std.specs.Prelude.{◌≤◌, ◌<◌, ◌+◌};
-ghost use Rattle.io.specs.Counts.{IsPrefixLen};
+#![tactic(auto)]
+
+ghost use Rattle.std.specs.Prelude.{◌≤◌, ◌<◌, ◌+◌, ◌≡◌, length, take};
 
 use layout::{MOST_HELD, ROW_WORDS};
 
@@ -30,7 +31,7 @@ pub fn least(a: usize, b: usize) -> usize
 
 // As many words of `words` as n, or all.
 pub fn part(n: usize, words: &[u64]) -> usize
-    ensures { IsPrefixLen result words.now }
+    ensures { (result ≤ length words.now) × (result ≡ length (take result words.now)) }
 {
     least(n, words.len())
 }

@@ -1,10 +1,14 @@
 // Answers, put into a buffer from a place on; what does not fit is left out, and the callers flush in time.
+#![tactic(auto)]
+
 ghost use Rattle.std.specs.Prelude.{◌≤◌, ◌<◌, ◌+◌, length, ◌≡◌};
 ghost use Rattle.layout.specs.Layout.{r_cells};
 
 use layout::{R_CARRY, R_CELLS, R_LINE, R_MARK, R_MOTION, R_PLANE, R_PRESENT, ROW_WORDS};
-use libc::STDOUT_FILENO;
 use replay_memory::least;
+use std::fmt;
+use std::fmt::Write as _;
+use std::io::Write;
 
 // The output is flushed once it passes this place: the longest line fits behind it.
 const FLUSH_AT: usize = 32768;
@@ -29,16 +33,30 @@ pub fn put_text(out: &mut [u8], at: usize, text: &[u8]) -> usize {
     to
 }
 
+// A buffer that text is put into from `at` on.
+#[derive(Drop)]
+struct Line<'a> {
+    out: &'a mut [u8],
+    at: usize,
+}
+
+impl fmt::Write for Line<'_> {
+    fn write_str(&mut self, s: &str) -> fmt::Result {
+        self.at = put_text(self.out, self.at, s.as_bytes());
+        Ok(())
+    }
+}
+
 pub fn put_decimal(out: &mut [u8], at: usize, n: u64) -> usize {
-    let mut text = [0u8; 20];
-    let k = io::decimal(n, &mut text);
-    put_text(out, at, &text[..k])
+    let mut line = Line { out, at };
+    let _ = write!(line, "{n}");
+    line.at
 }
 
 pub fn put_hex(out: &mut [u8], at: usize, n: u64, width: usize) -> usize {
-    let mut text = [0u8; 16];
-    let k = io::hex(n, width, &mut text);
-    put_text(out, at, &text[..k])
+    let mut line = Line { out, at };
+    let _ = write!(line, "{n:0width$x}");
+    line.at
 }
 
 fn put_cell(out: &mut [u8], at: usize, present: bool, n: u64) -> usize {
@@ -128,21 +146,28 @@ pub fn put_line_numbers(out: &mut [u8], at: usize, word: &[u8], n: u64, m: u64) 
     put_byte(out, end, b'\n')
 }
 
-pub fn flush(out: &[u8], at: usize) {
+// What cannot be written is lost, and the run goes on.
+pub fn flush<W: Write>(out: &[u8], at: usize, output: &mut W) {
     let n = least(at, out.len());
-    io::write_all(STDOUT_FILENO, &out[..n]);
+    let _ = output.write_all(&out[..n]);
 }
 
-pub fn flushed(out: &[u8], at: usize) -> usize {
+pub fn flushed<W: Write>(out: &[u8], at: usize, output: &mut W) -> usize {
     if at < FLUSH_AT {
         return at;
     }
-    flush(out, at);
+    flush(out, at, output);
     0
 }
 
 // The first `count` rows, a line each.
-pub fn put_rows(rows: &[u64], count: u64, out: &mut [u8], at: usize) -> usize {
+pub fn put_rows<W: Write>(
+    rows: &[u64],
+    count: u64,
+    out: &mut [u8],
+    at: usize,
+    output: &mut W,
+) -> usize {
     let mut to = at;
     let mut w = 0;
     let mut left = count;
@@ -151,7 +176,7 @@ pub fn put_rows(rows: &[u64], count: u64, out: &mut [u8], at: usize) -> usize {
             return to;
         }
         let e = w + ROW_WORDS;
-        let from = flushed(out, to);
+        let from = flushed(out, to, output);
         to = put_row_line(out, from, &rows[w..e]);
         w = e;
         left -= 1;

@@ -1,15 +1,17 @@
 // One turn of the reading loop of `replay`: what the line asks for that it found.
+#![tactic(auto)]
+
 ghost use Rattle.std.specs.Prelude.{◌<◌, ◌≤◌, length, ◌≡◌};
 ghost use Rattle.replay_turn.specs.Places.{Lies};
 
-use libc::STDIN_FILENO;
 use replay_ask::{Ask, read_ask};
 use replay_memory::{MOST_LENGTH, TEXT_ROOM};
+use std::io::Read;
 use text_lines::{Found, Turn, next_turn};
 
 // Where reading stands: the unread bytes of the buffer are from `at` up to `end`; `lines` were read, the last of
 // which asks for `ask`; `turns` are left.
-#[derive(Drop)]
+#[derive(Clone, Copy)]
 pub struct Window {
     pub at: usize,
     pub end: usize,
@@ -86,11 +88,11 @@ fn asked(t: Turn, lines: u64, turns: u64, buf: &[u8], words: &mut [u64; MOST_LEN
 }
 
 // One turn: a whole line that is in the buffer, or a read.
-fn turn(w: Window, buf: &mut [u8], words: &mut [u64; MOST_LENGTH]) -> Window
+fn turn<R: Read>(input: &mut R, w: Window, buf: &mut [u8], words: &mut [u64; MOST_LENGTH]) -> Window
     requires { (w.at ≤ w.end) × (w.end ≤ length buf.old) }
     ensures { (result.at ≤ result.end) × (result.end ≤ length buf.new) }
 {
-    let t = next_turn(STDIN_FILENO, buf, w.at, w.end);
+    let t = next_turn(input, buf, w.at, w.end);
     asked(t, w.lines, w.turns, buf, words)
 }
 
@@ -102,12 +104,17 @@ fn turns_left(wanted: u64, left: u64) -> u64
 }
 
 // A turn over an array, whose length needs no word in a loop.
-pub fn turn_all(w: Window, buf: &mut [u8; TEXT_ROOM], words: &mut [u64; MOST_LENGTH]) -> Window
+pub fn turn_all<R: Read>(
+    input: &mut R,
+    w: Window,
+    buf: &mut [u8; TEXT_ROOM],
+    words: &mut [u64; MOST_LENGTH],
+) -> Window
     requires { (w.at ≤ w.end) × ((w.end ≤ 65536) × (0 < w.turns)) }
     ensures { (result.at ≤ result.end) × ((result.end ≤ 65536) × (result.turns < w.turns)) }
 {
     let left = w.turns - 1;
-    let r = turn(w, buf, words);
+    let r = turn(input, w, buf, words);
     let ask = r.ask;
     Window {
         at: r.at,
