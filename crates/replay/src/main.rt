@@ -68,6 +68,32 @@ fn begun() -> Stand
     }
 }
 
+// Every line, one after another.
+fn all_turns<R: Read, W: Write>(
+    first: Stand,
+    buf: &mut [u8; TEXT_ROOM],
+    state: &mut [u64; MOST_LENGTH],
+    store: &mut [u64; STORE_WORDS],
+    rows: &mut [u64; ROOM_WORDS],
+    old: &mut [u64; OLD_WORDS],
+    out: &mut [u8; TEXT_ROOM],
+    input: &mut R,
+    output: &mut W,
+) -> Stand
+    requires { (first.window.at ≤ first.window.end) × (first.window.end ≤ 65536) }
+{
+    let mut s = first;
+    while s.window.turns > 0 {
+        s = step(s, buf, state, store, rows, old, out, input, output);
+    }
+    s
+}
+
+// The rows before the first line. In main, where the memory is made, a proof would go through each of its words.
+fn all_at_rest(rows: &mut [u64; ROOM_WORDS]) {
+    rest(rows, ROOM_WORDS);
+}
+
 fn flush_all<W: Write>(out: &[u8; TEXT_ROOM], s: Stand, output: &mut W) {
     flush(out, s.lent.at, output);
 }
@@ -82,20 +108,17 @@ fn main(rt: HostRuntime) {
     let mut store = [0u64; STORE_WORDS];
     let mut old = [0u64; OLD_WORDS];
     let mut rows = [0u64; ROOM_WORDS];
-    rest(&mut rows, ROOM_WORDS);
-    let mut s = begun();
-    while s.window.turns > 0 {
-        s = step(
-            s,
-            &mut buf,
-            &mut state,
-            &mut store,
-            &mut rows,
-            &mut old,
-            &mut out,
-            &mut input,
-            &mut output,
-        );
-    }
+    all_at_rest(&mut rows);
+    let s = all_turns(
+        begun(),
+        &mut buf,
+        &mut state,
+        &mut store,
+        &mut rows,
+        &mut old,
+        &mut out,
+        &mut input,
+        &mut output,
+    );
     flush_all(&out, s, &mut output);
 }
