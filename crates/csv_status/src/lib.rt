@@ -85,7 +85,7 @@ fn status_of(over: u64, refused: bool) -> u8
 // The status, as one digit.
 pub fn report<F: Files>(files: &F, over: u64, refused: bool) -> bool {
     let digit = [b'0' + status_of(over, refused)];
-    match OpenOptions::new().write(true).open(files, STATUS_FILE) {
+    match OpenOptions::new().append(true).open(files, STATUS_FILE) {
         Ok(file) => {
             let mut to = file;
             is_written(&mut to, &digit)
