@@ -201,8 +201,10 @@ fn compare(points: u64) -> bool {
         // bounds all over, and at the root itself and its neighbours
         let y = if g.next() % 4 == 0 { f64::from_bits(g.any_bits()) } else { g.near(x.sqrt()) };
         judged += (unsafe { arith_root_at_most(x, y) } != (x.sqrt() <= y)) as u64;
-        let t = g.side() % 1e3;
-        turned += (unsafe { arith_rem_euclid_tau(t) }.to_bits() != t.rem_euclid(TAU).to_bits()) as u64;
+        // within a thousand, and all over
+        let t = if g.next() % 2 == 0 { g.side() % 1e3 } else { f64::from_bits(g.any_bits()) };
+        let (a, b) = (unsafe { arith_rem_euclid_tau(t) }, t.rem_euclid(TAU));
+        turned += (a.to_bits() != b.to_bits() && !(a.is_nan() && b.is_nan())) as u64;
     }
     println!("root: {points} points, {unlike} unlike std's bits");
     println!("root at most a bound: {points} points, {judged} unlike std's answer");

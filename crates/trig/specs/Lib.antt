@@ -1,1 +1,2 @@
 pub mod Trig
+pub mod Remainder

@@ -1,7 +1,11 @@
 // Sine, cosine, and the remainder by tau: the step lists of docs/TRIG.md.
 #![tactic(auto)]
 
+ghost use Rattle.std.specs.Float.Ieee as Ieee;
+ghost use Rattle.std.specs.Float.{binary64};
 ghost use Rattle.std.specs.Prelude.{◌≡◌};
+ghost use Rattle.floats.specs.Numbers.{tau};
+ghost use Rattle.trig.specs.Remainder.{left_by_tau};
 ghost use Rattle.trig.specs.Trig.{sin_of, cos_of, sin_turned, cos_turned, sin_steps, cos_steps, euclid};
 
 const TWO_OVER_PI: f64 = 0.6366197723675814;
@@ -37,6 +41,20 @@ const C4: f64 = 2.0875729279968065e-09;
 const C5: f64 = -1.1359934159146366e-11;
 
 pub const TAU: f64 = 6.283185307179586;
+
+// TAU is so many of these: 2^-50.
+const TAU_DIGITS: u64 = 0x19_21fb_5444_2d18;
+
+const DIGIT: f64 = 8.881784197001252e-16;
+
+// Where a pattern's exponent stands, what that is of TAU and of no number, and where the sign stands.
+const EXPONENT: u64 = 0x10_0000_0000_0000;
+
+const TAU_EXPONENT: u64 = 1025;
+
+const NO_NUMBER: u64 = 2047;
+
+const SIGN: u64 = 0x8000_0000_0000_0000;
 
 #[derive(Clone, Copy)]
 pub struct Angle {
@@ -82,10 +100,40 @@ pub fn sincos(x: f64) -> Angle
     turned(k - 4.0 * (k * 0.25 + MAGIC - MAGIC), s, c)
 }
 
+// What TAU's digits leave of digits * 2^n, one doubling after another.
+fn left_by_tau(digits: u64, n: u64) -> u64
+    ensures { result ≡ left_by_tau digits n }
+{
+    let mut left = digits % TAU_DIGITS;
+    let mut k: u64 = 0;
+    while k < n {
+        left = left * 2 % TAU_DIGITS;
+        k += 1;
+    }
+    left
+}
+
+// x % TAU by whole numbers: for the operator the kit calls fmod, of a C library newer than a machine may have.
+fn rem_tau(x: f64) -> f64
+    ensures { result ≡ Ieee.rem binary64 x tau }
+{
+    let b = floats::bits(x);
+    let e = b % SIGN / EXPONENT;
+    if e < TAU_EXPONENT {
+        return x;
+    }
+    if e == NO_NUMBER {
+        return 0.0 / 0.0;
+    }
+    let left = left_by_tau(b % EXPONENT + EXPONENT, e - TAU_EXPONENT);
+    let one = if b < SIGN { DIGIT } else { -DIGIT };
+    std::num::nearest_u64_to_f64(left) * one
+}
+
 pub fn rem_euclid_tau(x: f64) -> f64
     ensures { result ≡ euclid x }
 {
-    let r = x % TAU;
+    let r = rem_tau(x);
     if r < 0.0 { r + TAU } else { r }
 }
 

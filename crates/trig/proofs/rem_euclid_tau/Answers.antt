@@ -2,7 +2,7 @@
 use Rattle.trig.proofs.rem_euclid_tau.Goals as goal
 
 pub returns-then-r : goal.returns-then-r
-returns-then-r c = rw c.if-r.true
+returns-then-r c = rw (← c.rem_tau-r.ensures, c.if-r.true)
 
 pub returns-else-r : goal.returns-else-r
-returns-else-r c = rw c.if-r.false
+returns-else-r c = rw (← c.rem_tau-r.ensures, c.if-r.false)
