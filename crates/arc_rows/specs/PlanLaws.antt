@@ -58,8 +58,8 @@ module _ (tol : Float) (gs : List ℕ) (plane : ℕ) (cw : Bool) (known : ℕ) (
   answer-no-v h a b = rw (← u_is, ← v_is, h, a, b)
 
   answer-there : silent_at gs u v r ≡ false → has known u ≡ true → has known v ≡ true
-      → arc_answer tol gs plane cw (shown known at) r ≡ from_centre tol gs plane cw (shown known at) r (ends_at r at u v) (centre_at cw (ends_at r at
-      u v) u v r)
+      → arc_answer tol gs plane cw (shown known at) r
+      ≡ from_centre tol gs plane cw (shown known at) r (ends_at r at u v) (centre_at cw (ends_at r at u v) u v r)
   answer-there h a b = rw (u_is, v_is) (answer_at tol gs plane cw known at r (rw (u_is, v_is) at h) (rw u_is at a) (rw v_is at b))
 
   pub answer-found : {e : Ends} {m : Centre} → silent_at gs u v r ≡ false → has known u ≡ true → has known v ≡ true
@@ -82,8 +82,9 @@ module _ (gs : List ℕ) (plane : ℕ) (pos : ℕ → Option ℕ) (r : List ℕ)
   unfolding arc_rows along_plan way_rows count_of
   along-is e c = record {
     rows = refl;
-    count = sym (length-upto (λ (k : ℕ). arc_row gs plane pos r (ends_is e) (arc_is c) (count_of (wanted_of (arc_is c))) (k + 1)) (count_of
-        (wanted_of (arc_is c))));
+    count =
+        sym
+        (length-upto (λ (k : ℕ). arc_row gs plane pos r (ends_is e) (arc_is c) (count_of (wanted_of (arc_is c))) (k + 1)) (count_of (wanted_of (arc_is c))));
     warning = refl;
     wanted = refl;
     held = refl;

@@ -35,8 +35,8 @@ module _ (gs : ℕ) (small : gs < 2 ^ axis_codes) (r : List ℕ) (u v : ℕ) (on
   shows word x y w ex ey ew en k =
       ⊎_elim
       (λ (l : k < axis_codes).
-      let m : has (drawn_mask gs r u v) k ≡ (k == u || (k == v || (has gs k && has (present_of r) k))) = has-mask (drawn gs (present_of r) u v)
-      axis_codes k l in
+      let m : has (drawn_mask gs r u v) k ≡ (k == u || (k == v || (has gs k && has (present_of r) k))) =
+      has-mask (drawn gs (present_of r) u v) axis_codes k l in
       rw (m, at-upto word axis_codes k 0 l, member-small gs k small)
       (by_bit (k == u)
       (λ a. rw a (ap (λ (i : ℕ). some (word i)) (eqb-true k u a) ∙ ex))
@@ -115,8 +115,8 @@ arc_long gs plane pos r e c n k =
 
 -- n rows as the code writes them, the last one after the others
 pub drawn-rows : (gs : ℕ) → gs < 2 ^ axis_codes → (r : List ℕ) (u v : ℕ) → u < axis_codes → v < axis_codes → (plane : ℕ) → u ≡ plane_u plane → v ≡ plane_v plane
-    → (pos : ℕ → Option ℕ) (e : Ends) (c : Arc) {starts spans : List Float} → starts ≡ upto (start_of r pos) axis_codes → spans ≡ upto (span_of r
-    starts) axis_codes
+    → (pos : ℕ → Option ℕ) (e : Ends) (c : Arc) {starts spans : List Float} → starts ≡ upto (start_of r pos) axis_codes
+    → spans ≡ upto (span_of r starts) axis_codes
     → (n : ℕ) → 1 ≤ n → {mask : ℕ} → mask ≡ drawn_mask gs r u v → {first : Bool} → first ≡ (n == 1)
     → {from place : ℕ} {l xs ys : List ℕ} → from + n * row_words ≤ length l
     → Rowing (mid_rows (axes_of gs) r mask (sample_word c u v starts spans) n) from (n - 1) l xs place

@@ -66,8 +66,9 @@ eval_basis b u =
 -- the samples, knot span by knot span
 unfoldable pub basis_samples : Bspline → List ℕ → Float → List Sample
 basis_samples b ms tol =
-    flatten (upto (λ (j : ℕ). samples (eval_basis b) ms tol depth (of_nat j) (eval_basis b (of_nat j)) (of_nat (j + 1)) (eval_basis b (of_nat (j +
-    1)))) (spans_of b))
+    flatten
+    (upto (λ (j : ℕ). samples (eval_basis b) ms tol depth (of_nat j) (eval_basis b (of_nat j)) (of_nat (j + 1)) (eval_basis b (of_nat (j + 1))))
+    (spans_of b))
 
 -- Greville value of control point i: the mean of the p knots after knot i
 unfoldable pub knot_sum : List Float → ℕ → ℕ → Float

@@ -22,8 +22,8 @@ samples-last b ms tol h =
     let e : suc (spans_of b - 1) ≡ spans_of b = omega arith in
     let g : spans_of b - 1 + 1 ≡ spans_of b = omega arith in
     subst (λ (k : ℕ). EndsWith (flatten (upto f k)) (last_sample b)) e
-    (subst (λ (k : ℕ). EndsWith (flatten (upto f (suc (spans_of b - 1)))) (record { time = of_nat k; point = eval_basis b (of_nat k) })) g (go
-    (spans_of b - 1)))
+    (subst (λ (k : ℕ). EndsWith (flatten (upto f (suc (spans_of b - 1)))) (record { time = of_nat k; point = eval_basis b (of_nat k) })) g
+    (go (spans_of b - 1)))
   where
     f : ℕ → List Sample
     f j = samples (eval_basis b) ms tol depth (of_nat j) (eval_basis b (of_nat j)) (of_nat (j + 1)) (eval_basis b (of_nat (j + 1)))

@@ -30,8 +30,8 @@ module _ (us vs : List Float) (m : ℕ) (same : (i : ℕ) → i < m → at us i 
   unfolding levels
   levels-same t p k d zero h g n = refl
   levels-same t p k d (suc r) h g n =
-      upto-below (raised_at (share us t p k (suc r)) (suc r) (levels us t p k d r)) (raised_at (share vs t p k (suc r)) (suc r) (levels us t p k d
-      r)) (length d)
+      upto-below (raised_at (share us t p k (suc r)) (suc r) (levels us t p k d r)) (raised_at (share vs t p k (suc r)) (suc r) (levels us t p k d r))
+      (length d)
       (λ j hj. raised_same (share us t p k (suc r)) (share vs t p k (suc r)) (suc r) (levels us t p k d r) j
       (share-same t p k (suc r) j h g (omega arith) (omega arith)))
       ∙ ap (λ (e : List Float). upto (raised_at (share vs t p k (suc r)) (suc r) e) (length d)) (levels-same t p k d r h g n)

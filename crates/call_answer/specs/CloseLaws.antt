@@ -12,8 +12,8 @@ use Rattle.spline_answer.specs.Held.{emission}
 use Rattle.call_answer.specs.Close.{close_rows, close_state, close_spec}
 
 -- ---- a close
-pub close-turned-is : (st store rows : List ℕ) → (saved_check st store ≡ 0 → ⊥) → close_spec st store rows ≡ untouched (plain (saved_check st store))
-    st store rows
+pub close-turned-is : (st store rows : List ℕ) → (saved_check st store ≡ 0 → ⊥)
+    → close_spec st store rows ≡ untouched (plain (saved_check st store)) st store rows
 unfolding close_spec close_rows
 close-turned-is st store rows d = cond-f _ _ (ne_eqb (saved_check st store) 0 d)
 

@@ -70,8 +70,8 @@ rows_are : (st store r : List ℕ) → push_rows st store r ≡ before (emits st
 unfolding push_rows
 rows_are st store r = by_bit (emits st r) (λ b. rw b) (λ b. rw b)
 
-pub turned-is : (st store rows r : List ℕ) → (push_check st store r ≡ 0 → ⊥) → push_spec st store rows r ≡ untouched (plain (push_check st store r))
-    st store rows
+pub turned-is : (st store rows r : List ℕ) → (push_check st store r ≡ 0 → ⊥)
+    → push_spec st store rows r ≡ untouched (plain (push_check st store r)) st store rows
 unfolding push_spec
 turned-is st store rows r d = cond-f _ _ (ne_eqb (push_check st store r) 0 d)
 

@@ -82,8 +82,8 @@ no_row row e = let z : ◌≡◌ {A = ℕ} 0 1 = cc in omega arith
 same_row : (a b : List ℕ) → ◌≡◌ {A = Option (List ℕ)} (some a) (some b) → b ≡ a
 same_row a b e = cc
 
-of_cells : (l m p : List ℕ) (n a b : ℕ) (cs : List (List ℕ)) (row : List ℕ) → Numbered l n → (word_at a ≡ m) × (a < 16) → (plane_text b ≡ p) ×
-    (plane_ok b ≡ true)
+of_cells : (l m p : List ℕ) (n a b : ℕ) (cs : List (List ℕ)) (row : List ℕ) → Numbered l n → (word_at a ≡ m) × (a < 16)
+    → (plane_text b ≡ p) × (plane_ok b ≡ true)
     → from_cells n a b cs ≡ some row
     → FieldsForm (l ∷ m ∷ p ∷ cs) row
 unfolding from_cells cells_ok

@@ -37,8 +37,8 @@ digit_clean c h = go (ltb c 48) refl h
 
 pub digits-clean : (t : List ℕ) → T (all_digits t) → T (clean t)
 digits-clean [] h = tt
-digits-clean (c ∷ t) h = and_i (clean_byte c) (clean t) (digit_clean c (and_l (is_digit c) (all_digits t) h)) (digits-clean t (and_r (is_digit c)
-    (all_digits t) h))
+digits-clean (c ∷ t) h =
+    and_i (clean_byte c) (clean t) (digit_clean c (and_l (is_digit c) (all_digits t) h)) (digits-clean t (and_r (is_digit c) (all_digits t) h))
 
 is-clean : (t : List ℕ) → clean t ≡ true → T (clean t)
 is-clean t e = subst T (sym e) tt

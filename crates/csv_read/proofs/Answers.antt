@@ -78,8 +78,8 @@ mask_is : (fs : List (List ℕ)) → masked fs column_count ≡ mask_of (cells_i
 unfolding masked mask_of cells_in cell_in upto
 mask_is fs = omega arith
 
-words_are : (l m p : ℕ) (fs : List (List ℕ)) (k : ℕ) → set (placed fs (blank l m p) column_count) r_present k ≡ l ∷ m ∷ p ∷ 0 ∷ 0 ∷ k ∷ map word_of
-    (cells_in fs)
+words_are : (l m p : ℕ) (fs : List (List ℕ)) (k : ℕ)
+    → set (placed fs (blank l m p) column_count) r_present k ≡ l ∷ m ∷ p ∷ 0 ∷ 0 ∷ k ∷ map word_of (cells_in fs)
 unfolding placed cells_in cell_in upto
 words_are l m p fs k = refl
 
@@ -120,8 +120,8 @@ module _ (t : List ℕ) (end : ℕ) (e : end ≡ 0 + reach (drop 0 t)) (row : Li
 
     pub motion-on : (c : ℕ) → Found.Code c ≡ motion_of (take end t) → (end ≡ length t → ⊥) → (row' : List ℕ) (r : Bool)
         → Answer (from_plane l c (parted (take (length t - (end + 1)) (drop (end + 1) t)))) row row' r → Answer (from_motion l (parted t)) row row' r
-    motion-on c q = go_on t end e (from_motion l) row (from_plane l c) (λ (fs : List (List ℕ)). ap (λ (f : Found). coded f (λ (c : ℕ). from_plane l c
-        fs)) (sym q))
+    motion-on c q =
+        go_on t end e (from_motion l) row (from_plane l c) (λ (fs : List (List ℕ)). ap (λ (f : Found). coded f (λ (c : ℕ). from_plane l c fs)) (sym q))
 
   pub line_bad : Line.Bad ≡ line_number (take end t) → Answer (read_row t) row row false
   unfolding read_row

@@ -134,8 +134,8 @@ module _ (ok : ℕ → Bool) (f : ℕ → List ℕ) (w : ℕ) where
       → (ok i ≡ true → length (f i) ≤ w) → Putting ok f w o n (i + 1) o'' a
   puts_on {o} {o'} {o''} {n} {i} {at} {r} a p e t = puts_more p (subst (λ (z : Placed). Tried (ok i) (f i) o' at o'' z) e t)
 
-  pub puts_off : {o o' o'' : List ℕ} {n i at : ℕ} {r : Placed} (k : ℕ) → Putting ok f w o n i o' at → i < k → r ≡ Placed.Refused → Tried (ok i) (f i)
-      o' at o'' r
+  pub puts_off : {o o' o'' : List ℕ} {n i at : ℕ} {r : Placed} (k : ℕ) → Putting ok f w o n i o' at → i < k → r ≡ Placed.Refused
+      → Tried (ok i) (f i) o' at o'' r
       → Tried (all k ok) (flatten (upto f k)) o n o'' Placed.Refused
   puts_off {o} {o'} {o''} {n} {i} {at} {r} k p h e t = puts_not k p h (subst (λ (z : Placed). Tried (ok i) (f i) o' at o'' z) e t)
 
@@ -264,8 +264,8 @@ pub cells-tried : {o o' : List ℕ} {n : ℕ} {r : Placed} (row : List ℕ)
     → Tried (all column_count (cell_shown row)) (flatten (upto (λ (i : ℕ). comma ∷ cell_text row i) column_count)) o n o' r
     → Tried (all column_count (cell_shown row)) (tailed (cell_texts row column_count)) o n o' r
 unfolding cell_texts
-cells-tried {o} {o'} {n} {r} row t = subst (λ (l : List ℕ). Tried (all column_count (cell_shown row)) l o n o' r) (sym (tailed-upto (cell_text row)
-    column_count)) t
+cells-tried {o} {o'} {n} {r} row t =
+    subst (λ (l : List ℕ). Tried (all column_count (cell_shown row)) l o n o' r) (sym (tailed-upto (cell_text row) column_count)) t
 
 pub in_five : {o o₁ o₂ o₃ o₄ o₅ : List ℕ} {n a b c d e : ℕ} (row : List ℕ) → Wrote o n (whole_text (line_of row)) o₁ a → Wrote o₁ a (comma ∷ []) o₂ b
     → Wrote o₂ b (word_at (motion_of row)) o₃ c → Wrote o₃ c (comma ∷ []) o₄ d

@@ -48,8 +48,8 @@ module _ (b : Bspline) where
     where
       go : (o' : ℕ) (t : Bool) → eqb o' (k + 1) ≡ t → 1 ≤ o'
           → get_or (counted (own_from b) o' ss (bumped l (o' - 1))) k 0 ≡ get_or (bumped l (o' - 1)) k 0 + length (run_of (owned b o' ss) k)
-          → get_or (counted (own_from b) o' ss (bumped l (o' - 1))) k 0 ≡ get_or l k 0 + length (run_of (record { owner = o'; point = s.point } ∷
-          owned b o' ss) k)
+          → get_or (counted (own_from b) o' ss (bumped l (o' - 1))) k 0
+          ≡ get_or l k 0 + length (run_of (record { owner = o'; point = s.point } ∷ owned b o' ss) k)
       go o' true e p ih =
           let is : o' ≡ k + 1 = eqb-true o' (k + 1) e in
           let j : o' - 1 ≡ k = omega arith in

@@ -128,14 +128,14 @@ module _ (ev : Float → List Float) (ms : List ℕ) (tol : Float) where
   pub write_none : (l : List ℕ) → Written l 0 (points_of (span_samples ev ms tol 0)) 0 l
   write_none l = rw spans_none (written_none l 0)
 
-  module _ (j : ℕ) (q0 q1 : List Float) {t u : Float} (et : t ≡ of_nat j) (eu : u ≡ of_nat (j + 1)) (e0 : q0 ≡ ev (of_nat j)) (e1 : q1 ≡ ev (of_nat
-      (j + 1))) where
-    pub write_room : {l : List ℕ} {r : ℕ} {xs : List ℕ} → 0 + words (j + 1) ≤ length l
-        → Written l 0 (points_of (span_samples ev ms tol j)) r xs
-        → r + length (encode (points_of (samples ev ms tol depth t q0 u q1))) ≤ length xs
-    write_room h w = room-second (points_of (samples ev ms tol depth t q0 u q1)) (points-more j q0 q1 et eu e0 e1) h w
+  module _ (j : ℕ) (q0 q1 : List Float) {t u : Float} (et : t ≡ of_nat j) (eu : u ≡ of_nat (j + 1)) (e0 : q0 ≡ ev (of_nat j)) (e1 : q1 ≡ ev (of_nat (j + 1)))
+    where
+      pub write_room : {l : List ℕ} {r : ℕ} {xs : List ℕ} → 0 + words (j + 1) ≤ length l
+          → Written l 0 (points_of (span_samples ev ms tol j)) r xs
+          → r + length (encode (points_of (samples ev ms tol depth t q0 u q1))) ≤ length xs
+      write_room h w = room-second (points_of (samples ev ms tol depth t q0 u q1)) (points-more j q0 q1 et eu e0 e1) h w
 
-    pub write_more : {l : List ℕ} {r r' : ℕ} {xs xs' : List ℕ} → 0 + words (j + 1) ≤ length l
-        → Written l 0 (points_of (span_samples ev ms tol j)) r xs → Written xs r (points_of (samples ev ms tol depth t q0 u q1)) r' xs'
-        → Written l 0 (points_of (span_samples ev ms tol (j + 1))) r' xs'
-    write_more h a b = written-two (points-more j q0 q1 et eu e0 e1) h a b
+      pub write_more : {l : List ℕ} {r r' : ℕ} {xs xs' : List ℕ} → 0 + words (j + 1) ≤ length l
+          → Written l 0 (points_of (span_samples ev ms tol j)) r xs → Written xs r (points_of (samples ev ms tol depth t q0 u q1)) r' xs'
+          → Written l 0 (points_of (span_samples ev ms tol (j + 1))) r' xs'
+      write_more h a b = written-two (points-more j q0 q1 et eu e0 e1) h a b

@@ -28,8 +28,8 @@ pub record Halves (ev : Float → List Float) (ms : List ℕ) (tol : Float) (lef
     (p1 pm : List Float) : Type 0 where
   pub some : left ≡ 0 → ⊥
   pub points : run ev ms tol left t0 p0 t1 p1 ≡ run ev ms tol (left - 1) t0 p0 (middle t0 t1) pm ++ run ev ms tol (left - 1) (middle t0 t1) pm t1 p1
-  pub lefts : lefts_of ev ms tol left t0 p0 t1 p1 ≡ lefts_of ev ms tol (left - 1) t0 p0 (middle t0 t1) pm ++ lefts_of ev ms tol (left - 1) (middle t0
-      t1) pm t1 p1
+  pub lefts : lefts_of ev ms tol left t0 p0 t1 p1
+      ≡ lefts_of ev ms tol (left - 1) t0 p0 (middle t0 t1) pm ++ lefts_of ev ms tol (left - 1) (middle t0 t1) pm t1 p1
 
 module _ (ev : Float → List Float) (ms : List ℕ) (tol : Float) (left : ℕ) (t0 : Float) (p0 : List Float) (t1 : Float) (p1 : List Float) where
   pub leaf_zero : left ≡ 0 → Leaf ev ms tol left t0 p0 t1 p1

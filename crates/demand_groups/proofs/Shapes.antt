@@ -90,8 +90,8 @@ module _ (gs r : List ℕ) (first : Bool) (motion : ℕ) (marked : Bool) (f : �
   made-past k l =
       let e : present_of (made_row gs r first motion marked f) ≡ mask_sum (λ (k : ℕ). is_some (made_cell gs r first f k)) cells =
       ap present_of (made-is gs r first motion marked f)
-      ∙ row-present (line_of r) (cond first motion 0) (cond first (plane_of r) 0) (cond marked 1 0) (cond first (carry_of r) 0) (made_cell gs r first
-      f) cells in
+      ∙ row-present (line_of r) (cond first motion 0) (cond first (plane_of r) 0) (cond marked 1 0) (cond first (carry_of r) 0) (made_cell gs r first f) cells
+      in
       cond-f _ none (ap (λ (p : ℕ). has p k) e ∙ has-past (mask_sum (λ (k : ℕ). is_some (made_cell gs r first f k)) cells) cells k (mask_lt _ cells) l)
 
   -- a listed axis shows its own number

@@ -51,8 +51,8 @@ no-points gs (r ∷ rs) (more f fs) e = by-point (has_point gs r) refl (no-point
         let z : suc (length (keep (has_point gs) (map out_row rs))) ≡ 0 =
         sym
         (ap length
-        (cond-t (out_row r ∷ keep (has_point gs) (map out_row rs)) (keep (has_point gs) (map out_row rs)) (out-point gs r (shape-present r
-        (check-shape r f)) ∙ y)))
+        (cond-t (out_row r ∷ keep (has_point gs) (map out_row rs)) (keep (has_point gs) (map out_row rs))
+        (out-point gs r (shape-present r (check-shape r f)) ∙ y)))
         ∙ e in
         absurd (omega arith)
     by-point false y rest =
@@ -60,8 +60,8 @@ no-points gs (r ∷ rs) (more f fs) e = by-point (has_point gs r) refl (no-point
         ∙ rest
         (sym
         (ap length
-        (cond-f (out_row r ∷ keep (has_point gs) (map out_row rs)) (keep (has_point gs) (map out_row rs)) (out-point gs r (shape-present r
-        (check-shape r f)) ∙ y)))
+        (cond-f (out_row r ∷ keep (has_point gs) (map out_row rs)) (keep (has_point gs) (map out_row rs))
+        (out-point gs r (shape-present r (check-shape r f)) ∙ y)))
         ∙ e)
 
 -- a B-spline's block with a point, and none of those to come with one, as the store holds them

@@ -153,8 +153,8 @@ module _ (st : List ℕ) (k x : ℕ) (g : Good st) (on : member k (geometric st)
       ap₂ (λ (a z : Bool). not a || z)
       (ap (λ (n : ℕ). has n j) (placed-mask st g.long k x small) ∙ with-other (get_or st w_known 0) k j d)
       (ap₂ (λ (gs : List ℕ) (y : ℕ). member j gs && within y) same-gs (placed-keeps st k x (w_known + 1 + j) (λ e. omega arith) (λ e. d (omega arith))))
-      ∙ all-at axis_codes (point_at_ok st w_known) j (and_right (ltb (get_or st w_known 0) (2 ^ axis_codes)) (all axis_codes (point_at_ok st
-      w_known)) g.known) l)
+      ∙ all-at axis_codes (point_at_ok st w_known) j (and_right (ltb (get_or st w_known 0) (2 ^ axis_codes)) (all axis_codes (point_at_ok st w_known)) g.known)
+      l)
 
   placed-point : point_ok (placed st k x) w_known ≡ true
   unfolding point_ok
@@ -336,8 +336,8 @@ module _ (st r : List ℕ) (g : Good st) (curve : is_spline (motion_now st) ≡ 
   good-buffered =
       let w : (j : ℕ) → (j ≡ w_held → ⊥) → get_or (set powered w_held (held st + 1)) j 0 ≡ get_or powered j 0 =
       λ j d. get_or-set_other powered w_held j (held st + 1) 0 d in
-      let m : motion_now (set powered w_held (held st + 1)) ≡ motion_now st = ap motion_now (sym buffered-is) ∙ buffered-low st r g.long w_motion
-      (omega arith) in
+      let m : motion_now (set powered w_held (held st + 1)) ≡ motion_now st =
+      ap motion_now (sym buffered-is) ∙ buffered-low st r g.long w_motion (omega arith) in
       let c : held (set powered w_held (held st + 1)) ≡ held st + 1 = ap held (sym buffered-is) ∙ buffered-held st r g.long in
       subst Good (sym buffered-is)
       (good-set powered w_held (held st + 1) good-powered (omega arith) (λ j l e. omega arith) (λ j l e. omega arith)
@@ -378,8 +378,8 @@ or_now-motion v now h p =
     (λ b. rw b p)
     (λ b. let d : v ≡ 0 → ⊥ = eqb-false v 0 b in rw b (and_i (le-leb 1 v (omega (arith, d))) (le-leb v last_motion h)))
 
-or_now-plane : (v now : ℕ) → plane_ok v ≡ true → (leb plane_xy now && leb now plane_yz) ≡ true → (leb plane_xy (or_now v now) && leb (or_now v now)
-    plane_yz) ≡ true
+or_now-plane : (v now : ℕ) → plane_ok v ≡ true → (leb plane_xy now && leb now plane_yz) ≡ true
+    → (leb plane_xy (or_now v now) && leb (or_now v now) plane_yz) ≡ true
 unfolding or_now plane_ok
 or_now-plane v now h p = by_bit (eqb v 0) (λ b. rw b p) (λ b. rw b (sym (or_f (leb plane_xy v && leb v plane_yz) b) ∙ h))
 
@@ -461,8 +461,8 @@ module _ (st r : List ℕ) (ok : state_ok st ≡ true) (pass : row_check r ≡ 0
     good-warned =
         let w : (j : ℕ) → (j ≡ w_warned → ⊥) → get_or warned j 0 ≡ get_or (laid st r) j 0 =
         λ j d. get_or-set_other (laid st r) w_warned j (with_bit (get_or (laid st r) w_warned 0) (motion_of r)) 0 d in
-        good-set (laid st r) w_warned (with_bit (get_or (laid st r) w_warned 0) (motion_of r)) good-laid (omega arith) (λ j l e. omega arith) (λ j l
-        e. omega arith)
+        good-set (laid st r) w_warned (with_bit (get_or (laid st r) w_warned 0) (motion_of r)) good-laid (omega arith) (λ j l e. omega arith)
+        (λ j l e. omega arith)
         (record {
           motion = word-motion (laid st r) warned (w w_motion (λ e. omega arith)) good-laid;
           plane = word-plane (laid st r) warned (w w_plane (λ e. omega arith)) good-laid;
@@ -485,8 +485,8 @@ or_now-own : (v now : ℕ) → (eqb v 0 || eqb v (or_now v now)) ≡ true
 unfolding or_now
 or_now-own v now = by_bit (eqb v 0) (λ b. rw b) (λ b. rw b (eq-eqb v v refl))
 
-saved-from : (st store : List ℕ) → state_ok st ≡ true → held st * row_words ≤ length store → all (held st) (held_row_ok st store) ≡ true →
-    saved_check st store ≡ 0
+saved-from : (st store : List ℕ) → state_ok st ≡ true → held st * row_words ≤ length store → all (held st) (held_row_ok st store) ≡ true
+    → saved_check st store ≡ 0
 unfolding saved_check store_ok
 saved-from st store a b c = rw (a, le-leb (held st * row_words) (length store) b, c)
 

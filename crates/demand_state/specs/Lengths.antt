@@ -23,8 +23,8 @@ use Rattle.demand_state.specs.Accepted.{Pushed}
 -- ---- the state
 pub placed-length : (st : List ℕ) (k x : ℕ) → length (placed st k x) ≡ length st
 unfolding placed
-placed-length st k x = length-set (set st w_known (with_bit (get_or st w_known 0) k)) (w_known + 1 + k) x ∙ length-set st w_known (with_bit (get_or
-    st w_known 0) k)
+placed-length st k x =
+    length-set (set st w_known (with_bit (get_or st w_known 0) k)) (w_known + 1 + k) x ∙ length-set st w_known (with_bit (get_or st w_known 0) k)
 
 pub track_length : (n : ℕ) (st r : List ℕ) → length (track_to n st r) ≡ length st
 unfolding track_to
@@ -46,16 +46,16 @@ unfolding opened
 opened-length st e =
     let p : List ℕ = upto (λ (k : ℕ). Option.get_or (position st k) 0) axis_codes in
     let n : length p ≡ axis_codes = length-upto _ _ in
-    length-set (spliced st w_start (get_or st w_known 0 ∷ p)) w_degree plain_degree ∙ length-spliced st w_start (get_or st w_known 0 ∷ p) (omega
-    (arith, e, n)) ∙ e
+    length-set (spliced st w_start (get_or st w_known 0 ∷ p)) w_degree plain_degree ∙ length-spliced st w_start (get_or st w_known 0 ∷ p) (omega (arith, e, n))
+    ∙ e
 
 buffered-length : (st r : List ℕ) → length st ≡ state_words → length (buffered st r) ≡ state_words
 unfolding buffered
 buffered-length st r e =
     let s : List ℕ = cond (eqb (held st) 0) (opened st) st in
     let n : length s ≡ state_words = cond_both (λ (s : List ℕ). length s ≡ state_words) (eqb (held st) 0) (opened-length st e) e in
-    length-set (set s w_degree (degree_with (degree s) (number r c_sd))) w_held (held st + 1) ∙ length-set s w_degree (degree_with (degree s) (number
-    r c_sd)) ∙ n
+    length-set (set s w_degree (degree_with (degree s) (number r c_sd))) w_held (held st + 1) ∙ length-set s w_degree (degree_with (degree s) (number r c_sd))
+    ∙ n
 
 -- the steps of a push on the state, one by one: emission, the words, the buffer, the word warned of
 unfoldable pub emptied : List ℕ → List ℕ → List ℕ
@@ -82,8 +82,8 @@ module _ (st r : List ℕ) (e : length st ≡ state_words) where
   pub worded-length : length (worded st r) ≡ state_words
   unfolding worded
   worded-length =
-      length-set (set (emptied st r) w_motion (motion_then st r)) w_plane (plane_then st r) ∙ length-set (emptied st r) w_motion (motion_then st r) ∙
-      emptied-length
+      length-set (set (emptied st r) w_motion (motion_then st r)) w_plane (plane_then st r) ∙ length-set (emptied st r) w_motion (motion_then st r)
+      ∙ emptied-length
 
   laid-length : length (laid st r) ≡ state_words
   unfolding laid

@@ -102,8 +102,8 @@ module _ (st r : List ℕ) (n : length st ≡ state_words) where
 
   buffered-start : (k : ℕ) → k < axis_codes → curve_start (buffered st r) k ≡ curve_start base k
   unfolding point_word
-  buffered-start k h = ap₂ (λ (a b : ℕ). cond (has a k) (some b) none) (buffered-between w_start (omega arith)) (buffered-between (w_start + 1 + k)
-      (omega arith))
+  buffered-start k h =
+      ap₂ (λ (a b : ℕ). cond (has a k) (some b) none) (buffered-between w_start (omega arith)) (buffered-between (w_start + 1 + k) (omega arith))
 
   -- the first of a spline, and a later one
   pub first-degree : held st ≡ 0 → degree (buffered st r) ≡ degree_with plain_degree (number r c_sd)
@@ -249,8 +249,8 @@ module _ (st r : List ℕ) (n : length st ≡ state_words) where
   laid-low : (j : ℕ) → j < w_start → get_or (laid st r) j 0 ≡ get_or (worded st r) j 0
   unfolding laid
   laid-low j h =
-      cond_both (λ (s : List ℕ). get_or s j 0 ≡ get_or (worded st r) j 0) (is_spline (motion_then st r)) (buffered-low (worded st r) r (worded-length
-      st r n) j h)
+      cond_both (λ (s : List ℕ). get_or s j 0 ≡ get_or (worded st r) j 0) (is_spline (motion_then st r))
+      (buffered-low (worded st r) r (worded-length st r n) j h)
       refl
 
   -- every word of a push but the positions
@@ -284,8 +284,8 @@ module _ (st r : List ℕ) (n : length st ≡ state_words) where
   told-position : (k : ℕ) → k < axis_codes → position (told st r) k ≡ position st k
   unfolding point_word
   told-position k h =
-      ap₂ (λ (a b : ℕ). cond (has a k) (some b) none) (told-known w_known (omega arith) (omega arith)) (told-known (w_known + 1 + k) (omega arith)
-      (omega arith))
+      ap₂ (λ (a b : ℕ). cond (has a k) (some b) none) (told-known w_known (omega arith) (omega arith))
+      (told-known (w_known + 1 + k) (omega arith) (omega arith))
 
   told-low : (j : ℕ) → j < w_motion → get_or (told st r) j 0 ≡ get_or st j 0
   told-low j h = told-else j (λ e. omega arith) ∙ laid-low j (omega arith) ∙ worded-else j (λ e. omega arith) (λ e. omega arith) ∙ emptied-low j (omega arith)

@@ -132,8 +132,8 @@ module _ (tol : ℕ) (gs : List ℕ) (small : (k : ℕ) → member k gs ≡ true
       spline_group =
           subst (Group gs r _) (sym (cond-t _ _ y ∙ group_is))
           (came_shaped gs r
-          (held_shaped whole (map out_row (goes_on s r)) (out_row r) (map out_row later) blocks_are all-fine (ranged_block gs small s r f q).start
-          small few-blocks
+          (held_shaped whole (map out_row (goes_on s r)) (out_row r) (map out_row later) blocks_are all-fine (ranged_block gs small s r f q).start small
+          few-blocks
           (last-point gs (with_block gs s r).motion r (together (with_block gs s r).motion es) f rest)))
 
   -- every piece

@@ -9,8 +9,8 @@ use Rattle.demands.specs.Demand1.{demand1}
 use Rattle.demands.specs.Demands.{answer, NoTrace}
 
 -- a refused call leaves the state and the store
-pub refused-leaves : (st store : List ℕ) (c : Call) → accepts (answer st store c) ≡ false → ((answer st store c).state ≡ st) × ((answer st store
-    c).store ≡ store)
+pub refused-leaves : (st store : List ℕ) (c : Call) → accepts (answer st store c) ≡ false
+    → ((answer st store c).state ≡ st) × ((answer st store c).store ≡ store)
 unfolding answer
 refused-leaves st store (pushing rows r) f =
     let k : ((push_spec st store rows r).state ≡ st) × ((push_spec st store rows r).store ≡ store) × ((push_spec st store rows r).rows ≡ rows) =

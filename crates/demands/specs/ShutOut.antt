@@ -63,8 +63,8 @@ computed = refl
 
 -- the first word of answer i
 word : (i : ℕ)
-    → get_or (get_or (((pushed_line 1).reply.code ∷ []) ∷ (pushed_line 1).rows ∷ (pushed_line 2).rows ∷ pushed_next.rows ∷ ((pushed_line
-    2).reply.code ∷ []) ∷ []) i
+    → get_or
+    (get_or (((pushed_line 1).reply.code ∷ []) ∷ (pushed_line 1).rows ∷ (pushed_line 2).rows ∷ pushed_next.rows ∷ ((pushed_line 2).reply.code ∷ []) ∷ []) i
     []) 0 0
     ≡ get_or (get_or ((0 ∷ []) ∷ line 1 ∷ line 2 ∷ line 2 ∷ (0 ∷ []) ∷ []) i []) 0 0
 word i = ap (λ (l : List (List ℕ)). get_or (get_or l i []) 0 0) computed

@@ -190,8 +190,8 @@ module _ (sp : Spline) (B : List (List ℕ)) (r : List ℕ) (M : List (List ℕ)
           let e : run ≡ get_or fit (length X) [] = ap (λ (l : List (List (List Float))). get_or l (length X) []) (runs_is ∙ cond-f bas fit b) in
           ⊎_elim
           (λ (z : get_or fit (length X) [] ≡ []). absurd (has (ap length (e ∙ z))))
-          (λ (z : EndsWith (get_or fit (length X) []) (point_of pts (length X + 1))). ap (λ (l : List (List Float)). get_or l (length l - 1) []) e ∙
-          ends_last z [])
+          (λ (z : EndsWith (get_or fit (length X) []) (point_of pts (length X + 1))). ap (λ (l : List (List Float)). get_or l (length l - 1) []) e
+          ∙ ends_last z [])
           (fit-ends (is_cubic sp.motion) (metric_of (channels sp)) sp.tol pts (length X) run-within)
 
       -- a B-spline's last: the curve's end

@@ -89,8 +89,8 @@ place-of k (c ∷ cs) m = by_first (eqb c k) refl (place-of k cs)
     by_first false e rest = there k c cs e (rest (rw e at m))
 
 -- the number of a programmed channel of a point
-pub point-number : (cs : List ℕ) (p : List Float) (r : List ℕ) (k v : ℕ) → member k cs ≡ true → cell r k ≡ some v → at (next_point cs p r) (place_of
-    k cs) ≡ num v
+pub point-number : (cs : List ℕ) (p : List Float) (r : List ℕ) (k v : ℕ) → member k cs ≡ true → cell r k ≡ some v
+    → at (next_point cs p r) (place_of k cs) ≡ num v
 unfolding next_point number
 point-number cs p r k v m e =
     let q : Placed k cs = place-of k cs m in

@@ -186,8 +186,8 @@ module _ {tol : ℕ} {gs : List ℕ} {s : Standing} {st store : List ℕ} (t : S
         how = pushes r p;
         stands = push-stands r t p;
         adds = λ es. push-adds r t p es
-            ∙ ap (λ (l : List ℕ). l ++ words (to_come tol gs (with_block gs s r) es)) (sym (take-written rows (push_rows st store r) (push_rows-long
-            st store r)));
+            ∙ ap (λ (l : List ℕ). l ++ words (to_come tol gs (with_block gs s r) es))
+            (sym (take-written rows (push_rows st store r) (push_rows-long st store r)));
       })
 
   close-rows : Saved st store → close_rows st store ≡ flatten (opened tol gs s)

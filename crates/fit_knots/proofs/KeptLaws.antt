@@ -43,8 +43,8 @@ last-kept ts i {l} {xs} {m} q =
     rw (q.is, q.count) (get_or-append (kept_to ts i) (drop (length (kept_to ts i)) l) 0 (length (kept_to ts i) - 1) (omega arith))
 
 -- the times of the kept points never fall
-pub kept-rising : (ts : List Float) (i k : ℕ) → k + 1 < length (kept_to ts i) → le (at ts (get_or (kept_to ts i) k 0)) (at ts (get_or (kept_to ts i)
-    (k + 1) 0)) ≡ true
+pub kept-rising : (ts : List Float) (i k : ℕ) → k + 1 < length (kept_to ts i)
+    → le (at ts (get_or (kept_to ts i) k 0)) (at ts (get_or (kept_to ts i) (k + 1) 0)) ≡ true
 unfolding kept_to
 kept-rising ts zero k h = absurd (omega arith)
 kept-rising ts (suc i) k h = go (grown ts (last_of (kept_to ts i)) (i + 1)) refl (kept-rising ts i k) h

@@ -59,8 +59,8 @@ module _ (t : List ℕ) where
 
   pub plain-within : (n : ℕ) → marked_end t ≡ Marked.Plain n → n ≤ length t
   unfolding marked_end
-  plain-within n e = go (ltb (length t) 2) (eqb (get_or t (length t - 1) 0) comma) (eqb (get_or t (length t - 1) 0) 49) (eqb (get_or t (length t - 2)
-      0) comma) e
+  plain-within n e =
+      go (ltb (length t) 2) (eqb (get_or t (length t - 1) 0) comma) (eqb (get_or t (length t - 1) 0) 49) (eqb (get_or t (length t - 2) 0) comma) e
     where
       go : (a b c d : Bool) → ends a b c d ≡ Marked.Plain n → n ≤ length t
       go true b c d e = let z : ◌≡◌ {A = ℕ} 0 1 = cc in omega arith
@@ -71,8 +71,8 @@ module _ (t : List ℕ) where
 
   pub sample_within : (n : ℕ) → marked_end t ≡ Marked.Sample n → n ≤ length t
   unfolding marked_end
-  sample_within n e = go (ltb (length t) 2) (eqb (get_or t (length t - 1) 0) comma) (eqb (get_or t (length t - 1) 0) 49) (eqb (get_or t (length t -
-      2) 0) comma) e
+  sample_within n e =
+      go (ltb (length t) 2) (eqb (get_or t (length t - 1) 0) comma) (eqb (get_or t (length t - 1) 0) 49) (eqb (get_or t (length t - 2) 0) comma) e
     where
       go : (a b c d : Bool) → ends a b c d ≡ Marked.Sample n → n ≤ length t
       go true b c d e = let z : ◌≡◌ {A = ℕ} 0 1 = cc in omega arith

@@ -55,8 +55,8 @@ module _ {A : Type 0} (f : ℕ → A) where
   past-filled l n k d h =
       let e : k ≡ length (upto f n) + (k - n) = rw (length-upto n) (omega arith) in
       let g : n + (k - n) ≡ k = omega arith in
-      ap (λ (j : ℕ). get_or (filled f n l) j d) e ∙ get_or-append-add (upto f n) (drop n l) (k - n) d ∙ get_or-drop n l (k - n) d ∙ ap (λ (j : ℕ).
-      get_or l j d) g
+      ap (λ (j : ℕ). get_or (filled f n l) j d) e ∙ get_or-append-add (upto f n) (drop n l) (k - n) d ∙ get_or-drop n l (k - n) d
+      ∙ ap (λ (j : ℕ). get_or l j d) g
 
 pub upto-same : {A : Type 0} (f g : ℕ → A) → ((k : ℕ) → f k ≡ g k) → (n : ℕ) → upto f n ≡ upto g n
 unfolding upto

@@ -6,10 +6,11 @@ ghost use Rattle.io.specs.Counts.{IsPrefixLen};
 
 use csv_figures::{put_byte, put_whole};
 use csv_line::put_bytes;
+use csv_status::is_written;
 use night_path::{MOST_PATH, argument, name_of};
 use std::fs;
 use std::fs::{File, OpenOptions};
-use std::io::{Seek, SeekFrom, Write};
+use std::io::{Seek, SeekFrom};
 use std::os::unix::fs::FileExt;
 
 // Room for a path: DIR, a slash, a name, and what stands behind it. One over 4,095 bytes cannot be opened.
@@ -196,12 +197,6 @@ pub fn cut_at(file: &File, at: u64) -> bool {
     cut_back(file, place_of(at))
 }
 
-// All the bytes go to a file, or it is no place for them.
-pub fn put_all(file: &File, bytes: &[u8]) -> bool {
-    let mut to = file;
-    to.write_all(bytes).is_ok()
-}
-
 // Reads once from a place of a file on, and answers how many bytes came: none where it cannot be read.
 fn read_from(file: &File, at: u64, buf: &mut [u8]) -> usize
     ensures { IsPrefixLen result buf.new }
@@ -289,7 +284,8 @@ pub fn headed(file: &File, header: &[u8]) -> bool {
             if !cut_at(file, 0) {
                 return false;
             }
-            put_all(file, header)
+            let mut to = file;
+            is_written(&mut to, header)
         }
         Head::Other => false,
     }

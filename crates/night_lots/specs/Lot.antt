@@ -23,5 +23,5 @@ not_tried = 4
 -- a job that is not done with (11.12) is not tried, or not to its end
 unfoldable pub lot_of : ℕ → ℕ → ℕ → ℕ
 lot_of m tries tolerances =
-    cond (has m b_final) (cond (has m b_first) at_first when_coarser) (cond (is_over m tries tolerances) (cond (has m b_closed) never_passed
-    not_closed) not_tried)
+    cond (has m b_final) (cond (has m b_first) at_first when_coarser)
+    (cond (is_over m tries tolerances) (cond (has m b_closed) never_passed not_closed) not_tried)

@@ -5,6 +5,7 @@ ghost use Rattle.std.specs.Prelude.{◌≡◌, ◌+◌, ◌<◌, ◌≤◌, leng
 ghost use Rattle.night_columns.specs.Columns.{columns};
 
 use csv_line::{End, put_bytes, text_end};
+use csv_status::is_written;
 use night_args::{end_from, field_from};
 use night_columns::{C_FILE, C_JOB, C_TOLERANCE, C_TRY, COLUMNS};
 use night_command::{Command, MOST_FILES};
@@ -19,11 +20,6 @@ use night_table::read_line;
 use night_tried::tries_of;
 use std::fs::File;
 use tally_words::{B_CLOSED, B_FINAL, B_FIRST};
-
-// All the bytes on standard output, or it is no place for them.
-fn print_all(rt: &HostRuntime, bytes: &[u8]) -> bool {
-    rt.stdout().write_all(bytes).is_ok()
-}
 
 // Whether the try of these numbers is the last one of a job in a lot, by its mark and the word of its tries.
 fn stands_in(lot: u64, tolerances: u64, numbers: &[u64], mark: u64, word: u64) -> bool
@@ -104,7 +100,7 @@ fn print_job(rt: &HostRuntime, text: &[u8], lot: u64, numbers: &[u64]) -> bool
         put_job(&mut out, lot, &text[from..end], &text[start..stop], numbers),
         &out,
     );
-    print_all(rt, &out[..n])
+    is_written(&mut rt.stdout(), &out[..n])
 }
 
 // A line of tries with its end.
@@ -181,7 +177,7 @@ fn print_count(rt: &HostRuntime, what: &[u8], a: u64) -> bool
 {
     let mut out = [0u8; 512];
     let n = within(put_count(&mut out, what, a), &out);
-    print_all(rt, &out[..n])
+    is_written(&mut rt.stdout(), &out[..n])
 }
 
 fn print_rate(rt: &HostRuntime, what: &[u8], a: u64, b: u64) -> bool
@@ -189,7 +185,7 @@ fn print_rate(rt: &HostRuntime, what: &[u8], a: u64, b: u64) -> bool
 {
     let mut out = [0u8; 512];
     let n = within(put_rate(&mut out, what, a, b), &out);
-    print_all(rt, &out[..n])
+    is_written(&mut rt.stdout(), &out[..n])
 }
 
 // The line of a job that was not tried to its end, whose FILE is argument i.
@@ -200,7 +196,7 @@ fn print_tried(rt: &HostRuntime, i: usize, tries: u64, tolerances: u64) -> bool 
     let a = put_bytes(&mut out, 0, b"  ");
     let b = put_bytes(&mut out, a, &path[..n]);
     let m = within(put_tried(&mut out, b, tries, tolerances), &out);
-    print_all(rt, &out[..m])
+    is_written(&mut rt.stdout(), &out[..m])
 }
 
 // The same for the job at a place among the files, where it was not.

@@ -4,11 +4,12 @@
 ghost use Rattle.std.specs.Prelude.{◌≡◌, length};
 ghost use Rattle.night_columns.specs.Columns.{columns};
 
+use csv_status::is_written;
 use night_args::{end_from, field_from};
 use night_columns::{C_CLOSED, C_CURVED, C_JOB, C_PASSED, C_TRY, COLUMNS};
 use night_command::{Command, LIST_ROOM, MOST_FILES};
 use night_files::{
-    OVERWRITE, PATH_ROOM, READ, cut_back, open_in, open_path, place_in, put_all, put_part_name,
+    OVERWRITE, PATH_ROOM, READ, cut_back, open_in, open_path, place_in, put_part_name,
     put_rows_name, remove_in, rename_in, within,
 };
 use night_lines::TRY_ROOM;
@@ -355,7 +356,8 @@ fn add_line(file: &File, numbers: &[u64], path: &[u8], list: &[u8], i: usize) ->
     }
     let mut out = [0u8; TRY_ROOM];
     let n = within(put_line(&mut out, 0, numbers, path, &list[from..end]), &out);
-    put_all(file, &out[..n])
+    let mut to = file;
+    is_written(&mut to, &out[..n])
 }
 
 fn counted(rt: &HostRuntime, night: &Night, next: Next, numbers: &[u64]) -> bool

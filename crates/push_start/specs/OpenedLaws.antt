@@ -58,8 +58,8 @@ same-spliced st i ws h l = record { long = length-spliced st i ws l; low = λ j 
 pub placed-keeps : (st : List ℕ) (k x j : ℕ) → (j ≡ w_known → ⊥) → (j ≡ w_known + 1 + k → ⊥) → get_or (placed st k x) j 0 ≡ get_or st j 0
 unfolding placed
 placed-keeps st k x j a b =
-    get_or-set_other (set st w_known (with_bit (get_or st w_known 0) k)) (w_known + 1 + k) j x 0 b ∙ get_or-set_other st w_known j (with_bit (get_or
-    st w_known 0) k) 0 a
+    get_or-set_other (set st w_known (with_bit (get_or st w_known 0) k)) (w_known + 1 + k) j x 0 b
+    ∙ get_or-set_other st w_known j (with_bit (get_or st w_known 0) k) 0 a
 
 -- ---- the curve start, forgotten and opened
 abbrev pub none-at : ℕ → ℕ

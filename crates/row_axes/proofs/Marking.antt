@@ -33,8 +33,8 @@ pub marking_none : (codes : List ℕ) → Marking codes 0 0
 marking_none codes = record { small = omega arith; marks = λ k l. rw (has-none k) }
 
 module _ (codes : List ℕ) (i m : ℕ) (s : Marking codes i m) where
-  pub marking_more : {next : ℕ} → next ≡ cond (ltb (get_or codes i 0) axis_codes) (with_bit m (get_or codes i 0)) m → i < length codes → Marking
-      codes (i + 1) next
+  pub marking_more : {next : ℕ} → next ≡ cond (ltb (get_or codes i 0) axis_codes) (with_bit m (get_or codes i 0)) m → i < length codes
+      → Marking codes (i + 1) next
   marking_more f h = rw f (by_bit (ltb (get_or codes i 0) axis_codes)
       (λ b. rw b (record {
         small = with-lt m (get_or codes i 0) axis_codes s.small (ltb-true (get_or codes i 0) axis_codes b);

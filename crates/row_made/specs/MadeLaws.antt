@@ -43,8 +43,8 @@ made-has gs r false mask ws k = shown-there mask ws k
 
 pub made-words : (gs r : List ℕ) (first : Bool) (motion : ℕ) (marked : Bool) (mask : ℕ) (ws : List ℕ)
     → made_row gs r first motion marked (shown mask ws)
-    ≡ (line_of r ∷ cond first motion 0 ∷ cond first (plane_of r) 0 ∷ cond marked 1 0 ∷ cond first (carry_of r) 0 ∷ mask_sum (made_has gs r first
-    mask) cells ∷ [])
+    ≡ (line_of r ∷ cond first motion 0 ∷ cond first (plane_of r) 0 ∷ cond marked 1 0 ∷ cond first (carry_of r) 0 ∷ mask_sum (made_has gs r first mask) cells
+    ∷ [])
     ++ upto (made_word gs r first (shown mask ws)) cells
 made-words gs r first motion marked mask ws =
     made-is gs r first motion marked (shown mask ws)

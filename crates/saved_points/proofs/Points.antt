@@ -25,8 +25,8 @@ point-none st w e =
     and_i (lt-ltb (get_or st w 0) axis_masks (omega (arith, e)))
     (all_intro axis_codes (point_at_ok st w) (λ k h. point-absent st w k (rw e (has-none k))))
 
-pub point-there : (st : List ℕ) (w gs k : ℕ) → PointOf st w gs → has (get_or st w 0) k ≡ true → point_at_ok st w k ≡ (has gs k && within (get_or st
-    (w + 1 + k) 0))
+pub point-there : (st : List ℕ) (w gs k : ℕ) → PointOf st w gs → has (get_or st w 0) k ≡ true
+    → point_at_ok st w k ≡ (has gs k && within (get_or st (w + 1 + k) 0))
 unfolding point_at_ok
 point-there st w gs k p h =
     or_f _ (ap not h) ∙ ap (λ (b : Bool). b && within (get_or st (w + 1 + k) 0)) (sym (ap (λ (m : ℕ). has m k) p.axes ∙ mask-has-axis st k))

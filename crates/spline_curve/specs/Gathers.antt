@@ -27,8 +27,8 @@ use Rattle.spline_job.specs.Jobs.{drawing_of}
 module _ (axes : List ℕ) (blocks : List (List ℕ)) (o : Once axes) where
   chan_good : Good (geometric_of axes) (channels_from (geometric_of axes) [] blocks)
   unfolding geometric_of
-  chan_good = channels-good (geometric_of axes) [] blocks (distinct-keep (λ (k : ℕ). ltb k axis_codes) axes (once-distinct axes o)) (none-good
-      (geometric_of axes))
+  chan_good =
+      channels-good (geometric_of axes) [] blocks (distinct-keep (λ (k : ℕ). ltb k axis_codes) axes (once-distinct axes o)) (none-good (geometric_of axes))
 
   pub chan_below : (k : ℕ) → member k (channels_from (geometric_of axes) [] blocks) ≡ true → k < axis_codes
   chan_below k m = geometric-few axes k (chan_good.inside k m)

@@ -214,8 +214,8 @@ module _ (s : Spline) (runs : List (List (List Float))) (o : Frame) (places coun
   block-rows false j r g = refl
   block-rows true j r g = one (eqb (get_or counts j 0) 0)
     where
-      one : (b : Bool) → length (cond b (bare_row o j r ∷ []) (upto (raw_row o places j (get_or counts j 0) r g) (get_or counts j 0))) ≡ cond b 1
-          (get_or counts j 0)
+      one : (b : Bool)
+          → length (cond b (bare_row o j r ∷ []) (upto (raw_row o places j (get_or counts j 0) r g) (get_or counts j 0))) ≡ cond b 1 (get_or counts j 0)
       one true = refl
       one false = length-upto (raw_row o places j (get_or counts j 0) r g) (get_or counts j 0)
 

@@ -226,8 +226,8 @@ unfolding next_point next_at
 next-is cs p r k e = rw e
 
 module _ (cs row : List ℕ) (xs : List Float) (n : ℕ) (before : length cs ≤ n) (room : n + length cs ≤ length xs) where
-  pub next-step : (c : ℕ) {ys : List Float} {v old : Float} → c < length cs → old ≡ at ys (n - length cs + c) → v ≡ Option.get_or (number row (get_or
-      cs c 0)) old
+  pub next-step : (c : ℕ) {ys : List Float} {v old : Float} → c < length cs → old ≡ at ys (n - length cs + c)
+      → v ≡ Option.get_or (number row (get_or cs c 0)) old
       → Appended (upto (next_at cs (point_before cs n xs) row) c) n xs ys (n + c)
       → Appended (upto (next_at cs (point_before cs n xs) row) (c + 1)) n xs (set ys (n + c) v) (n + (c + 1))
   unfolding next_at
@@ -248,8 +248,8 @@ module _ (axes store cs : List ℕ) (held : ℕ) (start : ℕ → Option ℕ) wh
   first : List Float
   first = map (start_value start (upto (block_at store) held)) cs
 
-  pub points_are : (xs ys zs ws us : List Float) (n : ℕ) → 0 < length ws → Appended (map (start_value start (upto (block_at store) held)) cs) 0 xs ys
-      (length cs)
+  pub points_are : (xs ys zs ws us : List Float) (n : ℕ) → 0 < length ws
+      → Appended (map (start_value start (upto (block_at store) held)) cs) 0 xs ys (length cs)
       → PointsPut axes store held cs ys zs n → WeightsPut axes store held (set ws 0 f1) us n
       → PointsAre (geometric_of axes) start (upto (block_at store) held) cs zs us n
   unfolding first

@@ -28,5 +28,5 @@ module _ {o : Frame} {places : List ℕ} {p : Place} {c : ℕ} {row xs : List �
 
 -- a mask of axes has no bit past them
 pub bit_below : (m k : ℕ) → m < axis_masks → has m k ≡ true → k < axis_codes
-bit_below m k h e = ⊎_elim (λ (l : k < axis_codes). l) (λ (g : axis_codes ≤ k). absurd (true≢false (sym e ∙ has-past m axis_codes k h g))) (lt_or_le
-    k axis_codes)
+bit_below m k h e =
+    ⊎_elim (λ (l : k < axis_codes). l) (λ (g : axis_codes ≤ k). absurd (true≢false (sym e ∙ has-past m axis_codes k h g))) (lt_or_le k axis_codes)

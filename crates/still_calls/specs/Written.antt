@@ -41,8 +41,8 @@ module _ (st store : List ℕ) (p : Saved st store) where
   unfolding held_row_ok
   row_holdable i h =
       let r : List ℕ = held_row store i in
-      let ok : (eqb (row_check r) 0 && (eqb (motion_of r) 0 || eqb (motion_of r) (motion_now st))) ≡ true = all-at (held st) (held_row_ok st store) i
-      p.rows h in
+      let ok : (eqb (row_check r) 0 && (eqb (motion_of r) 0 || eqb (motion_of r) (motion_now st))) ≡ true =
+      all-at (held st) (held_row_ok st store) i p.rows h in
       let c : row_check r ≡ 0 = eqb-true _ 0 (and_left (eqb (row_check r) 0) _ ok) in
       let w : (eqb (motion_of r) 0 || eqb (motion_of r) (motion_now st)) ≡ true = and_right (eqb (row_check r) 0) _ ok in
       record {

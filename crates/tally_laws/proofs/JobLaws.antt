@@ -197,8 +197,8 @@ module _ (cs : List Call) (c : Call) where
       cond-t _ _ b ∙ rw ((try-bits cs).b0, (try-bits cs).b1, ← pass_more) (sym (closed-number t o))
 
   open_number : tries_of (cs ++ (c ∷ [])) ≡ tries_of cs → open_of (cs ++ (c ∷ [])) ≡ open_of cs ++ (c ∷ [])
-      → try_of (cs ++ (c ∷ [])) ≡ try_number (any_try (tries_of cs)) (first_passes (tries_of cs)) (final_passes (tries_of cs)) (any_of fails (open_of
-      cs ++ (c ∷ [])))
+      → try_of (cs ++ (c ∷ []))
+      ≡ try_number (any_try (tries_of cs)) (first_passes (tries_of cs)) (final_passes (tries_of cs)) (any_of fails (open_of cs ++ (c ∷ [])))
   unfolding try_of
   open_number t o = rw (t, o)
 
