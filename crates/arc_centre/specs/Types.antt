@@ -1,26 +1,29 @@
 -- CONTRACTS. What a value of the code's types means to the definitions. Assumes nothing.
-use Rattle.std.proofs.Math.Option.{Option, none, some}
-use Rattle.std.specs.Prelude.{Float}
+use Rattle.std.proofs.Math.Option as Maybe
+use Rattle.std.specs.Prelude.{ℕ, Float, Option, Some, None, Result, Ok, Err}
 use Rattle.arc_centre.specs.Centre as Spec
 use Rattle.arc_centre.specs.Centre.{centred, warned}
 use Rattle.arc_centre.specs.declared.Centre.{Centre}
-use Rattle.arc_centre.specs.declared.Centre.TheVariants.{At, Coincident, Short, Missing, Small}
-use Rattle.arc_centre.specs.declared.Cell.{Cell}
-use Rattle.arc_centre.specs.declared.Cell.TheVariants.{Number, Absent}
+use Rattle.arc_centre.specs.declared.Fault.{Fault}
+use Rattle.arc_centre.specs.declared.Fault.TheVariants.{Coincident, Short, Missing, Small}
 use Rattle.arc_centre.specs.declared.Ends.{Ends}
 
+-- the warning's number
+abbrev pub warning_of : Fault → ℕ
+warning_of Coincident = 2
+warning_of Short = 3
+warning_of Missing = 4
+warning_of Small = 5
+
 -- the centre's two numbers, or the warning
-abbrev pub centre_is : Centre → Spec.Centre
-centre_is (At u v) = centred u v
-centre_is Coincident = warned 2
-centre_is Short = warned 3
-centre_is Missing = warned 4
-centre_is Small = warned 5
+abbrev pub centre_is : Result Centre Fault → Spec.Centre
+centre_is (Ok m) = centred m.u m.v
+centre_is (Err fault) = warned (warning_of fault)
 
 -- a cell that is absent has no number
-abbrev pub number_is : Cell → Option Float
-number_is (Number x) = some x
-number_is Absent = none
+abbrev pub number_is : Option Float → Maybe.Option Float
+number_is (Some x) = Maybe.some x
+number_is None = Maybe.none
 
 abbrev pub ends_is : Ends → Spec.Ends
 ends_is e = record { su = e.su; sv = e.sv; eu = e.eu; ev = e.ev }

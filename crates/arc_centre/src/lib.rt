@@ -9,13 +9,6 @@ ghost use Rattle.arc_centre.specs.Types.{centre_is, ends_is};
 // Below it a radius is too small, and start and end agree.
 pub const SMALL: f64 = 1e-9;
 
-// A number cell that may be absent.
-#[derive(Clone, Copy)]
-pub enum Cell {
-    Number(f64),
-    Absent,
-}
-
 // Start and end on the two plane axes.
 #[derive(Clone, Copy)]
 pub struct Ends {
@@ -25,10 +18,16 @@ pub struct Ends {
     pub ev: f64,
 }
 
-// What the centre search answers: the centre, or why there is none.
+// Where the centre is.
 #[derive(Clone, Copy)]
-pub enum Centre {
-    At(f64, f64),
+pub struct Centre {
+    pub u: f64,
+    pub v: f64,
+}
+
+// Why there is none.
+#[derive(Clone, Copy)]
+pub enum Fault {
     Coincident,
     Short,
     Missing,
@@ -53,14 +52,14 @@ pub fn radius(u: f64, v: f64, cu: f64, cv: f64) -> f64
 }
 
 // The centre, where neither radius is too small.
-pub fn wide(e: Ends, cu: f64, cv: f64) -> Centre
+pub fn wide(e: Ends, cu: f64, cv: f64) -> Result<Centre, Fault>
     ensures { centre_is result ≡ wide_centre (ends_is e) (Spec.centred cu cv) }
 {
     if radius(e.su, e.sv, cu, cv) < SMALL {
-        return Centre::Small;
+        return Err(Fault::Small);
     }
     if radius(e.eu, e.ev, cu, cv) < SMALL {
-        return Centre::Small;
+        return Err(Fault::Small);
     }
-    Centre::At(cu, cv)
+    Ok(Centre { u: cu, v: cv })
 }

@@ -11,14 +11,14 @@ ghost use Rattle.arc_block.specs.Block.{ends_at, centre_at};
 
 use layout::R_PRESENT;
 
-pub fn cell_number(row: &[u64], k: usize) -> arc_centre::Cell
+pub fn cell_number(row: &[u64], k: usize) -> Option<f64>
     requires { (length row.now ≡ row_words) × (k < cells) }
     ensures { number_is result ≡ number row.now k }
 {
     if row_cells::has_bit(row[R_PRESENT], k as u64) {
-        return arc_centre::Cell::Number(floats::of_bits(row[layout::R_CELLS + k]));
+        return Some(floats::of_bits(row[layout::R_CELLS + k]));
     }
-    arc_centre::Cell::Absent
+    None
 }
 
 // The programmed end on axis k, or the start where none is programmed.
@@ -53,7 +53,7 @@ pub fn seek_centre(
     e: arc_centre::Ends,
     u: usize,
     v: usize,
-) -> arc_centre::Centre
+) -> Result<arc_centre::Centre, arc_centre::Fault>
     requires { (length row.now ≡ row_words) × ((u < 3) × (v < 3)) }
     ensures { centre_is result ≡ centre_at cw (ends_is e) u v row.now }
 {

@@ -49,13 +49,11 @@ pub fn write_arc(
     requires { BlockOf row.now gs at.now × WriteOf (axes_of gs) plane (shown known at.now) row.now rows.old from plan }
     ensures { rows.new ≡ spliced rows.old from (plan_out (axes_of gs) plane (shown known at.now) row.now plan) }
 {
-    let n = plan.count;
-    let way = plan.way;
-    match way {
-        arc_rows::Way::Pass => row_put::put_row(rows, from, row),
-        arc_rows::Way::Along(e, c) => {
+    match plan.way {
+        None => row_put::put_row(rows, from, row),
+        Some((e, c)) => {
             let f = arc_sample::Setting { gs, plane, known };
-            arc_sample::draw(rows, from, row, at, f, e, c, n)
+            arc_sample::draw(rows, from, row, at, f, e, c, plan.count)
         }
     }
 }

@@ -26,11 +26,7 @@ pub struct Arc {
 fn agree(e: arc_centre::Ends) -> bool
     ensures { result ≡ agree (ends_is e) }
 {
-    if floats::abs(e.eu - e.su) < SMALL {
-        floats::abs(e.ev - e.sv) < SMALL
-    } else {
-        false
-    }
+    floats::abs(e.eu - e.su) < SMALL && floats::abs(e.ev - e.sv) < SMALL
 }
 
 // The sweep of G3, by the difference d of the two angles.
@@ -62,26 +58,19 @@ fn sweep(cw: bool, full: bool, d: f64) -> f64
 }
 
 // The sweep s with the whole turns of TURN.
-fn turned(cw: bool, s: f64, turn: arc_centre::Cell) -> f64
+fn turned(cw: bool, s: f64, turn: Option<f64>) -> f64
     ensures { result ≡ turned cw s (number_is turn) }
 {
     match turn {
-        arc_centre::Cell::Number(t) => {
+        Some(t) => {
             let n = std::num::nearest_u64_to_f64(whole::half_up_count(t));
             if cw { s + -TAU * n } else { s + TAU * n }
         }
-        arc_centre::Cell::Absent => s,
+        None => s,
     }
 }
 
-pub fn arc_of(
-    tol: f64,
-    cw: bool,
-    e: arc_centre::Ends,
-    cu: f64,
-    cv: f64,
-    turn: arc_centre::Cell,
-) -> Arc
+pub fn arc_of(tol: f64, cw: bool, e: arc_centre::Ends, cu: f64, cv: f64, turn: Option<f64>) -> Arc
     ensures { arc_is result ≡ arc_of tol cw (ends_is e) cu cv (number_is turn) }
 {
     let a = trig_atan::atan2(e.sv - cv, e.su - cu);

@@ -1,6 +1,7 @@
 -- CONTRACTS. What the code plans for an arc block, and what planning and writing it ask. Assumes nothing.
 use Rattle.std.specs.Prelude.{ℕ, ◌+◌, ◌*◌, ◌<◌, ◌≤◌, ◌≡◌, Bool, cond, List, [], ◌∷◌, length, ltb, Float}
 use Rattle.std.proofs.Math.Option.{Option}
+use Rattle.std.specs.Prelude as Std
 use Rattle.floats.specs.Lists.{upto, flatten}
 use Rattle.layout.specs.Layout.{axis_codes, axis_masks, row_words}
 use Rattle.row_cells.specs.Row.{shown, axes_of, out_row}
@@ -9,8 +10,6 @@ use Rattle.arc_numbers.specs.Types.{arc_is}
 use Rattle.arc_centre.specs.declared.Ends as EndsOf
 use Rattle.arc_numbers.specs.declared.Arc as ArcOf
 use Rattle.arc_sample.specs.declared.Setting.{Setting}
-use Rattle.arc_rows.specs.declared.Way.{Way}
-use Rattle.arc_rows.specs.declared.Way.TheVariants.{Pass, Along}
 use Rattle.arc_rows.specs.declared.Plan.{Plan}
 use Rattle.arc_answer.specs.Arc.{most_arc_rows, Answer, Ends, Arc, Centre, wanted_of, count_of, arc_row, from_centre, arc_answer}
 
@@ -22,7 +21,7 @@ pub record BlockOf (r : List ℕ) (gs : ℕ) (at : List ℕ) : Type 0 where
 
 -- ---- the code's plans
 abbrev pub pass_plan : ℕ → Plan
-pass_plan warning = record { count = 1; warning = warning; wanted = 0; held = 0; way = Pass }
+pass_plan warning = record { count = 1; warning = warning; wanted = 0; held = 0; way = Std.None }
 
 unfoldable pub along_plan : EndsOf.Ends → ArcOf.Arc → ℕ → Plan
 along_plan e c held =
@@ -32,12 +31,12 @@ along_plan e c held =
       warning = cond (ltb most_arc_rows wanted) 6 0;
       wanted = cond (ltb most_arc_rows wanted) wanted 0;
       held = held;
-      way = Along e c;
+      way = Std.Some (e, c);
     }
 
-unfoldable pub way_rows : List ℕ → ℕ → (ℕ → Option ℕ) → List ℕ → ℕ → Way → List (List ℕ)
-way_rows gs plane pos r n Pass = out_row r ∷ []
-way_rows gs plane pos r n (Along e c) = upto (λ (k : ℕ). arc_row gs plane pos r (ends_is e) (arc_is c) n (k + 1)) n
+unfoldable pub way_rows : List ℕ → ℕ → (ℕ → Option ℕ) → List ℕ → ℕ → Std.Option (EndsOf.Ends × ArcOf.Arc) → List (List ℕ)
+way_rows gs plane pos r n Std.None = out_row r ∷ []
+way_rows gs plane pos r n (Std.Some (e, c)) = upto (λ (k : ℕ). arc_row gs plane pos r (ends_is e) (arc_is c) n (k + 1)) n
 
 -- the rows that a plan stands for
 abbrev pub plan_rows : List ℕ → ℕ → (ℕ → Option ℕ) → List ℕ → Plan → List (List ℕ)

@@ -3,26 +3,36 @@
 
 ghost use Rattle.std.specs.Prelude.{◌≡◌, ◌<◌, length};
 ghost use Rattle.layout.specs.Layout.{axis_masks, row_words};
-ghost use Rattle.arc_centre.specs.Types.{centre_is, ends_is};
+ghost use Rattle.arc_centre.specs.Types.{centre_is, ends_is, warning_of};
 ghost use Rattle.arc_rows.specs.Plan.{pass_plan, along_plan, PlannedFrom};
 
-// How a block's rows come about: it passes unchanged, or it goes along an arc.
-#[derive(Clone, Copy)]
-pub enum Way {
-    Pass,
-    Along(arc_centre::Ends, arc_numbers::Arc),
-}
+use arc_centre::{Centre, Ends, Fault};
+use arc_numbers::Arc;
 
-// What a block comes to: its rows' number, the warning, with warning 6 the wanted count, the held axes.
+// What a block comes to: its rows' number, the warning, with warning 6 the wanted count, the held axes, and the arc that
+// it goes along with its ends. A block with no arc passes unchanged.
 #[derive(Clone, Copy)]
 pub struct Plan {
     pub count: usize,
     pub warning: u64,
     pub wanted: u64,
     pub held: u64,
-    pub way: Way,
+    pub way: Option<(Ends, Arc)>,
 }
 
+// The warning of a block with no centre.
+fn warning_of(fault: Fault) -> u64
+    ensures { result ≡ warning_of fault }
+{
+    match fault {
+        Fault::Coincident => 2,
+        Fault::Short => 3,
+        Fault::Missing => 4,
+        Fault::Small => 5,
+    }
+}
+
+// A block that passes unchanged.
 pub fn passing(warning: u64) -> Plan
     ensures { result ≡ pass_plan warning }
 {
@@ -31,11 +41,11 @@ pub fn passing(warning: u64) -> Plan
         warning,
         wanted: 0,
         held: 0,
-        way: Way::Pass,
+        way: None,
     }
 }
 
-fn along(e: arc_centre::Ends, c: arc_numbers::Arc, held: u64) -> Plan
+fn along(e: Ends, c: Arc, held: u64) -> Plan
     ensures { result ≡ along_plan e c held }
 {
     let wanted = arc_steps::wanted(c);
@@ -46,7 +56,7 @@ fn along(e: arc_centre::Ends, c: arc_numbers::Arc, held: u64) -> Plan
             warning: 6,
             wanted,
             held,
-            way: Way::Along(e, c),
+            way: Some((e, c)),
         }
     } else {
         Plan {
@@ -54,7 +64,7 @@ fn along(e: arc_centre::Ends, c: arc_numbers::Arc, held: u64) -> Plan
             warning: 0,
             wanted: 0,
             held,
-            way: Way::Along(e, c),
+            way: Some((e, c)),
         }
     }
 }
@@ -65,23 +75,20 @@ pub fn from_centre(
     f: arc_sample::Setting,
     cw: bool,
     tol: f64,
-    e: arc_centre::Ends,
-    centre: arc_centre::Centre,
+    e: Ends,
+    centre: Result<Centre, Fault>,
 ) -> Plan
     requires { (length row.now ≡ row_words) × (f.gs < axis_masks) }
     ensures { PlannedFrom tol cw f row.now (ends_is e) (centre_is centre) result }
 {
     match centre {
-        arc_centre::Centre::At(cu, cv) => {
+        Ok(m) => {
             let turn = arc_ends::cell_number(row, layout::C_TURN);
-            let c = arc_numbers::arc_of(tol, cw, e, cu, cv, turn);
+            let c = arc_numbers::arc_of(tol, cw, e, m.u, m.v, turn);
             let u = arc_words::plane_u(f.plane);
             let v = arc_words::plane_v(f.plane);
             along(e, c, arc_block::held_axes(row, f.gs, f.known, u, v))
         }
-        arc_centre::Centre::Coincident => passing(2),
-        arc_centre::Centre::Short => passing(3),
-        arc_centre::Centre::Missing => passing(4),
-        arc_centre::Centre::Small => passing(5),
+        Err(fault) => passing(warning_of(fault)),
     }
 }

@@ -34,14 +34,11 @@ fn put_mid_rows(
     requires le_n { (1 ≤ n) × (at + n * row_words ≤ length rows.old) }
     ensures { Rowing (mids d row.now starts.now spans.now n) at (n - 1) rows.old rows.new result }
 {
-    let last = n - 1;
     let whole = std::num::nearest_u64_to_f64(n as u64);
     let mut place = at;
-    let mut j: usize = 0;
-    while j < last {
+    for j in 0..n - 1 {
         arc_made::put_mid_row(rows, place, row, d, starts, spans, j + 1, whole);
         place += layout::ROW_WORDS;
-        j += 1;
     }
     place
 }

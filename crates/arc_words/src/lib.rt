@@ -60,10 +60,8 @@ pub fn put_starts(starts: &mut [f64], row: &[u64], known: u64, at: &[u64])
     requires { (length starts.old ≡ axis_codes) × ((length row.now ≡ row_words) × (axis_codes ≤ length at.now)) }
     ensures { starts.new ≡ upto (start_of row.now (shown known at.now)) axis_codes }
 {
-    let mut k: usize = 0;
-    while k < layout::AXIS_CODES {
-        starts[k] = start_on(row, known, at, k);
-        k += 1;
+    for (k, start) in starts.iter_mut().enumerate() {
+        *start = start_on(row, known, at, k);
     }
 }
 
@@ -71,22 +69,18 @@ pub fn put_spans(spans: &mut [f64], row: &[u64], starts: &[f64])
     requires { (length spans.old ≡ axis_codes) × ((length row.now ≡ row_words) × (length starts.now ≡ axis_codes)) }
     ensures { spans.new ≡ upto (span_of row.now starts.now) axis_codes }
 {
-    let mut k: usize = 0;
-    while k < layout::AXIS_CODES {
-        spans[k] = floats::of_bits(row[layout::R_CELLS + k]) - starts[k];
-        k += 1;
+    for (k, span) in spans.iter_mut().enumerate() {
+        *span = floats::of_bits(row[layout::R_CELLS + k]) - starts[k];
     }
 }
 
-// Every axis at the fraction f of its ramp.
+// Every axis at the fraction f of its ramp. The count is a constant, so that the loop needs no test of the slices' lengths.
 fn put_ramps(words: &mut [u64], starts: &[f64], spans: &[f64], f: f64)
     requires { (length words.old ≡ axis_codes) × ((length starts.now ≡ axis_codes) × (length spans.now ≡ axis_codes)) }
     ensures { words.new ≡ upto (ramp_of starts.now spans.now f) axis_codes }
 {
-    let mut k: usize = 0;
-    while k < layout::AXIS_CODES {
+    for k in 0..layout::AXIS_CODES {
         words[k] = floats::bits(starts[k] + spans[k] * f);
-        k += 1;
     }
 }
 

@@ -1,4 +1,5 @@
-// The arithmetic for programs in other languages: what runs against Rust's std and measurements link.
+// The arithmetic for programs in other languages: what runs against Rust's std and measurements link. The C interface names
+// each function.
 #![tactic(auto)]
 
 ghost use Rattle.std.specs.Prelude.{◌≡◌};

@@ -1,7 +1,7 @@
 -- LAWS. The triangle in work memory: numbers put one after another, rows, levels. Assumes nothing.
 use mathlib.Core.Path.{◌≡◌, refl, sym, ap, ◌∙◌}
 use mathlib.Core.List.{List}
-use mathlib.Core.Logic.{◌⊎◌, ⊎_elim}
+use mathlib.Core.Logic.{⊎_elim}
 use Prim.Native.Nat.{ℕ, suc, ◌+◌, ◌*◌, ◌-◌, ◌<◌, ◌≤◌, min}
 use native.Mathlib.Numerals.{add-one}
 use native.Mathlib.Nat.{suc-mul, eq-or-lt_of_le}
@@ -53,9 +53,6 @@ raised_end e v = record { is = put-end e v.is }
 
 -- ---- a level, row by row
 module _ {l : List Float} {wide : ℕ} {a : ℕ → Float} where
-  pub level-none : Level l l wide 0 a
-  level-none = record { same = refl; done = λ g c h. absurd (omega arith); todo = λ j h. refl }
-
   pub level-more : {xs ys : List Float} {h i : ℕ} {x : Float} → Level l xs wide h a → i ≡ h * wide → x ≡ a h → Raised xs ys i wide wide x
       → Level l ys wide (h + 1) a
   level-more {xs} {ys} {h} {i} {x} v ei ex w =
@@ -77,9 +74,6 @@ module _ {l : List Float} {wide : ℕ} {a : ℕ → Float} where
           ∙ ap (λ (z : ℕ). mix_of (a h) (at xs (z + wide + c)) (at xs (z + c))) ei
           ∙ ap (λ (y : Float). mix_of (a h) y (at xs (h * wide + c))) (v.todo (h * wide + wide + c) (omega arith))
           ∙ ap (λ (y : Float). mix_of (a h) (at l (h * wide + wide + c)) y) (v.todo (h * wide + c) (omega arith))
-
-  pub level-end : {xs : List Float} {h m : ℕ} → h ≡ m → Level l xs wide h a → Level l xs wide m a
-  level-end e v = record { same = v.same; done = λ g c h. v.done g c (omega arith); todo = λ j h. v.todo j (rw e h) }
 
 -- ---- the levels
 
@@ -112,9 +106,6 @@ module _ (ks : List Float) (u : Float) (p k wide : ℕ) (l : List Float) where
   }
 
 -- ---- the control numbers, row by row
-pub loaded_none : {cw xs : List Float} {n k ch wide : ℕ} → Loaded cw xs n k ch wide 0
-loaded_none = record { is = λ g c h. absurd (omega arith) }
-
 pub loaded_more : {cw xs ys : List Float} {n k ch wide h i : ℕ} → Loaded cw xs n k ch wide h → i ≡ h * wide → ch < wide
     → Put (λ c. at cw (min c ch * n + (k - h))) xs ys i wide → Loaded cw ys n k ch wide (h + 1)
 loaded_more {cw} {xs} {ys} {n} {k} {ch} {wide} {h} {i} v ei fit q = record {
@@ -125,6 +116,3 @@ loaded_more {cw} {xs} {ys} {n} {k} {ch} {wide} {h} {i} v ei fit q = record {
       (λ (lt : g < h). q.under (g * wide + c) (rw ei (row-order g h wide c lt (omega arith))) ∙ v.is g c lt hc)
       (eq-or-lt_of_le {n = g} {m = h} (omega arith));
 }
-
-pub loaded_end : {cw xs : List Float} {n k ch wide h m : ℕ} → h ≡ m → Loaded cw xs n k ch wide h → Loaded cw xs n k ch wide m
-loaded_end e v = record { is = λ g c hg hc. v.is g c (omega arith) hc }

@@ -8,13 +8,13 @@ ghost use Rattle.floats.specs.Lists.{filled};
 ghost use Rattle.layout.specs.Layout.{axis_codes, most_points};
 ghost use Rattle.curve_metric.specs.Widest.{widest};
 ghost use Rattle.bspline_tables.specs.Basis.{share};
-ghost use Rattle.bspline_low.specs.Low.{placed};
 ghost use Rattle.bspline_raise.specs.Climb.{most_wide, Width, Put, Raised, Level, Climbed, Loaded};
 
 use bspline_low::low::share_at;
 use bspline_raise::raise_four;
 use curve_metric::WIDEST;
 use layout::AXIS_CODES;
+use point_channels::each_channel;
 
 // Rows are whole fours: so many numbers are raised at once.
 pub const LEAST_WIDE: usize = 4;
@@ -39,24 +39,15 @@ pub fn row_width(ch: usize) -> usize
     (ch / LEAST_WIDE + 1) * LEAST_WIDE
 }
 
-fn held(c: usize, ch: usize) -> usize
-    ensures { result ≡ min c ch }
-{
-    if c < ch {
-        return c;
-    }
-    ch
-}
-
 // Number s of channel c. What stands past the weights counts for nothing: there they stand again.
 fn number_of(cw: &[f64], n: usize, s: usize, ch: usize, c: usize) -> f64
     requires { ((ch + 1) * n ≤ length cw.now) × (s < n) }
     ensures { result ≡ at cw.now (min c ch * n + s) }
 {
-    cw[held(c, ch) * n + s]
+    cw[c.min(ch) * n + s]
 }
 
-// Number s of channel c and of the next three, at i and on.
+// Number s of channel c and of the next three, at i and on. All are read before the first is written, as in `raise_four`.
 fn load_four(cw: &[f64], n: usize, s: usize, ch: usize, c: usize, d: &mut [f64], i: usize)
     requires n_in_bounds { ((ch + 1) * n ≤ length cw.now) × (s < n) }
     requires c_le_most_wide { (c ≤ most_wide) × (i + 3 < length d.old) }
@@ -78,10 +69,9 @@ fn load_row(cw: &[f64], n: usize, s: usize, ch: usize, wide: usize, d: &mut [f64
     requires wide_in_bounds { i + wide ≤ length d.old }
     ensures { Put (λ c. at cw.now (min c ch * n + s)) d.old d.new i wide }
 {
-    let mut c = 0;
-    while c < wide {
+    for four in 0..wide / LEAST_WIDE {
+        let c = four * LEAST_WIDE;
         load_four(cw, n, s, ch, c, d, i + c);
-        c += LEAST_WIDE;
     }
 }
 
@@ -92,13 +82,8 @@ pub fn load_rows(cw: &[f64], n: usize, k: usize, p: usize, ch: usize, wide: usiz
     requires wide_in_bounds { (p + 1) * wide ≤ length d.old }
     ensures { Loaded cw.now d.new n k ch wide (p + 1) }
 {
-    let rows = p + 1;
-    let mut i = 0;
-    let mut h = 0;
-    while h < rows {
-        load_row(cw, n, k - h, ch, wide, d, i);
-        i += wide;
-        h += 1;
+    for h in 0..p + 1 {
+        load_row(cw, n, k - h, ch, wide, d, h * wide);
     }
 }
 
@@ -143,12 +128,8 @@ fn raise_rows(
     requires m_le_p { (m ≤ p) × ((p + 1) * wide ≤ length d.old) }
     ensures { Level d.old d.new wide m (λ h. share ks.now u p k r (p - h)) }
 {
-    let mut i = 0;
-    let mut h = 0;
-    while h < m {
-        raise_row(d, i, wide, share_at(ks, u, p, k, r, p - h));
-        i += wide;
-        h += 1;
+    for h in 0..m {
+        raise_row(d, h * wide, wide, share_at(ks, u, p, k, r, p - h));
     }
 }
 
@@ -159,23 +140,9 @@ pub fn climb_up(ks: &[f64], u: f64, p: usize, k: usize, wide: usize, d: &mut [f6
     requires wide_in_bounds { (p + 1) * wide ≤ length d.old }
     ensures { Climbed ks.now u p k wide d.old d.new p }
 {
-    let mut r = 0;
-    while r < p {
-        let m = p - r;
-        r += 1;
-        raise_rows(ks, u, p, k, r, m, wide, d);
+    for r in 0..p {
+        raise_rows(ks, u, p, k, r + 1, p - r, wide, d);
     }
-}
-
-// Channel c, by the weight; 0 where there is none.
-fn first_at(d: &[f64], by: f64, ch: usize, c: usize) -> f64
-    requires { ch < length d.now }
-    ensures { result ≡ placed (at d.now) by ch c }
-{
-    if c < ch {
-        return d[c] / by;
-    }
-    0.0
 }
 
 // The first ch numbers, by number ch.
@@ -185,22 +152,5 @@ pub fn project_first(d: &[f64], ch: usize) -> [f64; WIDEST]
     ensures { result ≡ filled (λ c. at d.now c ⊘ at d.now ch) ch (replicate widest f0) }
 {
     let by = d[ch];
-    [
-        first_at(d, by, ch, 0),
-        first_at(d, by, ch, 1),
-        first_at(d, by, ch, 2),
-        first_at(d, by, ch, 3),
-        first_at(d, by, ch, 4),
-        first_at(d, by, ch, 5),
-        first_at(d, by, ch, 6),
-        first_at(d, by, ch, 7),
-        first_at(d, by, ch, 8),
-        first_at(d, by, ch, 9),
-        first_at(d, by, ch, 10),
-        first_at(d, by, ch, 11),
-        first_at(d, by, ch, 12),
-        first_at(d, by, ch, 13),
-        first_at(d, by, ch, 14),
-        first_at(d, by, ch, 15),
-    ]
+    each_channel(ch, |c| d[c] / by)
 }

@@ -41,7 +41,7 @@ pub fn shares_in(ks: &[f64], u: f64, p: usize, k: usize) -> Shares
     let a1 = share_at(ks, u, p, k, 1, 1);
     if p == 1 {
         return Shares {
-            a1: a1,
+            a1,
             a2: 0.0,
             a3: 0.0,
             b2: 0.0,
@@ -53,19 +53,19 @@ pub fn shares_in(ks: &[f64], u: f64, p: usize, k: usize) -> Shares
     let b2 = share_at(ks, u, p, k, 2, 2);
     if p == 2 {
         return Shares {
-            a1: a1,
-            a2: a2,
+            a1,
+            a2,
             a3: 0.0,
-            b2: b2,
+            b2,
             b3: 0.0,
             c3: 0.0,
         };
     }
     Shares {
-        a1: a1,
-        a2: a2,
+        a1,
+        a2,
         a3: share_at(ks, u, p, k, 1, 3),
-        b2: b2,
+        b2,
         b3: share_at(ks, u, p, k, 2, 3),
         c3: share_at(ks, u, p, k, 3, 3),
     }

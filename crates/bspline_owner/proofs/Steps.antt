@@ -6,7 +6,9 @@ use Prim.Native.Nat.{ℕ, suc, ◌+◌, ◌-◌, ◌<◌, ◌≤◌}
 use native.Mathlib.Numerals.{add-one}
 use native.Mathlib.Omega.{arith}
 use lib.Ieee as Ieee
-use lib.Ieee.{Float}
+use lib.Ieee.{Float, nan}
+use lib.ListN.{take, drop}
+use lib.Seq.{get_or-take, get_or-drop}
 use Rattle.floats.specs.Numbers.{◌⊕◌, f0, at}
 use Rattle.bspline_tables.specs.Basis.{knot_sum}
 use Rattle.bspline_tables.specs.Tables.{greville_at, advanced}
@@ -15,9 +17,10 @@ pub sum-none : (ks : List Float) (i : ℕ) → f0 ≡ knot_sum ks i 0
 unfolding knot_sum
 sum-none ks i = refl
 
-pub sum_more : (ks : List Float) (i k : ℕ) {s : Float} → s ≡ knot_sum ks i k → s ⊕ at ks (i + 1 + k) ≡ knot_sum ks i (k + 1)
+-- knot k of those that are summed, which stand from i + 1 on
+pub sum_more : (ks : List Float) (i n k : ℕ) {s : Float} → k < n → s ≡ knot_sum ks i k → s ⊕ at (take n (drop (i + 1) ks)) k ≡ knot_sum ks i (k + 1)
 unfolding knot_sum
-sum_more ks i k e = rw (e, add-one k)
+sum_more ks i n k h e = rw (get_or-take n (drop (i + 1) ks) k nan h, get_or-drop (i + 1) ks k nan, e, add-one k)
 
 module _ (ks : List Float) (p : ℕ) (t : Float) (last o : ℕ) {g : Float} (is : g ≡ greville_at ks p o) where
   left_is : o < last → last - o ≡ suc (last - (o + 1))

@@ -12,10 +12,8 @@ fn sum_knots(ks: &[f64], i: usize, p: usize) -> f64
     ensures { result ≡ knot_sum ks.now i p }
 {
     let mut sum = 0.0;
-    let mut k = 0;
-    while k < p {
-        sum = sum + ks[i + 1 + k];
-        k += 1;
+    for knot in &ks[i + 1..i + 1 + p] {
+        sum += *knot;
     }
     sum
 }
@@ -32,13 +30,10 @@ pub fn advance(ks: &[f64], p: usize, last: usize, from: usize, t: f64) -> usize
     requires { (from ≤ last) × ((last + p ≤ length ks.now) × (p ≤ most_points)) }
     ensures { result ≡ advanced ks.now p t (last - from) from }
 {
-    let mut o = from;
-    while o < last {
-        if greville(ks, p, o) < t {
-            o += 1;
-        } else {
+    for o in from..last {
+        if !(greville(ks, p, o) < t) {
             return o;
         }
     }
-    o
+    last
 }

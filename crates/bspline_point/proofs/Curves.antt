@@ -2,7 +2,7 @@
 use mathlib.Core.Path.{◌≡◌, sym, ap, ◌∙◌}
 use mathlib.Core.List.{List, ◌++◌}
 use Prim.Native.Nat.{ℕ, ◌+◌, ◌*◌, ◌-◌, ◌<◌, ◌≤◌}
-use native.Mathlib.Nat.{zero-mul, le_trans, mul-le-mul_left, mul-le-mul_right}
+use native.Mathlib.Nat.{zero-mul}
 use native.Mathlib.Omega.{arith}
 use lib.ListN.{length, drop}
 use lib.Seq.{ext_get_or}
@@ -10,10 +10,9 @@ use lib.Ieee.{Float, nan}
 use Rattle.floats.specs.Numbers.{◌⊘◌, of_nat, f0, held_in, at}
 use Rattle.floats.specs.Lists.{filled}
 use Rattle.floats.specs.Fill.{length-upto, at-upto, upto-below}
-use Rattle.layout.specs.Layout.{most_points}
 use Rattle.bspline_tables.specs.Basis.{levels}
 use Rattle.bspline_tables.specs.Tables.{weighted, window, held_at, span_in, curve_at}
-use Rattle.bspline_raise.specs.Climb.{most_wide, column, Climbed, Loaded}
+use Rattle.bspline_raise.specs.Climb.{column, Climbed, Loaded}
 use Rattle.bspline_boor.specs.Levels.{window-at, window-length}
 
 module _ (ks cw : List Float) (n p ch : ℕ) (t : Float) (l : List Float) where
@@ -54,7 +53,3 @@ module _ (ks cw : List Float) (n p ch : ℕ) (t : Float) (l : List Float) where
       → r ≡ filled (curve_at ks cw n p ch t) ch l
   eval_is {u} {k} {wide} {d1} {d2} {r} room in_span under fit hi eh ek e1 e2 er =
       curve-is (at d2) hi eh ek (λ c h. top-is u k c wide h fit in_span under (window-length cw n p ch k room in_span under c h) e1 e2) er
-
--- the largest work memory
-pub cells_in : (p wide : ℕ) → p < most_points → wide ≤ most_wide → (p + 1) * wide ≤ most_points * most_wide
-cells_in p wide h g = le_trans (mul-le-mul_right wide (omega arith)) (mul-le-mul_left most_points g)

@@ -4,9 +4,10 @@
 ghost use Rattle.std.specs.Prelude.{◌≡◌, ◌≤◌, ◌<◌, ◌+◌, ◌*◌, length, replicate};
 ghost use Rattle.floats.specs.Numbers.{f0};
 ghost use Rattle.floats.specs.Lists.{filled};
+ghost use Rattle.layout.specs.Layout.{most_points};
 ghost use Rattle.curve_metric.specs.Widest.{widest};
 ghost use Rattle.bspline_tables.specs.Tables.{curve_at, Curve};
-ghost use Rattle.bspline_raise.specs.Climb.{Width, few_cells, some_cells, many_cells, usual_cells};
+ghost use Rattle.bspline_raise.specs.Climb.{most_wide, Width};
 
 use bspline_boor::{
     LEAST_WIDE, MOST_WIDE, USUAL_WIDE, climb_up, load_rows, project_first, row_width,
@@ -72,7 +73,8 @@ const USUAL: usize = MOST_POINTS * USUAL_WIDE;
 
 const MOST: usize = MOST_POINTS * MOST_WIDE;
 
-fn eval_few(
+// The point at t, in work memory for CELLS numbers.
+fn eval_within<const CELLS: usize>(
     ks: &[f64],
     cw: &[f64],
     n: usize,
@@ -83,81 +85,10 @@ fn eval_few(
 ) -> [f64; WIDEST]
     requires curve { Curve ks.now cw.now n p ch }
     requires width { Width wide × (ch < wide) }
-    requires wide_bound { (p + 1) * wide ≤ few_cells }
+    requires room { ((p + 1) * wide ≤ CELLS) × (CELLS ≤ most_points * most_wide) }
     ensures { result ≡ filled (curve_at ks.now cw.now n p ch t) ch (replicate widest f0) }
 {
-    let mut d = [0.0f64; FEW];
-    eval_in(ks, cw, n, p, ch, t, wide, &mut d)
-}
-
-fn eval_some(
-    ks: &[f64],
-    cw: &[f64],
-    n: usize,
-    p: usize,
-    ch: usize,
-    t: f64,
-    wide: usize,
-) -> [f64; WIDEST]
-    requires curve { Curve ks.now cw.now n p ch }
-    requires width { Width wide × (ch < wide) }
-    requires wide_bound { (p + 1) * wide ≤ some_cells }
-    ensures { result ≡ filled (curve_at ks.now cw.now n p ch t) ch (replicate widest f0) }
-{
-    let mut d = [0.0f64; SOME];
-    eval_in(ks, cw, n, p, ch, t, wide, &mut d)
-}
-
-fn eval_many(
-    ks: &[f64],
-    cw: &[f64],
-    n: usize,
-    p: usize,
-    ch: usize,
-    t: f64,
-    wide: usize,
-) -> [f64; WIDEST]
-    requires curve { Curve ks.now cw.now n p ch }
-    requires width { Width wide × (ch < wide) }
-    requires wide_bound { (p + 1) * wide ≤ many_cells }
-    ensures { result ≡ filled (curve_at ks.now cw.now n p ch t) ch (replicate widest f0) }
-{
-    let mut d = [0.0f64; MANY];
-    eval_in(ks, cw, n, p, ch, t, wide, &mut d)
-}
-
-fn eval_usual(
-    ks: &[f64],
-    cw: &[f64],
-    n: usize,
-    p: usize,
-    ch: usize,
-    t: f64,
-    wide: usize,
-) -> [f64; WIDEST]
-    requires curve { Curve ks.now cw.now n p ch }
-    requires width { Width wide × (ch < wide) }
-    requires wide_bound { (p + 1) * wide ≤ usual_cells }
-    ensures { result ≡ filled (curve_at ks.now cw.now n p ch t) ch (replicate widest f0) }
-{
-    let mut d = [0.0f64; USUAL];
-    eval_in(ks, cw, n, p, ch, t, wide, &mut d)
-}
-
-fn eval_most(
-    ks: &[f64],
-    cw: &[f64],
-    n: usize,
-    p: usize,
-    ch: usize,
-    t: f64,
-    wide: usize,
-) -> [f64; WIDEST]
-    requires curve { Curve ks.now cw.now n p ch }
-    requires width { Width wide × (ch < wide) }
-    ensures { result ≡ filled (curve_at ks.now cw.now n p ch t) ch (replicate widest f0) }
-{
-    let mut d = [0.0f64; MOST];
+    let mut d = [0.0f64; CELLS];
     eval_in(ks, cw, n, p, ch, t, wide, &mut d)
 }
 
@@ -179,13 +110,13 @@ fn eval_for(
     ensures { result ≡ filled (curve_at ks.now cw.now n p ch t) ch (replicate widest f0) }
 {
     if cells <= MANY {
-        return eval_many(ks, cw, n, p, ch, t, wide);
+        return eval_within::<MANY>(ks, cw, n, p, ch, t, wide);
     }
     if cells <= USUAL {
-        return eval_usual(ks, cw, n, p, ch, t, wide);
+        return eval_within::<USUAL>(ks, cw, n, p, ch, t, wide);
     }
     if cells <= MOST {
-        return eval_most(ks, cw, n, p, ch, t, wide);
+        return eval_within::<MOST>(ks, cw, n, p, ch, t, wide);
     }
     eval_for(cells - 1, ks, cw, n, p, ch, t, wide)
 }
@@ -197,15 +128,15 @@ fn eval_high(ks: &[f64], cw: &[f64], n: usize, p: usize, ch: usize, t: f64) -> [
     let wide = row_width(ch);
     let cells = (p + 1) * wide;
     if cells <= FEW {
-        return eval_few(ks, cw, n, p, ch, t, wide);
+        return eval_within::<FEW>(ks, cw, n, p, ch, t, wide);
     }
     if cells <= SOME {
-        return eval_some(ks, cw, n, p, ch, t, wide);
+        return eval_within::<SOME>(ks, cw, n, p, ch, t, wide);
     }
     eval_for(cells, ks, cw, n, p, ch, t, wide)
 }
 
-// The point at t.
+// The point at t. The tables and their sizes stand apart, since `Curve` and curve_flat name them so.
 pub fn eval(ks: &[f64], cw: &[f64], n: usize, p: usize, ch: usize, t: f64) -> [f64; WIDEST]
     requires { Curve ks.now cw.now n p ch }
     ensures { result ≡ filled (curve_at ks.now cw.now n p ch t) ch (replicate widest f0) }

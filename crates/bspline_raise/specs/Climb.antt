@@ -2,31 +2,13 @@
 use Rattle.std.specs.Prelude.{List, ◌≡◌, ℕ, ◌+◌, ◌*◌, ◌-◌, ◌/◌, ◌%◌, ◌≤◌, ◌<◌, length, Float}
 use Rattle.floats.specs.Numbers.{at}
 use Rattle.floats.specs.Lists.{upto}
-use Rattle.layout.specs.Layout.{axis_codes, most_points}
+use Rattle.layout.specs.Layout.{axis_codes}
 use Rattle.bspline_tables.specs.Basis.{levels}
 use Rattle.bspline_low.specs.Low.{mix_of}
 
 -- rows are whole fours: so many numbers are raised at once
 abbrev pub least_wide : ℕ
 least_wide = 4
-
--- the widest rows of all but long lists: ten channels and the weights
-abbrev pub usual_wide : ℕ
-usual_wide = 12
-
--- work memory of four sizes that are chosen, the third and the fourth for the highest degree in rows of four and in usual ones; the
--- widest rows have their own
-abbrev pub few_cells : ℕ
-few_cells = 64
-
-abbrev pub some_cells : ℕ
-some_cells = 256
-
-abbrev pub many_cells : ℕ
-many_cells = most_points * least_wide
-
-abbrev pub usual_cells : ℕ
-usual_cells = most_points * usual_wide
 
 -- numbers of a row at most: every axis and the weights, in whole fours
 abbrev pub most_wide : ℕ

@@ -1,9 +1,7 @@
 -- LAWS. The control numbers, as they are filled. Assumes nothing.
 use mathlib.Core.Path.{◌≡◌, sym, ◌∙◌}
 use mathlib.Core.List.{List}
-use Prim.Native.Nat.{ℕ, suc, ◌+◌, ◌*◌, ◌-◌, ◌<◌, ◌≤◌}
-use native.Mathlib.Numerals.{add-one}
-use native.Mathlib.Nat.{suc-mul, mul-le-mul_right}
+use Prim.Native.Nat.{ℕ, ◌+◌, ◌*◌, ◌<◌, ◌≤◌}
 use native.Mathlib.Omega.{arith}
 use borrow.Author.Tests.{lt-ltb, le-ltb}
 use lib.ListN.{length, take}
@@ -13,16 +11,6 @@ use Rattle.floats.specs.Numbers.{◌⊗◌, at}
 use Rattle.floats.specs.Lists.{upto}
 use Rattle.floats.specs.Fill.{length-upto, at-upto}
 use Rattle.bspline_tables.specs.Tables.{control_at}
-
--- the cell that is read, and the next one
-pub cell_in_lem : (i n ch c len lo : ℕ) {x : ℕ} → i < lo → lo ≡ n → c < ch → n * ch ≤ len → x ≡ i * ch + c → x < len
-cell_in_lem i n ch c len lo h el hc l e =
-    let s : suc i * ch ≤ n * ch = mul-le-mul_right ch (omega arith) in
-    let t : suc i * ch ≡ i * ch + ch = suc-mul i ch in
-    omega arith
-
-pub next-cell : (i ch c x : ℕ) → x ≡ i * ch + c → x + ch ≡ (i + 1) * ch + c
-next-cell i ch c x e = let z : (i + 1) * ch ≡ i * ch + ch = rw (add-one, suc-mul) in omega arith
 
 pub cell-is : (pts ws : List Float) (ch c i x : ℕ) → c < ch → x ≡ i * ch + c → at pts x ⊗ at ws i ≡ control_at pts ws ch c i
 unfolding control_at

@@ -1,5 +1,5 @@
 -- LAWS. A list as rows of w cells, of which a loop changes one after another. Assumes nothing.
-use Rattle.std.specs.Prelude.{◌≡◌, refl, List, ◌++◌, ◌⊎◌, ℕ, suc, ◌+◌, ◌*◌, ◌-◌, ◌<◌, ◌≤◌, length, take, drop, Float}
+use Rattle.std.specs.Prelude.{◌≡◌, refl, List, ◌++◌, ℕ, suc, ◌+◌, ◌*◌, ◌-◌, ◌<◌, ◌≤◌, length, take, drop, Float}
 use Rattle.std.proofs.Common.{sym, ap, ◌∙◌, append_assoc, ⊎_elim, add-one, suc-mul, mul-le-mul_right, le_trans, eq-or-lt_of_le, arith, length-append}
 use Rattle.std.proofs.Common.{length-drop, ext_get_or, get_or-take, get_or-drop, get_or-append-add, length-take-le, take_at, drop_at}
 use Rattle.std.proofs.Math.ListN.{get_or-append}

@@ -1,5 +1,5 @@
 -- LAWS. A number of points is a float, and the knot span of a parameter lies below the last knot. Assumes nothing.
-use Rattle.std.specs.Prelude.{◌≡◌, refl, Bool, true, false, ◌&&◌, ◌||◌, cond, ◌⊎◌, ℕ, ◌+◌, ◌-◌, ◌*◌, ◌/◌, ◌^◌, ◌<◌, ◌≤◌, T, ltb, eqb, pos, Float}
+use Rattle.std.specs.Prelude.{◌≡◌, refl, Bool, true, false, ◌&&◌, ◌||◌, cond, ℕ, ◌+◌, ◌-◌, ◌*◌, ◌/◌, ◌^◌, ◌<◌, ◌≤◌, T, ltb, eqb, pos, Float}
 use Rattle.std.proofs.Common.{sym, ap, ◌∙◌, subst, true≢false, ⊎_elim, arith, le→leb, ltb-false, eq-eqb, lt-ltb}
 use native.Mathlib.Nat.{mul-one, mul_right_comm, mul-le-mul_right, lt_of_mul-lt-mul_right, div-lt_iff_lt-mul}
 use Rattle.std.specs.Float.Ieee as Ieee

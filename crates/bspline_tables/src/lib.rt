@@ -13,45 +13,22 @@ pub fn degree_of(degree: usize, n: usize) -> usize
     requires { 1 ≤ n }
     ensures { result ≡ degree_of n degree }
 {
-    if degree < n - 1 {
-        if degree < 1 { 1 } else { degree }
-    } else {
-        if n - 1 < 1 { 1 } else { n - 1 }
-    }
+    degree.min(n - 1).max(1)
 }
 
 fn knot(p: usize, spans: usize, i: usize) -> f64
     requires { spans ≤ most_points }
     ensures { result ≡ of_nat (min (i - p) spans) }
 {
-    if i < p {
-        return 0.0;
-    }
-    if i - p < spans {
-        return (i - p) as f64;
-    }
-    spans as f64
+    i.saturating_sub(p).min(spans) as f64
 }
 
 pub fn fill_knots(p: usize, spans: usize, m: usize, ks: &mut [f64])
     requires { (spans ≤ most_points) × (m ≤ length ks.old) }
     ensures { ks.new ≡ filled (λ i. of_nat (min (i - p) spans)) m ks.old }
 {
-    let mut i = 0;
-    while i < m {
+    for i in 0..m {
         ks[i] = knot(p, spans, i);
-        i += 1;
-    }
-}
-
-fn copy(src: &[f64], dst: &mut [f64])
-    requires { length src.now ≡ length dst.old }
-    ensures { dst.new ≡ src.now }
-{
-    let mut i = 0;
-    while i < dst.len() {
-        dst[i] = src[i];
-        i += 1;
     }
 }
 
@@ -61,12 +38,8 @@ fn channel(pts: &[f64], ws: &[f64], ch: usize, c: usize, out: &mut [f64])
     requires ch_in_bounds { (length out.old * ch ≤ length pts.now) × ((length out.old ≤ length ws.now) × (length out.old ≤ most_points)) }
     ensures { out.new ≡ upto (control_at pts.now ws.now ch c) (length out.old) }
 {
-    let mut x = c;
-    let mut i = 0;
-    while i < out.len() {
-        out[i] = pts[x] * ws[i];
-        x += ch;
-        i += 1;
+    for (i, number) in out.iter_mut().enumerate() {
+        *number = pts[i * ch + c] * ws[i];
     }
 }
 
@@ -77,13 +50,11 @@ pub fn fill_controls(pts: &[f64], ws: &[f64], ch: usize, n: usize, cw: &mut [f64
     ensures { Rows cw.new n (ch + 1) (λ c. upto (control_at pts.now ws.now ch c) n) }
 {
     let mut a = 0;
-    let mut c = 0;
-    while c < ch {
+    for c in 0..ch {
         let e = a + n;
         channel(pts, ws, ch, c, &mut cw[a..e]);
         a = e;
-        c += 1;
     }
     let e = a + n;
-    copy(&ws[..n], &mut cw[a..e]);
+    cw[a..e].copy_from_slice(&ws[..n]);
 }

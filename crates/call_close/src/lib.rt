@@ -1,6 +1,8 @@
 // Closing: a held spline is emitted.
 #![tactic(auto)]
 
+ghost use Rattle.std.specs.Prelude.{◌≡◌};
+ghost use Rattle.saved_state.specs.State.{saved_check};
 ghost use Rattle.call_reply.specs.Replies.{PushIs};
 ghost use Rattle.call_answer.specs.Close.{close_spec};
 
@@ -11,15 +13,12 @@ use row_room::has_room;
 use saved_check::saved_check;
 use spline_put::put_emission;
 
-// Ends the run: a held spline is emitted.
-pub fn close(state: &mut [u64], store: &[u64], rows: &mut [u64]) -> Reply
+// Ends a run whose state and store are in order.
+fn close_checked(state: &mut [u64], store: &[u64], rows: &mut [u64]) -> Reply
+    requires { saved_check state.old store.now ≡ 0 }
     ensures { PushIs (close_spec state.old store.now rows.old) result state.new store.now
         rows.new }
 {
-    let code = saved_check(state, store);
-    if code != 0 {
-        return plain_reply(code);
-    }
     if state[W_HELD] == 0 {
         return plain_reply(0);
     }
@@ -29,4 +28,15 @@ pub fn close(state: &mut [u64], store: &[u64], rows: &mut [u64]) -> Reply
     }
     forget(state);
     done_reply(needed as u64, 0, 0, 0)
+}
+
+// Ends the run: a held spline is emitted.
+pub fn close(state: &mut [u64], store: &[u64], rows: &mut [u64]) -> Reply
+    ensures { PushIs (close_spec state.old store.now rows.old) result state.new store.now
+        rows.new }
+{
+    match saved_check(state, store) {
+        Ok(()) => close_checked(state, store, rows),
+        Err(refusal) => refusal.into(),
+    }
 }

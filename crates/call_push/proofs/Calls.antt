@@ -38,7 +38,7 @@ use Rattle.call_push.specs.BeforeLaws.{before-words}
 use Rattle.spline_put.specs.Emitted.{Put}
 use Rattle.spline_put.specs.EmittedLaws.{room-left, room-short, put_refused, put_written}
 use Rattle.push_rows.specs.Few.{few-own}
-use Rattle.push_check.specs.declared.Due.TheVariants.{Refused, Push}
+use Rattle.std.specs.Prelude.{Ok, Err}
 use Rattle.push_check.proofs.DueLaws.{due-refused, due-push}
 use Rattle.push_settle.specs.Settle.{Passed, Settles, settled}
 
@@ -187,12 +187,12 @@ module _ (st store rows r : List ℕ) (b : Resolved) (pass : Passed st store r b
         (both-written st store rows r pass.check p h n put_is.count left _ _ first w.rows)
 
 -- a push that is turned down
-pub turned-answer : (st store rows r : List ℕ) (n : ℕ) {a : Reply} → due st store r ≡ Refused n → a ≡ plain n
+pub turned-answer : (st store rows r : List ℕ) (n : ℕ) {a : Reply} → due st store r ≡ Err n → a ≡ plain n
     → PushIs (push_spec st store rows r) a st store rows
 unfolding untouched
 turned-answer st store rows r n d e =
     let t = due-refused st store r n d in
     answers (turned-is st store rows r t.1) (e ∙ ap plain (sym t.0)) refl refl refl
 
-pub passed : (st store r : List ℕ) (b : Resolved) → due st store r ≡ Push b → Passed st store r b
+pub passed : (st store r : List ℕ) (b : Resolved) → due st store r ≡ Ok b → Passed st store r b
 passed st store r b d = let t = due-push st store r b d in record { check = t.0; told = t.1 }

@@ -10,8 +10,8 @@ ghost use Rattle.call_push.specs.Before.{before};
 ghost use Rattle.call_answer.specs.Push.{push_spec};
 ghost use Rattle.push_settle.specs.Settle.{Passed};
 
-use call_reply::{Reply, plain_reply, too_few};
-use push_check::{Due, check_push};
+use call_reply::{Reply, too_few};
+use push_check::check_push;
 use push_resolve::Resolved;
 use push_rows::plan_own;
 use push_settle::settle;
@@ -25,9 +25,10 @@ fn put_before(state: &[u64], store: &[u64], rows: &mut [u64], emits: bool, own: 
     ensures { Put own (before emits state.now store.now) rows.old result rows.new }
 {
     if emits {
-        return put_emission(state, store, rows, own);
+        put_emission(state, store, rows, own)
+    } else {
+        0
     }
-    0
 }
 
 // Pushes a block that has passed every check but that of room.
@@ -56,9 +57,8 @@ pub fn push(state: &mut [u64], store: &mut [u64], rows: &mut [u64], row: &[u64])
     ensures { PushIs (push_spec state.old store.old rows.old row.now) result state.new
         store.new rows.new }
 {
-    let due = check_push(state, store, row);
-    match due {
-        Due::Refused(code) => plain_reply(code),
-        Due::Push(b) => push_block(state, store, rows, row, b),
+    match check_push(state, store, row) {
+        Ok(b) => push_block(state, store, rows, row, b),
+        Err(refusal) => refusal.into(),
     }
 }

@@ -2,7 +2,10 @@
 #![tactic(auto)]
 
 ghost use Rattle.std.specs.Prelude.{◌≡◌};
+ghost use Rattle.refusal.specs.Codes.{refusal_code};
 ghost use Rattle.call_reply.specs.Replies.{plain, too_few, done_reply};
+
+use refusal::{Refusal, refusal_code};
 
 // 0 or the refusal; the rows written, or with refusal 7 the rows needed; the warning; with warning 6 the wanted count;
 // the axes that held their end for want of a start, bit k for axis k.
@@ -14,6 +17,14 @@ pub struct Reply {
     pub warning: u64,
     pub wanted: u64,
     pub held: u64,
+}
+
+impl From<Refusal> for Reply {
+    ghost from_gives = { λ refusal reply. reply ≡ plain (refusal_code refusal) };
+
+    fn from(refusal: Refusal) -> Reply {
+        plain_reply(refusal_code(refusal))
+    }
 }
 
 // A reply that has its number alone.
@@ -29,11 +40,12 @@ pub fn plain_reply(code: u64) -> Reply
     }
 }
 
+#[tactic(auto, unfolding(crate::specs::Replies::too_few))]
 pub fn too_few(needed: u64) -> Reply
     ensures { result ≡ too_few needed }
 {
     Reply {
-        code: 7,
+        code: refusal_code(Refusal::TooFewPlaces),
         count: needed,
         warning: 0,
         wanted: 0,

@@ -6,6 +6,7 @@ ghost use Rattle.call_reply.specs.Replies.{StateIs};
 
 use call_reply::{Reply, plain_reply};
 use layout::LAST_CODE;
+use refusal::Refusal;
 use row_numbers::within_range;
 use saved_state::state::{is_geometric, place};
 use saved_words::state_ok;
@@ -15,17 +16,17 @@ pub fn seed(state: &mut [u64], axis: u64, value: u64) -> Reply
     ensures { StateIs (seed_spec state.old axis value) result state.new }
 {
     if !state_ok(state) {
-        return plain_reply(9);
+        return Refusal::BadState.into();
     }
     if axis > LAST_CODE as u64 {
-        return plain_reply(2);
+        return Refusal::BadAxis.into();
     }
     if !within_range(value) {
-        return plain_reply(3);
+        return Refusal::BadNumber.into();
     }
-    if !is_geometric(state, axis) {
-        return plain_reply(0);
+    let listed = is_geometric(state, axis);
+    if listed {
+        place(state, axis as usize, value);
     }
-    place(state, axis as usize, value);
     plain_reply(0)
 }

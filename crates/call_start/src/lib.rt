@@ -9,51 +9,38 @@ ghost use Rattle.call_reply.specs.Replies.{StateIs};
 use call_reply::{Reply, plain_reply};
 use layout::{STATE_WORDS, W_AXES, W_AXIS_COUNT, W_DEGREE, W_MOTION, W_PLANE, W_TOLERANCE};
 use motion::G1;
+use refusal::Refusal;
 use row_cells::PLANE_XY;
 use saved_state::state::{PLAIN_DEGREE, codes_ok, tol_ok};
 
 fn code_or_0(axes: &[u64], j: usize) -> u64
     ensures { result ≡ get_or axes.now j 0 }
 {
-    if j < axes.len() {
-        return axes[j];
-    }
-    0
+    axes.get(j).copied().unwrap_or(0)
 }
 
 // Word i of a fresh state.
+#[tactic(auto, unfolding(crate::specs::Start::fresh_word))]
 fn fresh_word(tolerance: u64, axes: &[u64], i: usize) -> u64
     ensures { result ≡ fresh_word tolerance axes.now i }
 {
-    if i == W_TOLERANCE {
-        return tolerance;
+    match i {
+        W_TOLERANCE => tolerance,
+        W_AXIS_COUNT => axes.len() as u64,
+        W_AXES..W_MOTION => code_or_0(axes, i - W_AXES),
+        W_MOTION => G1,
+        W_PLANE => PLANE_XY,
+        W_DEGREE => PLAIN_DEGREE,
+        _ => 0,
     }
-    if i == W_AXIS_COUNT {
-        return axes.len() as u64;
-    }
-    if i < W_MOTION {
-        return code_or_0(axes, i - W_AXES);
-    }
-    if i == W_MOTION {
-        return G1;
-    }
-    if i == W_PLANE {
-        return PLANE_XY;
-    }
-    if i == W_DEGREE {
-        return PLAIN_DEGREE;
-    }
-    0
 }
 
 fn write_fresh(state: &mut [u64], tolerance: u64, axes: &[u64])
     requires { length state.old ≡ state_words }
     ensures { state.new ≡ fresh tolerance axes.now }
 {
-    let mut i: usize = 0;
-    while i < STATE_WORDS {
-        state[i] = fresh_word(tolerance, axes, i);
-        i += 1;
+    for (i, word) in state.iter_mut().enumerate() {
+        *word = fresh_word(tolerance, axes, i);
     }
 }
 
@@ -62,13 +49,13 @@ pub fn start(state: &mut [u64], tolerance: u64, axes: &[u64]) -> Reply
     ensures { StateIs (start_spec state.old tolerance axes.now) result state.new }
 {
     if state.len() != STATE_WORDS {
-        return plain_reply(9);
+        return Refusal::BadState.into();
     }
     if !tol_ok(tolerance) {
-        return plain_reply(1);
+        return Refusal::BadTolerance.into();
     }
     if !codes_ok(axes) {
-        return plain_reply(2);
+        return Refusal::BadAxis.into();
     }
     write_fresh(state, tolerance, axes);
     plain_reply(0)

@@ -30,10 +30,8 @@ pub fn eight_steps(s: u64) -> u64
     ensures { result ≡ steps 8 s }
 {
     let mut sum = s;
-    let mut k: usize = 0;
-    while k < 8 {
+    for _ in 0..8u64 {
         sum = one_step(sum);
-        k += 1;
     }
     sum
 }

@@ -1,5 +1,5 @@
 -- Laws of this crate's proofs: a length, byte by byte. Assumes nothing.
-use Prim.Native.Nat.{ℕ, zero, suc, ◌-◌, ◌/◌, ◌%◌, ◌^◌, ◌≤◌, ◌<◌}
+use Prim.Native.Nat.{ℕ, zero, suc, ◌+◌, ◌-◌, ◌/◌, ◌%◌, ◌^◌, ◌≤◌}
 use mathlib.Core.Path.{◌≡◌, refl, sym, ap, ap₂, ◌∙◌}
 use mathlib.Core.Bool.{Bool, true, false, cond}
 use mathlib.Core.List.{[], ◌∷◌}
@@ -31,11 +31,11 @@ length_more k s n = go (eqb n 0) refl
     go false e = refl
 
 -- the loop: k bytes at most are left of n
-pub length-next : {t w : ℕ} (k s n : ℕ) → with_bytes s (length_bytes k n) ≡ w → 0 < k → t ≡ length_step s n
-    → with_bytes t (length_bytes (k - 1) (n / 256)) ≡ w
-length-next zero s n e h f = absurd (omega arith)
-length-next {t} {w} (suc k) s n e h f =
-    let z : suc k - 1 ≡ k = omega arith in
+pub length-next : {t w : ℕ} (j k s n : ℕ) → with_bytes s (length_bytes k n) ≡ w → j + 1 ≡ k → t ≡ length_step s n
+    → with_bytes t (length_bytes j (n / 256)) ≡ w
+length-next j zero s n e h f = absurd (omega arith)
+length-next {t} {w} j (suc k) s n e h f =
+    let z : j ≡ k = omega arith in
     ap₂ (λ (a b : ℕ). with_bytes a (length_bytes b (n / 256))) f z ∙ length_more k s n ∙ e
 
 pub length-all : {w : ℕ} (k s n : ℕ) → with_bytes s (length_bytes k n) ≡ w → k ≤ 0 → s ≡ w

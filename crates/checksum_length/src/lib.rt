@@ -26,11 +26,9 @@ pub fn ended(s: u64, length: u64) -> u64
 {
     let mut sum = s;
     let mut left = length;
-    let mut k: usize = 8;
-    while k > 0 {
+    for _ in 0..8u64 {
         sum = length_byte(sum, left);
         left = left / BYTES;
-        k -= 1;
     }
     SUMS - 1 - sum % SUMS
 }

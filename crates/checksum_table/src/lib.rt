@@ -13,10 +13,8 @@ fn make_table(table: &mut [u64])
     requires { length table.old ≡ 256 }
     ensures { TableTo 256 table.new }
 {
-    let mut k: usize = 0;
-    while k < 256 {
-        table[k] = eight_steps(k as u64 * FIRST_BYTE);
-        k += 1;
+    for (k, entry) in table.iter_mut().enumerate() {
+        *entry = eight_steps(k as u64 * FIRST_BYTE);
     }
 }
 
@@ -35,10 +33,8 @@ fn by_table(s: u64, bytes: &[u8], table: &[u64]) -> u64
     ensures { result ≡ with_bytes s bytes.now }
 {
     let mut sum = s;
-    let mut i: usize = 0;
-    while i < bytes.len() {
-        sum = looked_up(sum, bytes[i], table);
-        i += 1;
+    for b in bytes {
+        sum = looked_up(sum, *b, table);
     }
     sum
 }

@@ -1,10 +1,8 @@
 -- LAWS. From what the writer of rows promises to the bytes that wait. Assumes nothing.
-use Rattle.std.specs.Prelude.{ℕ, ◌+◌, ◌*◌, ◌≤◌, ◌<◌, ◌≡◌, true, false, List, [], length}
+use Rattle.std.specs.Prelude.{ℕ, ◌+◌, ◌*◌, ◌≤◌, ◌<◌, ◌≡◌, true, false, List, [], length, Option, Some}
 use Rattle.std.proofs.Common.{◌∙◌, subst, arith, eq-eqb, ne_eqb}
 use Rattle.floats.specs.Truth.{all-at}
 use Rattle.call_reply.specs.declared.Reply.{Reply}
-use Rattle.csv_figures.specs.declared.Placed.{Placed}
-use Rattle.csv_figures.specs.declared.Placed.TheVariants as Placed
 use Rattle.csv_line.specs.Notice.{notice_text}
 use Rattle.csv_write.specs.Texts.{several_length, row-length}
 use Rattle.csv_write.specs.Trying.{tried-good}
@@ -53,9 +51,9 @@ pub record SameRun (run mid : Run) : Type 0 where
   pub source : mid.source ≡ run.source
 
 -- a call's rows, and then its warning
-pub say_rows : {p : Say} (source warning count : ℕ) (rows : List ℕ) {o o' e e' : List ℕ} {run mid r : Run} {x : Placed}
+pub say_rows : {p : Say} (source warning count : ℕ) (rows : List ℕ) {o o' e e' : List ℕ} {run mid r : Run} {x : Option ℕ}
     → p ≡ says false (rows_text rows count) (warning_text source warning)
-    → Tried (rows_writable rows count) (rows_text rows count) o run.out o' x → x ≡ Placed.Upto mid.out
+    → Tried (rows_writable rows count) (rows_text rows count) o run.out o' x → x ≡ Some mid.out
     → run.out + row_room * count ≤ length o → SameRun run mid → Noted false (warning_text source warning) mid e r e' → Said p run o e r o' e'
 say_rows {p} source warning count rows {o} {o'} {e} {e'} {run} {mid} {r} {x} z w q room k n =
     let g = tried-good w q in

@@ -8,7 +8,6 @@ ghost use Rattle.csv_answer.specs.Answer.{warning_text, answer};
 ghost use Rattle.csv_answer.specs.Answers.{AnswerFits};
 
 use csv_count::BAD_TEXT;
-use csv_figures::Placed;
 use csv_out::{Run, refuse};
 
 // A call's warning, where it has one.
@@ -47,7 +46,7 @@ pub fn answered(
     if code != 0 {
         return refuse(run, err, run.source, code);
     }
-    let Placed::Upto(n) = csv_rows::write_rows(rows, count as usize, out, run.out) else {
+    let Some(n) = csv_rows::write_rows(rows, count as usize, out, run.out) else {
         return refuse(run, err, run.source, BAD_TEXT);
     };
     warned(

@@ -1,52 +1,62 @@
 -- What the steps of the reader do. Assumes nothing.
+use Rattle.std.specs.Prelude.{Option as Read, Some, None, unwrap_or, is_some}
+use Rattle.std.specs.Int.{from_bool}
+use Rattle.std.specs.Prelude.{◌==◌, cond, not, nat_lt}
+use Rattle.std.proofs.Common.{take_all}
+use Rattle.std.specs.List.{position, position_or_len}
 use Prim.Native.Nat.{ℕ, suc, ◌+◌, ◌-◌, ◌*◌, ◌%◌, ◌^◌, ◌≤◌, ◌<◌, zero-le}
 use mathlib.Core.Path.{◌≡◌, refl, sym, ap, ◌∙◌, subst}
 use mathlib.Core.Bool.{Bool, true, false, ◌&&◌, and-false}
-use mathlib.Core.List.{List, []}
+use mathlib.Core.List.{List, [], ◌∷◌}
 use mathlib.Core.Option.{Option, none, some}
 use native.Mathlib.Omega.{arith}
-use native.Mathlib.Numerals.{add-one}
-use native.Mathlib.Nat.{add-zero, mod-eq_of_lt, lt_of_le_of_lt, mul-le-mul, le_trans, pow-le-pow_right}
+use native.Mathlib.Numerals.{add-one, one-add}
+use native.Mathlib.Nat.{mod-eq_of_lt, lt_of_le_of_lt, mul-le-mul, le_trans, pow-le-pow_right}
 use lib.Dec.{eqb, lit<, lit≤}
 use lib.ListN.{length, take, drop, get_or, set, length-set, length-drop}
 use lib.Ieee.{Float}
-use borrow.Author.Tests.{eq-eqb, ne_eqb}
+use borrow.Author.Tests.{eq-eqb, ne_eqb, ltb-false}
 use Rattle.floats.specs.Numbers.{bits}
 use Rattle.layout.specs.Layout.{r_cells, c_pl, cells, r_present}
 use Rattle.floats.specs.Lists.{all}
 use Rattle.floats.specs.Truth.{and_i, and_f, all-fails, all_more}
-use Rattle.csv_fields.specs.declared.Number.{Number}
-use Rattle.csv_fields.specs.declared.Number.TheVariants as Number
 use Rattle.csv_fields.specs.Read.{number}
-use Rattle.csv_cells.specs.declared.Cell.{Cell}
 use Rattle.csv_cells.specs.declared.Taken.{Taken}
 use Rattle.csv_line.specs.LineText.{comma, code_at, parted}
 use Rattle.csv_line.specs.CodeLaws.{code_below}
-use Rattle.csv_cells.specs.Parts.{reach-length, reach-hit, reach-on, reach-end, rest_at, rest-within, rest-behind, rest-step, Rest, rest_of, rest-none}
+use Rattle.csv_cells.specs.Parts.{reach-length, rest_at, rest-within, rest-behind, rest-step, Rest, rest_of, rest-none}
 use Rattle.csv_cells.specs.Cells.{given, cell_ok, cells_ok}
-use Rattle.csv_cells.specs.Taking.{reach, bit_of, word_of, CellIs, field_at, Took, placed, masked, CellsRead}
+use Rattle.csv_cells.specs.Taking.{reach, bit_of, word_of, as_cell, CellIs, field_at, Took, placed, masked, CellsRead}
 
--- ---- `field_end`: no comma stands between `at` and i
-pub record Seeking (t : List ℕ) (at i : ℕ) : Type 0 where
-  pub within : i ≤ length t
-  pub left : at + reach (drop at t) ≡ i + reach (drop i t)
-
-pub seek-on : {t : List ℕ} {at i : ℕ} → Seeking t at i → i < length t → (get_or t i 0 ≡ comma → ⊥) → Seeking t at (i + 1)
-seek-on {t} {at} {i} s h n =
-    let e : reach (drop i t) ≡ suc (reach (drop (suc i) t)) = reach-on t i h n in
-    record {
-      within = omega arith;
-      left = s.left ∙ ap (λ (k : ℕ). i + k) e ∙ over i (reach (drop (suc i) t)) ∙ ap (λ (k : ℕ). i + 1 + reach (drop k t)) (sym (add-one i));
-    }
+-- ---- `field_end`: a comma is looked for in what stands from `at` on
+passes : (t : List ℕ) → position_or_len (λ b. b == comma) t ≡ reach t
+unfolding reach
+passes [] = refl
+passes (c ∷ t) = go (eqb c comma) (passes t)
   where
-    over : (i k : ℕ) → i + suc k ≡ i + 1 + k
-    over i k = omega arith
+    go : (b : Bool) → position_or_len (λ b. b == comma) t ≡ reach t → cond (not b) (1 + position_or_len (λ b. b == comma) t) 0 ≡ cond b 0 (suc (reach t))
+    go true e = refl
+    go false e = ap (λ (n : ℕ). 1 + n) e ∙ one-add (reach t)
 
-pub seek_hit : {t : List ℕ} {at i : ℕ} → Seeking t at i → i < length t → get_or t i 0 ≡ comma → i ≡ at + reach (drop at t)
-seek_hit {t} {at} {i} s h e = sym (s.left ∙ ap (λ (k : ℕ). i + k) (reach-hit t i h e) ∙ add-zero i)
+pub reached : (t : List ℕ) (at : ℕ) (o : Read ℕ) → o ≡ position (λ b. b == comma) (take (length t - at) (drop at t))
+    → unwrap_or o (length (take (length t - at) (drop at t))) ≡ reach (drop at t)
+reached t at o e = ap (λ (x : Read ℕ). unwrap_or x (length l)) e ∙ go (nat_lt (position_or_len p l) (length l)) refl ∙ ends
+  where
+    p : ℕ → Bool
+    p = λ b. b == comma
 
-pub seek-end : {t : List ℕ} {at i : ℕ} → Seeking t at i → length t ≤ i → i ≡ at + reach (drop at t)
-seek-end {t} {at} {i} s h = let e : i ≡ length t = omega (arith, s.within) in sym (s.left ∙ ap (λ (k : ℕ). i + k) (reach-end t i e) ∙ add-zero i)
+    l : List ℕ
+    l = take (length t - at) (drop at t)
+
+    ends : position_or_len p l ≡ reach (drop at t)
+    ends = passes l ∙ ap reach (take_all (length t - at) (drop at t) (native.Mathlib.Nat.le_of_eq (length-drop at t)))
+
+    few : position_or_len p l ≤ length l
+    few = subst (λ (n : ℕ). n ≤ length l) (sym (passes l)) (reach-length l)
+
+    go : (b : Bool) → nat_lt (position_or_len p l) (length l) ≡ b → unwrap_or (cond b (Some (position_or_len p l)) None) (length l) ≡ position_or_len p l
+    go true h = refl
+    go false h = let k : length l ≤ position_or_len p l = ltb-false (position_or_len p l) (length l) h in let f = few in omega arith
 
 -- ---- `at_code`
 pub one_shifted : (b c : ℕ) → b ≤ 1 → c < cells → b * 2 ^ c % 2 ^ 64 ≡ b * 2 ^ c
@@ -55,38 +65,49 @@ one_shifted b c h l =
 
 -- ---- `read_cell`
 module _ (f : List ℕ) where
-  pub cell-absent : length f ≡ 0 → CellIs f (record { ok = true; bit = 0; word = 0 })
+  pub cell-absent : length f ≡ 0 → CellIs f (Some None)
   unfolding given cell_ok
-  cell-absent e = record { good = rw (eq-eqb (length f) 0 e); present = rw (eq-eqb (length f) 0 e); value = rw (eq-eqb (length f) 0 e) }
+  cell-absent e = (rw (eq-eqb (length f) 0 e), rw (eq-eqb (length f) 0 e))
 
-  pub cell-given : (length f ≡ 0 → ⊥) → (x : Float) → Number.Value x ≡ number f → (w : ℕ) → w ≡ bits x → CellIs f (record { ok = true; bit = 1; word = w })
+  pub cell-given : (length f ≡ 0 → ⊥) → (x : Float) → Some x ≡ number f → (w : ℕ) → w ≡ bits x → CellIs f (Some (Some w))
   unfolding given cell_ok
-  cell-given n x e w v = record { good = rw (ne_eqb (length f) 0 n, ← e); present = rw (ne_eqb (length f) 0 n, ← e); value = rw (ne_eqb (length f) 0 n, ← e) v }
+  cell-given n x e w v = (rw (ne_eqb (length f) 0 n, ← e), rw (ne_eqb (length f) 0 n, ← e) (ap some v))
 
-  pub cell_bad : (length f ≡ 0 → ⊥) → Number.Bad ≡ number f → CellIs f (record { ok = false; bit = 0; word = 0 })
-  unfolding given cell_ok
-  cell_bad n e = record { good = rw (ne_eqb (length f) 0 n, ← e); present = rw (ne_eqb (length f) 0 n, ← e); value = rw (ne_eqb (length f) 0 n, ← e) }
+  pub cell_bad : (length f ≡ 0 → ⊥) → None ≡ number f → cell_ok f ≡ false
+  unfolding cell_ok
+  cell_bad n e = rw (ne_eqb (length f) 0 n, ← e)
 
 pub bit-one : (o : Option ℕ) → bit_of o ≤ 1
 bit-one none = zero-le
 bit-one (some w) = lit≤ tt
 
-pub cell-bit : {f : List ℕ} {c : Cell} → CellIs f c → c.bit ≤ 1
-cell-bit {f} {c} h = subst (λ (b : ℕ). b ≤ 1) (sym h.present) (bit-one (given f))
-
 -- ---- `take_cell`
-pub took : (t : List ℕ) (at i mask : ℕ) (row : List ℕ) (end code b : ℕ) (cell : Cell) → end ≡ at + reach (drop at t) → CellIs (take (end - at) (drop at t)) cell
-    → code ≡ code_at i → b ≡ cell.bit * 2 ^ code
-    → Took t at i mask row (set row (r_cells + code) cell.word) (record { ok = cell.ok; next = end + 1; mask = mask + b })
-took t at i mask row end code b cell e is k d =
+pub word-is : (c : Read ℕ) → unwrap_or c 0 ≡ word_of (as_cell c)
+word-is None = refl
+word-is (Some w) = refl
+
+pub bit-is : (c : Read ℕ) → from_bool (is_some c) ≡ bit_of (as_cell c)
+bit-is None = refl
+bit-is (Some w) = refl
+
+pub took : (t : List ℕ) (at i mask : ℕ) (row : List ℕ) (end code b w : ℕ) (cell : Read ℕ) → end ≡ at + reach (drop at t)
+    → CellIs (take (end - at) (drop at t)) (Some cell)
+    → code ≡ code_at i → w ≡ unwrap_or cell 0 → b ≡ from_bool (is_some cell) * 2 ^ code
+    → Took t at i mask row (set row (r_cells + code) w) (record { next = end + 1; mask = mask + b })
+took t at i mask row end code b w cell e is k u d =
     let n : end - at ≡ reach (drop at t) = omega arith in
-    let c : CellIs (field_at t at) cell = subst (λ (z : ℕ). CellIs (take z (drop at t)) cell) n is in
+    let c : CellIs (field_at t at) (Some cell) = subst (λ (z : ℕ). CellIs (take z (drop at t)) (Some cell)) n is in
     record {
-      good = c.good;
+      good = c.0;
       after = ap (λ (z : ℕ). z + 1) e;
-      bits = ap (λ (z : ℕ). mask + z) (d ∙ ap (λ (z : ℕ). z * 2 ^ code) c.present ∙ ap (λ (z : ℕ). bit_of (given (field_at t at)) * 2 ^ z) k);
-      words = ap (λ (z : ℕ). set row (r_cells + z) cell.word) k ∙ ap (set row (r_cells + code_at i)) c.value;
+      bits =
+          ap (λ (z : ℕ). mask + z)
+          (d ∙ ap (λ (z : ℕ). z * 2 ^ code) (bit-is cell ∙ ap bit_of c.1) ∙ ap (λ (z : ℕ). bit_of (given (field_at t at)) * 2 ^ z) k);
+      words = ap (λ (z : ℕ). set row (r_cells + z) w) k ∙ ap (set row (r_cells + code_at i)) (u ∙ word-is cell ∙ ap word_of c.1);
     }
+
+pub took_not : (t : List ℕ) (at end : ℕ) → end ≡ at + reach (drop at t) → cell_ok (take (end - at) (drop at t)) ≡ false → cell_ok (field_at t at) ≡ false
+took_not t at end e h = let n : end - at ≡ reach (drop at t) = omega arith in subst (λ (z : ℕ). cell_ok (take z (drop at t)) ≡ false) n h
 
 pub end-within : (t : List ℕ) (at end : ℕ) → at ≤ length t → end ≡ at + reach (drop at t) → (at ≤ end) × (end ≤ length t)
 end-within t at end h e =
@@ -116,10 +137,10 @@ takes_none t row =
     record { few = zero-le; rest = sym (rest-within t 0 zero-le); enough = zero-le; ok = refl; words = refl; bits = refl; low = zero-le; same = refl }
 
 pub takes-more : (t row₀ : List ℕ) (at mask i : ℕ) (row row' : List ℕ) (r : Taken) → Taking t row₀ at mask i row → at ≤ length t → i < 11
-    → Took t at i mask row row' r → r.ok ≡ true
+    → Took t at i mask row row' r
     → Taking t row₀ r.next r.mask (i + 1) row'
 unfolding placed masked
-takes-more t row₀ at mask i row row' r s h l k g =
+takes-more t row₀ at mask i row row' r s h l k =
     let fs = parted t in
     let w : Rest fs i [] (field_at t at) (rest_at t (at + reach (drop at t) + 1)) =
     rest_of fs i [] (field_at t at) (rest_at t (at + reach (drop at t) + 1)) (s.rest ∙ rest-step t at h) in
@@ -130,7 +151,7 @@ takes-more t row₀ at mask i row row' r s h l k g =
       rest = ap (λ (n : ℕ). drop n fs) (add-one i) ∙ w.further ∙ ap (rest_at t) (sym k.after);
       enough = omega (arith, w.inside);
       ok =
-          all_more i (λ (j : ℕ). cell_ok (get_or fs j [])) s.ok (ap cell_ok w.here ∙ sym k.good ∙ g);
+          all_more i (λ (j : ℕ). cell_ok (get_or fs j [])) s.ok (ap cell_ok w.here ∙ k.good);
       words =
           k.words
           ∙ ap (λ (l : List ℕ). set l (r_cells + code_at i) (word_of (given (field_at t at)))) s.words
@@ -156,13 +177,13 @@ module _ (t row₀ : List ℕ) (at mask i : ℕ) (row : List ℕ) (s : Taking t 
       let n : length (parted t) ≤ i = rest-none (parted t) i (s.rest ∙ rest-behind t at h) in
       wrong row (and_f _ (ne_eqb (length (parted t)) 11 (λ (e : length (parted t) ≡ 11). omega arith)))
 
-  pub ends_bad : (row' : List ℕ) (r : Taken) → at ≤ length t → i < 11 → Took t at i mask row row' r → r.ok ≡ false → CellsRead (parted t) row₀ row' false
+  pub ends_bad : (row' : List ℕ) → at ≤ length t → i < 11 → cell_ok (field_at t at) ≡ false → CellsRead (parted t) row₀ row' false
   unfolding cells_ok
-  ends_bad row' r h l k g =
+  ends_bad row' h l g =
       let fs = parted t in
       let w : Rest fs i [] (field_at t at) (rest_at t (at + reach (drop at t) + 1)) =
       rest_of fs i [] (field_at t at) (rest_at t (at + reach (drop at t) + 1)) (s.rest ∙ rest-step t at h) in
-      let bad : cell_ok (get_or fs i []) ≡ false = ap cell_ok w.here ∙ sym k.good ∙ g in
+      let bad : cell_ok (get_or fs i []) ≡ false = ap cell_ok w.here ∙ g in
       wrong row' (ap (λ (b : Bool). eqb (length fs) 11 && b) (all-fails 11 (λ (j : ℕ). cell_ok (get_or fs j [])) i l bad) ∙ and-false (eqb (length fs) 11))
 
   pub ends-long : 11 ≤ i → at ≤ length t → CellsRead (parted t) row₀ row false

@@ -1,5 +1,6 @@
 -- LAWS. The answers of the readers, case by case. Assumes nothing.
-use Rattle.std.specs.Prelude.{◌≡◌, refl, ℕ, ◌+◌, ◌-◌, ◌*◌, ◌^◌, ◌≤◌, ◌<◌, Bool, true, false, cond, List, [], ◌∷◌, length, take, get_or, Float}
+use Rattle.std.specs.Prelude.{◌≡◌, refl, ℕ, ◌+◌, ◌-◌, ◌*◌, ◌^◌, ◌≤◌, ◌<◌, Bool, true, false, cond, List, [], ◌∷◌, length, take, get_or, Float, Option, Some}
+use Rattle.std.specs.Prelude.{None}
 use Rattle.std.proofs.Math.Path.{ap}
 use Rattle.std.proofs.Common.{◌∙◌, arith, add-one, length-drop, take_all}
 use lib.Dec.{eqb}
@@ -7,10 +8,6 @@ use Rattle.std.proofs.Math.ListN.{drop}
 use borrow.Author.Tests.{lt-ltb, le-ltb, eq-eqb, ne_eqb}
 use Rattle.layout.specs.Layout.{line_numbers}
 use Rattle.csv_decimal.specs.Decimal.{quotient}
-use Rattle.csv_fields.specs.declared.Number.{Number}
-use Rattle.csv_fields.specs.declared.Number.TheVariants as Number
-use Rattle.csv_fields.specs.declared.Line.{Line}
-use Rattle.csv_fields.specs.declared.Line.TheVariants as Line
 use Rattle.csv_fields.specs.Read.{run, num, fraction, unsigned, number, line_number}
 use Rattle.csv_fields.specs.Scans.{run-most, run_length_lem, num-low}
 
@@ -19,15 +16,15 @@ pub tail-is : (t : List ℕ) (a : ℕ) → take (length t - a) (drop a t) ≡ dr
 tail-is t a = take_all (length t - a) (drop a t) (native.Mathlib.Nat.le_of_eq (length-drop a t))
 
 module _ (s : Bool) (n : ℕ) (t : List ℕ) (k v : ℕ) (e : k ≡ run 6 t) (w : v ≡ num n (take k t)) where
-  pub frac_none : k ≡ 0 → Number.Bad ≡ fraction s n t
+  pub frac_none : k ≡ 0 → None ≡ fraction s n t
   unfolding fraction
   frac_none z = rw (← e, eq-eqb k 0 z)
 
-  pub frac_some : (k ≡ 0 → ⊥) → k ≡ length t → (x : Float) → x ≡ quotient s v k → Number.Value x ≡ fraction s n t
+  pub frac_some : (k ≡ 0 → ⊥) → k ≡ length t → (x : Float) → x ≡ quotient s v k → Some x ≡ fraction s n t
   unfolding fraction
-  frac_some z l x q = rw (← e, ne_eqb k 0 z, eq-eqb k (length t) l, ← w) (ap Number.Value q)
+  frac_some z l x q = rw (← e, ne_eqb k 0 z, eq-eqb k (length t) l, ← w) (ap Some q)
 
-  pub frac_more : (k ≡ 0 → ⊥) → (k ≡ length t → ⊥) → Number.Bad ≡ fraction s n t
+  pub frac_more : (k ≡ 0 → ⊥) → (k ≡ length t → ⊥) → None ≡ fraction s n t
   unfolding fraction
   frac_more z l = rw (← e, ne_eqb k 0 z, ne_eqb k (length t) l)
 
@@ -35,22 +32,22 @@ pub frac_few : (t : List ℕ) (k : ℕ) → k ≡ run 6 t → k < 10
 frac_few t k e = let h = run-most 6 t in omega arith
 
 module _ (s : Bool) (t : List ℕ) (k v : ℕ) (e : k ≡ run 9 t) (w : v ≡ num 0 (take k t)) where
-  pub uns_none : k ≡ 0 → Number.Bad ≡ unsigned s t
+  pub uns_none : k ≡ 0 → None ≡ unsigned s t
   unfolding unsigned
   uns_none z = rw (← e, eq-eqb k 0 z)
 
-  pub uns_whole : (k ≡ 0 → ⊥) → k ≡ length t → (x : Float) → x ≡ quotient s v 0 → Number.Value x ≡ unsigned s t
+  pub uns_whole : (k ≡ 0 → ⊥) → k ≡ length t → (x : Float) → x ≡ quotient s v 0 → Some x ≡ unsigned s t
   unfolding unsigned
-  uns_whole z l x q = rw (← e, ne_eqb k 0 z, eq-eqb k (length t) l, ← w) (ap Number.Value q)
+  uns_whole z l x q = rw (← e, ne_eqb k 0 z, eq-eqb k (length t) l, ← w) (ap Some q)
 
-  pub uns_point : (k ≡ 0 → ⊥) → (k ≡ length t → ⊥) → get_or t k 0 ≡ 46 → (r : Number) → r ≡ fraction s v (take (length t - (k + 1)) (drop (k + 1) t))
+  pub uns_point : (k ≡ 0 → ⊥) → (k ≡ length t → ⊥) → get_or t k 0 ≡ 46 → (r : Option Float) → r ≡ fraction s v (take (length t - (k + 1)) (drop (k + 1) t))
       → r ≡ unsigned s t
   unfolding unsigned
   uns_point z l p r q =
       rw (← e, ne_eqb k 0 z, ne_eqb k (length t) l, eq-eqb (get_or t k 0) 46 p, ← w)
       (q ∙ ap (fraction s v) (tail-is t (k + 1) ∙ ap (λ (i : ℕ). drop i t) (add-one k)))
 
-  pub uns_other : (k ≡ 0 → ⊥) → (k ≡ length t → ⊥) → (get_or t k 0 ≡ 46 → ⊥) → Number.Bad ≡ unsigned s t
+  pub uns_other : (k ≡ 0 → ⊥) → (k ≡ length t → ⊥) → (get_or t k 0 ≡ 46 → ⊥) → None ≡ unsigned s t
   unfolding unsigned
   uns_other z l p = rw (← e, ne_eqb k 0 z, ne_eqb k (length t) l, ne_eqb (get_or t k 0) 46 p)
 
@@ -64,21 +61,21 @@ uns_low t k v e w =
     let q : v ≡ num 0 (take (run 9 t) t) = w ∙ ap (λ (i : ℕ). num 0 (take i t)) e in
     omega arith
 
-pub nothing : (t : List ℕ) → length t ≡ 0 → Number.Bad ≡ number t
+pub nothing : (t : List ℕ) → length t ≡ 0 → None ≡ number t
 unfolding number unsigned fraction run num
 nothing [] h = refl
 nothing (c ∷ t) h = absurd (omega arith)
 
-pub minus_in : (t : List ℕ) → get_or t 0 0 ≡ 45 → (r : Number) → r ≡ unsigned true (take (length t - 1) (drop 1 t)) → r ≡ number t
+pub minus_in : (t : List ℕ) → get_or t 0 0 ≡ 45 → (r : Option Float) → r ≡ unsigned true (take (length t - 1) (drop 1 t)) → r ≡ number t
 unfolding number
 minus_in t h r q = rw (eq-eqb (get_or t 0 0) 45 h) (q ∙ ap (unsigned true) (tail-is t 1))
 
-pub no_minus : (t : List ℕ) → (get_or t 0 0 ≡ 45 → ⊥) → (r : Number) → r ≡ unsigned false t → r ≡ number t
+pub no_minus : (t : List ℕ) → (get_or t 0 0 ≡ 45 → ⊥) → (r : Option Float) → r ≡ unsigned false t → r ≡ number t
 unfolding number
 no_minus t h r q = rw (ne_eqb (get_or t 0 0) 45 h) q
 
 -- what stands behind the sign, where there is one
-pub signed : (t : List ℕ) (m : Bool) (a : ℕ) → m ≡ eqb (get_or t 0 0) 45 → a ≡ cond m 1 0 → (r : Number) → r ≡ unsigned m (take (length t - a) (drop a t))
+pub signed : (t : List ℕ) (m : Bool) (a : ℕ) → m ≡ eqb (get_or t 0 0) 45 → a ≡ cond m 1 0 → (r : Option Float) → r ≡ unsigned m (take (length t - a) (drop a t))
     → r ≡ number t
 unfolding number
 signed t m a e w r q = q ∙ ap (unsigned m) (tail-is t a) ∙ go m e w
@@ -89,18 +86,18 @@ signed t m a e w r q = q ∙ ap (unsigned m) (tail-is t a) ∙ go m e w
     go false e w = rw (← e) (ap (λ (k : ℕ). unsigned false (drop k t)) w)
 
 module _ (t : List ℕ) (k v : ℕ) (e : k ≡ run 10 t) (w : v ≡ num 0 (take k t)) where
-  pub line-none : k ≡ 0 → Line.Bad ≡ line_number t
+  pub line-none : k ≡ 0 → None ≡ line_number t
   unfolding line_number
   line-none z = rw (← e, eq-eqb k 0 z)
 
-  pub line_at : (k ≡ 0 → ⊥) → k ≡ length t → v < line_numbers → Line.At v ≡ line_number t
+  pub line_at : (k ≡ 0 → ⊥) → k ≡ length t → v < line_numbers → Some v ≡ line_number t
   unfolding line_number
   line_at z l h = rw (← e, ne_eqb k 0 z, eq-eqb k (length t) l, ← w, lt-ltb v line_numbers h)
 
-  pub line-high : (k ≡ 0 → ⊥) → k ≡ length t → line_numbers ≤ v → Line.Bad ≡ line_number t
+  pub line-high : (k ≡ 0 → ⊥) → k ≡ length t → line_numbers ≤ v → None ≡ line_number t
   unfolding line_number
   line-high z l h = rw (← e, ne_eqb k 0 z, eq-eqb k (length t) l, ← w, le-ltb v line_numbers h)
 
-  pub line-more : (k ≡ 0 → ⊥) → (k ≡ length t → ⊥) → Line.Bad ≡ line_number t
+  pub line-more : (k ≡ 0 → ⊥) → (k ≡ length t → ⊥) → None ≡ line_number t
   unfolding line_number
   line-more z l = rw (← e, ne_eqb k 0 z, ne_eqb k (length t) l)

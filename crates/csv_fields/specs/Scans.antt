@@ -142,6 +142,9 @@ module _ (s : List ℕ) (most start i n : ℕ) (c : Scanning s most start i n) w
       let e : i ≡ length s = omega (arith, c.within) in
       stopped (ap (λ (k : ℕ). run (most - i) (drop k s)) e ∙ ap (run (most - i)) (drop-length s) ∙ run-nil (most - i))
 
+  pub at-length : length s ≤ i → Found s most start (length s) n
+  at-length h = let e : i ≡ length s = omega (arith, c.within) in subst (λ (k : ℕ). Found s most start k n) e (at-end h)
+
   pub no_digit : i < length s → is_digit (get_or s i 0) ≡ false → Found s most start i n
   no_digit h d = stopped (ap (run (most - i)) (drop-cons s i 0 h) ∙ run-stops (most - i) (get_or s i 0) (drop (suc i) s) d)
 

@@ -1,9 +1,8 @@
 -- LAWS. Text that is stored piece after piece. Assumes nothing.
-use Rattle.std.specs.Prelude.{ℕ, suc, ◌+◌, ◌≡◌, List, [], ◌∷◌, ◌++◌, length, set}
+use Rattle.std.specs.Prelude.{ℕ, suc, ◌+◌, ◌≡◌, List, [], ◌∷◌, ◌++◌, length, set, Some, None}
 use Rattle.std.proofs.Common.{sym, ◌∙◌, ap, arith, add-zero, length-append}
 use Rattle.std.proofs.lemmas.List.Edits.{sets}
 use Rattle.std.proofs.Math.Seq.{length-sets}
-use Rattle.csv_figures.specs.declared.Placed.TheVariants as Placed
 use Rattle.csv_figures.specs.Out.{Wrote}
 
 pub sets_append : (s t l : List ℕ) (i : ℕ) → sets l i (s ++ t) ≡ sets (sets l i s) (i + length s) t
@@ -23,8 +22,8 @@ pub wrote-length : {o o' t : List ℕ} {n r : ℕ} → Wrote o n t o' r → leng
 wrote-length {o} {o'} {t} {n} {r} w = ap length w.text ∙ length-sets o n t
 
 -- ---- a place is no refusal, and is told by its number
-pub upto-none : (a : ℕ) → Placed.Upto a ≡ Placed.Refused → ⊥
+pub upto-none : (a : ℕ) → Some a ≡ None → ⊥
 upto-none a e = let z : ◌≡◌ {A = ℕ} 0 1 = cc in omega arith
 
-pub upto-same : (a b : ℕ) → Placed.Upto a ≡ Placed.Upto b → a ≡ b
+pub upto-same : (a b : ℕ) → Some a ≡ Some b → a ≡ b
 upto-same a b e = cc

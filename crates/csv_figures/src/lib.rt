@@ -5,13 +5,6 @@ ghost use Rattle.std.specs.Prelude.{[], ◌∷◌, ◌+◌, ◌≤◌, ◌<◌, 
 ghost use Rattle.csv_figures.specs.Out.{Wrote, Put};
 ghost use Rattle.csv_figures.specs.Write.{figures, whole_text, millionths_text};
 
-// Where a number was stored: up to a place, or not at all.
-#[derive(Clone, Copy)]
-pub enum Placed {
-    Upto(usize),
-    Refused,
-}
-
 // Stores b at n, and answers the place after it.
 pub fn put_byte(out: &mut [u8], n: usize, b: u8) -> usize
     requires { n < length out.old }
@@ -27,11 +20,9 @@ fn put_figures(out: &mut [u8], n: usize, k: usize, v: u64) -> usize
     ensures { Wrote out.old n (figures k v) out.new result }
 {
     let mut rest = v;
-    let mut j = k;
-    while j > 0 {
-        j -= 1;
+    for j in (0..k).rev() {
         out[n + j] = csv_digits::last_figure(rest);
-        rest = rest / 10;
+        rest /= 10;
     }
     n + k
 }
@@ -54,24 +45,18 @@ pub fn put_millionths(out: &mut [u8], n: usize, v: u64) -> usize
     put_figures(out, b, 6, v)
 }
 
-// Stores x from n on, with six decimals; refuses what rounds to 10^9 or more in size.
-pub fn put_number(out: &mut [u8], n: usize, x: f64) -> Placed
+// Stores x from n on, with six decimals, and answers the place after it; none for what rounds to 10^9 or more in size.
+pub fn put_number(out: &mut [u8], n: usize, x: f64) -> Option<usize>
     requires { n + 17 ≤ length out.old }
     ensures { Put x out.old n out.new result }
 {
     let v = csv_decimal::in_millionths(x);
     if v >= 1000000000000000 {
-        return Placed::Refused;
+        return None;
     }
-    if x < 0.0 {
-        if v > 0 {
-            let a = put_byte(out, n, b'-');
-            let b = put_millionths(out, a, v);
-            return Placed::Upto(b);
-        }
-        let d = put_millionths(out, n, v);
-        return Placed::Upto(d);
+    if x < 0.0 && v > 0 {
+        let a = put_byte(out, n, b'-');
+        return Some(put_millionths(out, a, v));
     }
-    let c = put_millionths(out, n, v);
-    Placed::Upto(c)
+    Some(put_millionths(out, n, v))
 }

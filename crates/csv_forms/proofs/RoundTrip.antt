@@ -1,5 +1,5 @@
 -- LAWS. What the reader can give, written and read again, is the same; and what is written is clean text of the output's fields. Assumes nothing.
-use Rattle.std.specs.Prelude.{ℕ, zero, suc, ◌+◌, ◌-◌, ◌/◌, ◌%◌, ◌^◌, ◌<◌, refl, Bool, ◌&&◌, T, ltb, Float}
+use Rattle.std.specs.Prelude.{ℕ, zero, suc, ◌+◌, ◌-◌, ◌/◌, ◌%◌, ◌^◌, ◌<◌, refl, Bool, ◌&&◌, T, ltb, Float, Some}
 use Rattle.std.proofs.Math.Path.{◌≡◌, sym, ap}
 use Rattle.std.proofs.Common.{◌∙◌, subst, arith, lit<, length-append}
 use Rattle.std.proofs.Math.Bool.{true, false, cond}
@@ -22,8 +22,6 @@ use Rattle.row_cells.specs.Bits.{has}
 use Rattle.row_cells.specs.Row.{cell, row_of, present_of, line_of, motion_of, plane_of, mark_of}
 use Rattle.row_cells.proofs.RowLaws.{cell-there, row-cell}
 use Rattle.csv_decimal.specs.Decimal.{millionths, quotient, width}
-use Rattle.csv_fields.specs.declared.Number.{Number}
-use Rattle.csv_fields.specs.declared.Number.TheVariants as Number
 use Rattle.csv_fields.specs.Read.{is_digit, number}
 use Rattle.csv_numbers.specs.Grammar.{all_digits}
 use Rattle.csv_figures.specs.Write.{figures, whole_text, millionths_text, number_text, shown}
@@ -112,7 +110,7 @@ module _ (r : List ℕ) (i : ℕ) where
   cell-absent e = let h = there none e in record { may = rw h; good = rw h; same = rw h }
 
   cell-present : (x : Float) → cell r (code_at i) ≡ some (bits x) → num (bits x) ≡ x
-      → (shown x ≡ true) × (number (number_text x) ≡ Number.Value x) → Again r i (some (bits x))
+      → (shown x ≡ true) × (number (number_text x) ≡ Some x) → Again r i (some (bits x))
   unfolding cell_shown cell_text cell_ok given
   cell-present x c v a =
       let t = number_text x in
@@ -121,7 +119,7 @@ module _ (r : List ℕ) (i : ℕ) where
       let z : eqb (length t) 0 ≡ false = ne_eqb (length t) 0 (λ (q : length t ≡ 0). empty t x q a.1) in
       record { may = rw (h, e) a.0; good = rw (h, e, z, a.1); same = rw (h, e, z, a.1) }
     where
-      empty : (t : List ℕ) (x : Float) → length t ≡ 0 → number t ≡ Number.Value x → ⊥
+      empty : (t : List ℕ) (x : Float) → length t ≡ 0 → number t ≡ Some x → ⊥
       empty t x q v = no_value x (nothing t q ∙ v)
 
 module _ (n a b : ℕ) (cs : List (List ℕ)) where

@@ -1,5 +1,5 @@
 -- LAWS. The reader accepts the lines that have the form of a row, and no others. Assumes nothing.
-use Rattle.std.specs.Prelude.{ℕ, suc, ◌-◌, ◌<◌, ◌≡◌, refl, Bool, true, false, cond, List, [], ◌∷◌, T, eqb, length, get_or, Float}
+use Rattle.std.specs.Prelude.{ℕ, suc, ◌-◌, ◌<◌, ◌≡◌, refl, Bool, true, false, cond, List, [], ◌∷◌, T, eqb, length, get_or, Float, Option as Read, Some, None}
 use Rattle.std.proofs.Common.{sym, ap, ◌∙◌, subst, arith, eq-eqb, ne_eqb, eqb-true}
 use Rattle.std.proofs.lemmas.Bool.{false≢true}
 use Rattle.std.proofs.Math.Option.{Option, none, some}
@@ -10,16 +10,10 @@ use Rattle.floats.specs.Lists.{all}
 use Rattle.floats.specs.Truth.{and_left, and_right, and_i as both, all-at, all_intro}
 use Rattle.row_cells.specs.Row.{row_of}
 use Rattle.csv_decimal.specs.Decimal.{quotient}
-use Rattle.csv_fields.specs.declared.Number.{Number}
-use Rattle.csv_fields.specs.declared.Number.TheVariants as Number
-use Rattle.csv_fields.specs.declared.Line.{Line}
-use Rattle.csv_fields.specs.declared.Line.TheVariants as Line
 use Rattle.csv_fields.specs.Read.{number, line_number}
 use Rattle.csv_numbers.specs.Grammar.{Unsigned, plain, point, bare, minus, Numbered}
 use Rattle.csv_numbers.proofs.Forms.{no_value, form_read, read_form, line-form_read, line_read_form}
 use Rattle.csv_fields.specs.Readers.{nothing}
-use Rattle.csv_words.specs.declared.Found.{Found}
-use Rattle.csv_words.specs.declared.Found.TheVariants as Found
 use Rattle.csv_words.specs.Words.{word_at, plane_text, motion_of, plane_of}
 use Rattle.csv_words.specs.Codes.{motion-again, motion-only, plane-again, plane-only}
 use Rattle.csv_line.specs.LineText.{column_count, parted, joined}
@@ -39,18 +33,18 @@ cell-form (c ∷ f) e =
     subst (λ (b : Bool). CellForm (c ∷ f) (cond b none (word_in (number (c ∷ f))))) (sym n)
     (go (number (c ∷ f)) refl (ap (λ (b : Bool). cond b true (is_number (number (c ∷ f)))) (sym n) ∙ e))
   where
-    go : (x : Number) → number (c ∷ f) ≡ x → is_number x ≡ true → CellForm (c ∷ f) (word_in x)
-    go (Number.Value x) h k = let r = read_form (c ∷ f) x h in subst (λ (y : Float). CellForm (c ∷ f) (some (bits y))) (sym r.value) (present r.form)
-    go Number.Bad h k = absurd (false≢true k)
+    go : (x : Read Float) → number (c ∷ f) ≡ x → is_number x ≡ true → CellForm (c ∷ f) (word_in x)
+    go (Some x) h k = let r = read_form (c ∷ f) x h in subst (λ (y : Float). CellForm (c ∷ f) (some (bits y))) (sym r.value) (present r.form)
+    go None h k = absurd (false≢true k)
 
-full : (f : List ℕ) (x : Float) → number f ≡ Number.Value x → length f ≡ 0 → ⊥
+full : (f : List ℕ) (x : Float) → number f ≡ Some x → length f ≡ 0 → ⊥
 full f x e z = no_value x (nothing f z ∙ e)
 
 pub form-cell : (f : List ℕ) (o : Option ℕ) → CellForm f o → (cell_ok f ≡ true) × (given f ≡ o)
 unfolding cell_ok given
 form-cell f o absent = (refl, refl)
 form-cell f o (present {t = t} {s = s} {n = n} {k = k} w) =
-    let e : number t ≡ Number.Value (quotient s n k) = form_read t s n k w in
+    let e : number t ≡ Some (quotient s n k) = form_read t s n k w in
     let z : eqb (length t) 0 ≡ false = ne_eqb (length t) 0 (full t (quotient s n k) e) in
     (ap (λ (b : Bool). cond b true (is_number (number t))) z ∙ ap is_number e, ap (λ (b : Bool). cond b none (word_in (number t))) z ∙ ap word_in e)
 
@@ -64,11 +58,11 @@ cell-clean f o (present (bare {t = t} {n = n} {k = k} u)) = unsigned-clean t n k
 cell-clean f o (present (minus {t = t} {n = n} {k = k} u)) = and_i true (clean t) tt (unsigned-clean t n k u)
 
 -- ---- the plane words
-plane-ok : (p : List ℕ) (b : ℕ) → plane_of p ≡ Found.Code b → (plane_text b ≡ p) × (plane_ok b ≡ true)
+plane-ok : (p : List ℕ) (b : ℕ) → plane_of p ≡ Some b → (plane_text b ≡ p) × (plane_ok b ≡ true)
 unfolding plane_ok
 plane-ok p b h = plane-only p b h
 
-plane_is_read : (b : ℕ) → plane_ok b ≡ true → plane_of (plane_text b) ≡ Found.Code b
+plane_is_read : (b : ℕ) → plane_ok b ≡ true → plane_of (plane_text b) ≡ Some b
 unfolding plane_ok
 plane_is_read b h = plane-again b h
 
@@ -115,25 +109,25 @@ of_plane : (l m : List ℕ) (n a : ℕ) (fs : List (List ℕ)) (row : List ℕ) 
 of_plane l m n a [] row x y e = absurd (no_row row e)
 of_plane l m n a (p ∷ fs) row x y e = go (plane_of p) refl e
   where
-    go : (f : Found) → plane_of p ≡ f → coded f (λ (c : ℕ). from_cells n a c fs) ≡ some row → FieldsForm (l ∷ m ∷ p ∷ fs) row
-    go Found.Nowhere h e = absurd (no_row row e)
-    go (Found.Code b) h e = of_cells l m p n a b fs row x y (plane-ok p b h) e
+    go : (f : Read ℕ) → plane_of p ≡ f → coded f (λ (c : ℕ). from_cells n a c fs) ≡ some row → FieldsForm (l ∷ m ∷ p ∷ fs) row
+    go None h e = absurd (no_row row e)
+    go (Some b) h e = of_cells l m p n a b fs row x y (plane-ok p b h) e
 
 of_motion : (l : List ℕ) (n : ℕ) (fs : List (List ℕ)) (row : List ℕ) → Numbered l n → from_motion n fs ≡ some row → FieldsForm (l ∷ fs) row
 of_motion l n [] row x e = absurd (no_row row e)
 of_motion l n (m ∷ fs) row x e = go (motion_of m) refl e
   where
-    go : (f : Found) → motion_of m ≡ f → coded f (λ (c : ℕ). from_plane n c fs) ≡ some row → FieldsForm (l ∷ m ∷ fs) row
-    go Found.Nowhere h e = absurd (no_row row e)
-    go (Found.Code a) h e = of_plane l m n a fs row x (motion-only m a h) e
+    go : (f : Read ℕ) → motion_of m ≡ f → coded f (λ (c : ℕ). from_plane n c fs) ≡ some row → FieldsForm (l ∷ m ∷ fs) row
+    go None h e = absurd (no_row row e)
+    go (Some a) h e = of_plane l m n a fs row x (motion-only m a h) e
 
 of_line : (fs : List (List ℕ)) (row : List ℕ) → from_line fs ≡ some row → FieldsForm fs row
 of_line [] row e = absurd (no_row row e)
 of_line (l ∷ fs) row e = go (line_number l) refl e
   where
-    go : (f : Line) → line_number l ≡ f → numbered f (λ (n : ℕ). from_motion n fs) ≡ some row → FieldsForm (l ∷ fs) row
-    go Line.Bad h e = absurd (no_row row e)
-    go (Line.At n) h e = of_motion l n fs row (line_read_form l n h) e
+    go : (f : Read ℕ) → line_number l ≡ f → numbered f (λ (n : ℕ). from_motion n fs) ≡ some row → FieldsForm (l ∷ fs) row
+    go None h e = absurd (no_row row e)
+    go (Some n) h e = of_motion l n fs row (line_read_form l n h) e
 
 -- The reader accepts nothing else: what it takes has the form of the layout, and is that row.
 pub accepted-has-form : (t row : List ℕ) → read_row t ≡ some row → RowForm t row
@@ -154,10 +148,10 @@ fields_read fs row f =
     (all_intro column_count (λ (i : ℕ). cell_ok (get_or cs i []))
     (λ (i : ℕ) (k : i < column_count). (form-cell (get_or cs i []) (given (get_or cs i [])) (f.cells_are i k)).0)) in
     ap from_line f.parts
-    ∙ ap (λ (x : Line). numbered x (λ (n : ℕ). from_motion n (f.motion_field ∷ f.plane_field ∷ cs))) (line-form_read f.line_field f.line f.line-is)
-    ∙ ap (λ (x : Found). coded x (λ (c : ℕ). from_plane f.line c (f.plane_field ∷ cs)))
+    ∙ ap (λ (x : Read ℕ). numbered x (λ (n : ℕ). from_motion n (f.motion_field ∷ f.plane_field ∷ cs))) (line-form_read f.line_field f.line f.line-is)
+    ∙ ap (λ (x : Read ℕ). coded x (λ (c : ℕ). from_plane f.line c (f.plane_field ∷ cs)))
     (ap motion_of (sym f.motion-is.0) ∙ motion-again f.motion f.motion-is.1)
-    ∙ ap (λ (x : Found). coded x (λ (c : ℕ). from_cells f.line f.motion c cs))
+    ∙ ap (λ (x : Read ℕ). coded x (λ (c : ℕ). from_cells f.line f.motion c cs))
     (ap plane_of (sym f.plane-is.0) ∙ plane_is_read f.plane f.plane-is.1)
     ∙ ap (λ (b : Bool). cond b (some (row_of f.line f.motion f.plane 0 0 (cells_in cs))) none) ok
     ∙ ap some (sym f.row_is)

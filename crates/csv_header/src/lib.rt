@@ -9,40 +9,23 @@ ghost use Rattle.csv_header.specs.Header.{header, header_out};
 
 use csv_line::{put_bytes, put_crlf};
 
-fn is_same(a: &[u8], b: &[u8]) -> bool
-    ensures { result ≡ same a.now b.now }
-{
-    if a.len() != b.len() {
-        return false;
-    }
-    let mut i: usize = 0;
-    while i < a.len() {
-        if a[i] != b[i] {
-            return false;
-        }
-        i += 1;
-    }
-    true
-}
+const HEADER: &[u8] = b"line_no,gg01_motion,gg06_plane_select,X,Y,Z,I,J,K,CR,TURN,PW,SD,F";
+
+const HEADER_OUT: &[u8] =
+    b"line_no,gg01_motion,gg06_plane_select,X,Y,Z,I,J,K,CR,TURN,PW,SD,F,flattened";
 
 // Whether the text of a line is the first header.
 pub fn is_header(text: &[u8]) -> bool
     ensures { result ≡ same header text.now }
 {
-    is_same(
-        b"line_no,gg01_motion,gg06_plane_select,X,Y,Z,I,J,K,CR,TURN,PW,SD,F",
-        text,
-    )
+    HEADER == text
 }
 
 // Whether the text of a line is the second header.
 pub fn is_header_out(text: &[u8]) -> bool
     ensures { result ≡ same header_out text.now }
 {
-    is_same(
-        b"line_no,gg01_motion,gg06_plane_select,X,Y,Z,I,J,K,CR,TURN,PW,SD,F,flattened",
-        text,
-    )
+    HEADER_OUT == text
 }
 
 // The second header, with the end of its line.
@@ -50,10 +33,6 @@ pub fn put_header(out: &mut [u8], n: usize) -> usize
     requires { n + 80 ≤ length out.old }
     ensures { Wrote out.old n (header_out ++ crlf) out.new result }
 {
-    let a = put_bytes(
-        out,
-        n,
-        b"line_no,gg01_motion,gg06_plane_select,X,Y,Z,I,J,K,CR,TURN,PW,SD,F,flattened",
-    );
+    let a = put_bytes(out, n, HEADER_OUT);
     put_crlf(out, a)
 }

@@ -1,6 +1,6 @@
 -- LAWS. A line that is longer than any row is refused, whatever stands in it: a buffer that it fills is refused as the whole line is. Assumes nothing.
 use Prim.Native.Nat.{ℕ, suc, ◌+◌, ◌-◌, ◌*◌, ◌≤◌, ◌<◌, zero-le}
-use Rattle.std.specs.Prelude.{◌≡◌, Bool, true, false, cond, eqb, leb, length, take, drop, get_or}
+use Rattle.std.specs.Prelude.{◌≡◌, Bool, true, false, cond, eqb, leb, length, take, drop, get_or, Option as Read, Some, None}
 use Rattle.std.proofs.Math.Path.{refl}
 use Rattle.std.proofs.Common.{sym, ap, ◌∙◌, arith, mul-suc, length-append, length-take-le, leb-true, leb-false}
 use Rattle.std.proofs.lemmas.Bool.{false≢true}
@@ -9,8 +9,6 @@ use Rattle.std.proofs.Math.Option.{Option, none, some}
 use Rattle.csv_numbers.specs.Grammar.{Unsigned, plain, point, bare, minus}
 use Rattle.csv_words.specs.Table.{short}
 use Rattle.csv_words.specs.Words.{same}
-use Rattle.csv_line.specs.declared.End.{End}
-use Rattle.csv_line.specs.declared.End.TheVariants as End
 use Rattle.csv_line.specs.LineText.{tailed, joined, end_of}
 use Rattle.csv_header.specs.Header.{header}
 use Rattle.floats.specs.Truth.{and_right}
@@ -106,9 +104,9 @@ long-text s t h = rw (long-no-header t h, long-no-row t h) (go (eqb s.physical 1
 long-end : (s : Stand) (l : List ℕ) → longest_row + 2 < length l → on_end s l (end_of l) ≡ unread s
 long-end s l h = go (end_of l) refl
   where
-    go : (x : End) → end_of l ≡ x → on_end s l x ≡ unread s
-    go End.Bad e = refl
-    go (End.Upto n) e =
+    go : (x : Read ℕ) → end_of l ≡ x → on_end s l x ≡ unread s
+    go None e = refl
+    go (Some n) e =
         let k : n ≡ length l - 2 = end-at l e in
         long-text s (take n l) (omega (arith, length-take-le n l (omega arith)))
 

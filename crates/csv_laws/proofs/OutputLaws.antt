@@ -1,12 +1,11 @@
 -- LAWS. Standard output is nothing, or a header line and clean lines, whatever the input is. Assumes nothing.
-use Rattle.std.specs.Prelude.{ℕ, zero, suc, ◌+◌, ◌<◌, ◌⊎◌, ◌≡◌, refl, Bool, true, false, cond, List, [], ◌∷◌, ◌++◌, eqb, ltb, length, take}
+use Rattle.std.specs.Prelude.{ℕ, zero, suc, ◌+◌, ◌<◌, ◌⊎◌, ◌≡◌, refl, Bool, true, false, cond, List, [], ◌∷◌, ◌++◌, eqb, ltb, length, take, Option as Read}
+use Rattle.std.specs.Prelude.{Some, None}
 use Rattle.std.proofs.Common.{inl, inr, ⊎_elim, sym, ap, ◌∙◌, append_assoc, append-nil, arith, eq-eqb, ne_eqb, ltb-false}
 use Rattle.std.proofs.Math.Path.{subst}
 use Rattle.std.proofs.Math.Option.{Option, none as no_row, some}
 use Rattle.floats.specs.Lists.{upto, flatten}
 use Rattle.csv_words.specs.Words.{same}
-use Rattle.csv_line.specs.declared.End.{End}
-use Rattle.csv_line.specs.declared.End.TheVariants as End
 use Rattle.csv_line.specs.LineText.{crlf, end_of}
 use Rattle.csv_header.specs.Header.{header, header_out}
 use Rattle.floats.specs.Truth.{all-at}
@@ -84,9 +83,9 @@ text-clean : (s : Stand) (t : List ℕ) → (s.physical ≡ 1 → ⊥) → Clean
 unfolding on_text
 text-clean s t h = rw (ne_eqb s.physical 1 h) (read_clean s (read_row t))
 
-end_clean : (s : Stand) (l : List ℕ) (x : End) → (s.physical ≡ 1 → ⊥) → CleanLines (on_end s l x).out
-end_clean s l End.Bad h = unread-clean s
-end_clean s l (End.Upto n) h = text-clean s (take n l) h
+end_clean : (s : Stand) (l : List ℕ) (x : Read ℕ) → (s.physical ≡ 1 → ⊥) → CleanLines (on_end s l x).out
+end_clean s l None h = unread-clean s
+end_clean s l (Some n) h = text-clean s (take n l) h
 
 line_clean : (s : Stand) (l : List ℕ) → (s.physical ≡ 1 → ⊥) → CleanLines (csv_line s l).out
 unfolding csv_line
@@ -99,10 +98,10 @@ close-clean s left =
     step-clean (eqb left 0) _ _ shut (unread-clean s)
 
 -- ---- a line behind the first is not the first
-physical-stays : (s : Stand) (l : List ℕ) (x : End) → (on_end s l x).stand.physical ≡ s.physical
+physical-stays : (s : Stand) (l : List ℕ) (x : Read ℕ) → (on_end s l x).stand.physical ≡ s.physical
 unfolding unread on_text on_row
-physical-stays s l End.Bad = refl
-physical-stays s l (End.Upto n) = go (eqb s.physical 1) (read_row (take n l))
+physical-stays s l None = refl
+physical-stays s l (Some n) = go (eqb s.physical 1) (read_row (take n l))
   where
     go : (b : Bool) (o : Option (List ℕ)) → (cond b (spoken s (heading s.physical (take n l))) (on_read s o)).stand.physical ≡ s.physical
     go true o = refl
@@ -144,9 +143,9 @@ first-line s l h = go (end_of l)
     header_or_not t false e =
         let w = heading_bad s.physical t e in inl (ap (λ (p : Say). p.out) w, ap (λ (p : Say). p.refused) w)
 
-    go : (x : End) → (((on_end s l x).out ≡ []) × ((on_end s l x).stand.refused ≡ true)) ⊎ ((on_end s l x).out ≡ header_out ++ crlf)
-    go End.Bad = inl (refl, refl)
-    go (End.Upto n) = rw (text-header s (take n l) h) (header_or_not (take n l) (same header (take n l)) refl)
+    go : (x : Read ℕ) → (((on_end s l x).out ≡ []) × ((on_end s l x).stand.refused ≡ true)) ⊎ ((on_end s l x).out ≡ header_out ++ crlf)
+    go None = inl (refl, refl)
+    go (Some n) = rw (text-header s (take n l) h) (header_or_not (take n l) (same header (take n l)) refl)
 
 end-silent : (s : Stand) (n : ℕ) → s.physical ≡ 1 → (csv_end s n).out ≡ []
 unfolding csv_end unread refusal

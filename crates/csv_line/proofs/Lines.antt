@@ -1,59 +1,68 @@
 -- What the functions on lines do. Assumes nothing.
-use Prim.Native.Nat.{ℕ, ◌+◌, ◌-◌, ◌≤◌, ◌<◌}
-use mathlib.Core.Path.{◌≡◌, sym, ap, ◌∙◌}
-use mathlib.Core.List.{List, [], ◌∷◌}
-use native.Mathlib.Omega.{arith}
-use native.Mathlib.Numerals.{add-one}
-use lib.ListN.{length, take, get_or, set, length-set}
-use lib.Seq.{sets, take-suc, take-length, length-take-le}
-use borrow.Author.Tests.{lt-ltb, le-ltb, eq-eqb, ne_eqb}
+use Rattle.std.specs.Prelude.{◌≡◌, refl, ℕ, suc, ◌+◌, ◌-◌, ◌≤◌, ◌<◌, Bool, true, false, cond, ◌&&◌, eqb, List, [], ◌∷◌, ◌++◌, length, take, drop, get_or, Some}
+use Rattle.std.specs.Prelude.{None}
+use Rattle.std.proofs.Common.{sym, ap, ◌∙◌, arith, add-one, append_assoc, drop-drop, drop-cons, le-ltb}
+use Rattle.std.proofs.Math.Seq.{drop-length}
+use Rattle.std.proofs.lemmas.List.Edits.{sets-eq}
+use Rattle.std.specs.Cmp.Lexicographic.{pointwise}
 use Rattle.csv_figures.specs.Out.{Wrote}
-use Rattle.csv_figures.specs.OutLaws.{sets_append}
-use Rattle.csv_line.specs.declared.End.{End}
-use Rattle.csv_line.specs.declared.End.TheVariants as End
-use Rattle.csv_line.specs.LineText.{end_of}
+use Rattle.csv_line.specs.LineText.{crlf, end_of}
 
--- ---- `text_end`
-module _ (s : List ℕ) where
-  pub end_short : length s < 2 → End.Bad ≡ end_of s
-  unfolding end_of
-  end_short h = rw (lt-ltb (length s) 2 h)
+-- ---- `text_end`: the last two bytes are looked at
+and-false : (a : Bool) → (a && false) ≡ false
+and-false true = refl
+and-false false = refl
 
-  module _ (h : 2 ≤ length s) where
-    pub end_no_cr : (get_or s (length s - 2) 0 ≡ 13 → ⊥) → End.Bad ≡ end_of s
-    unfolding end_of
-    end_no_cr n = rw (le-ltb (length s) 2 h, ne_eqb (get_or s (length s - 2) 0) 13 n)
+pub ending : (s : List ℕ) → cond (pointwise eqb (drop (length s - 2) s) crlf) (Some (length s - 2)) None ≡ end_of s
+unfolding end_of
+ending [] = refl
+ending (a ∷ []) = ap (λ (b : Bool). cond b (Some 0) None) (and-false (eqb a 13))
+ending (a ∷ b ∷ r) = ap (λ (b : Bool). cond b (Some i) None) tail ∙ go (eqb (get_or s i 0) 13) (eqb (get_or s (i + 1) 0) 10) ∙ long
+  where
+    s : List ℕ
+    s = a ∷ b ∷ r
 
-    pub end-no-lf : get_or s (length s - 2) 0 ≡ 13 → (get_or s (length s - 2 + 1) 0 ≡ 10 → ⊥) → End.Bad ≡ end_of s
-    unfolding end_of
-    end-no-lf e n = rw (le-ltb (length s) 2 h, eq-eqb (get_or s (length s - 2) 0) 13 e, ne_eqb (get_or s (length s - 2 + 1) 0) 10 n)
+    i : ℕ
+    i = length s - 2
 
-    pub end-found : get_or s (length s - 2) 0 ≡ 13 → get_or s (length s - 2 + 1) 0 ≡ 10 → End.Upto (length s - 2) ≡ end_of s
-    unfolding end_of
-    end-found e f = rw (le-ltb (length s) 2 h, eq-eqb (get_or s (length s - 2) 0) 13 e, eq-eqb (get_or s (length s - 2 + 1) 0) 10 f)
+    last : drop i s ≡ get_or s i 0 ∷ get_or s (i + 1) 0 ∷ []
+    last =
+        let h : i < length s = omega arith in
+        let k : suc i < length s = omega arith in
+        let e : suc (suc i) ≡ length s = omega arith in
+        drop-cons s i 0 h
+        ∙ ap (λ (l : List ℕ). get_or s i 0 ∷ l) (drop-cons s (suc i) 0 k)
+        ∙ ap (λ (l : List ℕ). get_or s i 0 ∷ get_or s (suc i) 0 ∷ l) (ap (λ (j : ℕ). drop j s) e ∙ drop-length s)
+        ∙ ap (λ (j : ℕ). get_or s i 0 ∷ get_or s j 0 ∷ []) (sym (add-one i))
 
--- ---- `put_bytes`: the first i bytes of s are stored
-pub record Storing (s o : List ℕ) (n i : ℕ) (o' : List ℕ) : Type 0 where
-  pub within : i ≤ length s
-  pub text : o' ≡ sets o n (take i s)
-  pub long : length o' ≡ length o
+    tail : pointwise eqb (drop i s) crlf ≡ (eqb (get_or s i 0) 13 && (eqb (get_or s (i + 1) 0) 10 && true))
+    tail = ap (λ (l : List ℕ). pointwise eqb l crlf) last
 
-pub stores-more : {s o o' : List ℕ} {n i : ℕ} → Storing s o n i o' → i < length s → Storing s o n (i + 1) (set o' (n + i) (get_or s i 0))
-stores-more {s} {o} {o'} {n} {i} c h =
-    let t = take i s in
-    let l : length t ≡ i = length-take-le i s c.within in
-    let v = get_or s i 0 in
+    go : (x y : Bool) → cond (x && (y && true)) (Some i) None ≡ cond x (cond y (Some i) None) None
+    go true true = refl
+    go true false = refl
+    go false y = refl
+
+    long : cond (eqb (get_or s i 0) 13) (cond (eqb (get_or s (i + 1) 0) 10) (Some i) None) None ≡ end_of s
+    long = rw (le-ltb (length s) 2 (omega arith))
+
+pub no_end : (s : List ℕ) → pointwise eqb (drop (length s - 2) s) crlf ≡ false → None ≡ end_of s
+no_end s e = ap (λ (b : Bool). cond b (Some (length s - 2)) None) (sym e) ∙ ending s
+
+pub an_end : (s t : List ℕ) → pointwise eqb (drop (length s - 2) s) crlf ≡ true → length t + 2 ≡ length s → Some (length t) ≡ end_of s
+an_end s t e l =
+    let k : length t ≡ length s - 2 = omega arith in
+    ap (λ (i : ℕ). Some i) k ∙ ap (λ (b : Bool). cond b (Some (length s - 2)) None) (sym e) ∙ ending s
+
+-- ---- `put_bytes`: the bytes stand between what was before and behind them
+pub pasted : {o s t : List ℕ} (n : ℕ) → n + length s ≤ length o → t ≡ s → Wrote o n s (take n o ++ (t ++ drop (n + length s - n) (drop n o))) (n + length s)
+pasted {o} {s} {t} n h e =
+    let k : n + (n + length s - n) ≡ n + length s = omega arith in
     record {
-      within = omega arith;
+      next = refl;
       text =
-          ap (λ (x : List ℕ). set x (n + i) v) c.text
-          ∙ ap (λ (k : ℕ). set (sets o n t) (n + k) v) (sym l)
-          ∙ sym (sets_append t (v ∷ []) o n)
-          ∙ ap (sets o n) (sym (take-suc s i 0 h) ∙ ap (λ (k : ℕ). take k s) (sym (add-one i)));
-      long = length-set o' (n + i) v ∙ c.long;
+          ap (λ (l : List ℕ). take n o ++ (l ++ drop (n + length s - n) (drop n o))) e
+          ∙ ap (λ (l : List ℕ). take n o ++ (s ++ l)) (drop-drop (n + length s - n) n o ∙ ap (λ (i : ℕ). drop i o) k)
+          ∙ sym (append_assoc (take n o) s (drop (n + length s) o))
+          ∙ sym (sets-eq s o n h);
     }
-
-pub stored_all : {s o o' : List ℕ} {n i : ℕ} → Storing s o n i o' → length s ≤ i → Wrote o n s o' (n + i)
-stored_all {s} {o} {o'} {n} {i} c h =
-    let e : i ≡ length s = omega (arith, c.within) in
-    record { next = ap (λ (k : ℕ). n + k) e; text = c.text ∙ ap (λ (k : ℕ). sets o n (take k s)) e ∙ ap (sets o n) (take-length s) }

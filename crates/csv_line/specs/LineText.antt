@@ -1,8 +1,6 @@
 -- DEFINITIONS. Lines and fields: rules 7.3, 7.4. Assumes nothing.
-use Rattle.std.specs.Prelude.{ℕ, ◌+◌, ◌-◌, cond, List, [], ◌∷◌, ◌++◌, eqb, ltb, length, get_or}
+use Rattle.std.specs.Prelude.{ℕ, ◌+◌, ◌-◌, cond, List, [], ◌∷◌, ◌++◌, eqb, ltb, length, get_or, Option, Some, None}
 use Rattle.layout.specs.Layout.{axis_codes, c_offset, c_cr, c_turn, c_pw, c_sd}
-use Rattle.csv_line.specs.declared.End.{End}
-use Rattle.csv_line.specs.declared.End.TheVariants as End
 
 abbrev pub comma : ℕ
 comma = 44
@@ -12,10 +10,10 @@ abbrev pub crlf : List ℕ
 crlf = 13 ∷ 10 ∷ []
 
 -- where the text of a line ends, before its CRLF
-unfoldable pub end_of : List ℕ → End
+unfoldable pub end_of : List ℕ → Option ℕ
 end_of s =
-    cond (ltb (length s) 2) End.Bad
-    (cond (eqb (get_or s (length s - 2) 0) 13) (cond (eqb (get_or s (length s - 2 + 1) 0) 10) (End.Upto (length s - 2)) End.Bad) End.Bad)
+    cond (ltb (length s) 2) None
+    (cond (eqb (get_or s (length s - 2) 0) 13) (cond (eqb (get_or s (length s - 2 + 1) 0) 10) (Some (length s - 2)) None) None)
 
 -- 7.4: the codes of X Y Z I J K CR TURN PW SD F
 abbrev pub columns : List ℕ

@@ -8,38 +8,20 @@ ghost use Rattle.csv_line.specs.LineText.{crlf, end_of};
 use csv_figures::put_byte;
 
 // Where the text of a line ends and its CRLF begins.
-#[derive(Clone, Copy)]
-pub enum End {
-    Upto(usize),
-    Bad,
-}
-
-pub fn text_end(line: &[u8]) -> End
+pub fn text_end(line: &[u8]) -> Option<usize>
     ensures { result ≡ end_of line.now }
 {
-    if line.len() < 2 {
-        return End::Bad;
-    }
-    let end = line.len() - 2;
-    if line[end] != b'\r' {
-        return End::Bad;
-    }
-    if line[end + 1] != b'\n' {
-        return End::Bad;
-    }
-    End::Upto(end)
+    let text = line.strip_suffix(b"\r\n")?;
+    Some(text.len())
 }
 
 pub fn put_bytes(out: &mut [u8], n: usize, s: &[u8]) -> usize
     requires { n + length s.now ≤ length out.old }
     ensures { Wrote out.old n s.now out.new result }
 {
-    let mut i: usize = 0;
-    while i < s.len() {
-        out[n + i] = s[i];
-        i += 1;
-    }
-    n + i
+    let end = n + s.len();
+    out[n..end].copy_from_slice(s);
+    end
 }
 
 pub fn put_crlf(out: &mut [u8], n: usize) -> usize

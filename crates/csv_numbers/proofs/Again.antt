@@ -1,5 +1,5 @@
 -- LAWS. A number that was read, when it is written and read again, is the same number. Assumes nothing.
-use Rattle.std.specs.Prelude.{◌≡◌, refl, List, [], ◌∷◌, ◌++◌, eqb, pos, get_or, Float}
+use Rattle.std.specs.Prelude.{◌≡◌, refl, List, [], ◌∷◌, ◌++◌, eqb, pos, get_or, Float, Some, None}
 use Rattle.std.proofs.Math.Path.{sym, ap}
 use Rattle.std.proofs.Common.{◌∙◌, subst, append-nil, lit<, lit≤, pow-add, take_all}
 use Prim.Native.Nat.{ℕ, zero, suc, ◌+◌, ◌-◌, ◌*◌, ◌/◌, ◌%◌, ◌^◌, ◌≤◌, ◌<◌, zero-le}
@@ -19,8 +19,6 @@ use Rattle.csv_decimal.specs.Decimal.{millionths, quotient, width}
 use Rattle.csv_decimal.specs.Widths.{some-width, width-nine, width-holds}
 use Rattle.csv_numbers.proofs.Forms.{no_value}
 use Rattle.csv_numbers.specs.Quotients.{quotient_is, millionths_of, not-under, under, sign_free}
-use Rattle.csv_fields.specs.declared.Number.{Number}
-use Rattle.csv_fields.specs.declared.Number.TheVariants as Number
 use Rattle.csv_fields.specs.Read.{is_digit, run, num, fraction, unsigned, number}
 use Rattle.csv_figures.specs.Write.{figures, millionths_text, number_text, shown}
 use Rattle.csv_fields.specs.Scans.{digit_in, run-nil, run_more, run-stops, run-most, num-low}
@@ -54,7 +52,7 @@ num-figures (suc k) v n =
 
 -- ---- the text of N millionths is read as N / 10 ^ 6
 module _ (s : Bool) (N : ℕ) (small : N < 1000000000000000) where
-  fraction_read : Number.Value (quotient s N 6) ≡ fraction s (N / 1000000) (figures 6 N)
+  fraction_read : Some (quotient s N 6) ≡ fraction s (N / 1000000) (figures 6 N)
   fraction_read =
       let f = figures 6 N in
       let l : length f ≡ 6 = figures-length 6 N in
@@ -63,7 +61,7 @@ module _ (s : Bool) (N : ℕ) (small : N < 1000000000000000) where
       let n : N ≡ num (N / 1000000) (take 6 f) = sym (ap (num (N / 1000000)) t ∙ num-figures 6 N (N / 1000000) ∙ div-add-mod' N 1000000) in
       frac_some s (N / 1000000) f 6 N (sym r) n (λ (e : 6 ≡ 0). absurd (omega arith)) (sym l) (quotient s N 6) refl
 
-  pub unsigned_read : Number.Value (quotient s N 6) ≡ unsigned s (millionths_text N)
+  pub unsigned_read : Some (quotient s N 6) ≡ unsigned s (millionths_text N)
   unfolding millionths_text
   unsigned_read =
       let W = N / 1000000 in
@@ -82,7 +80,7 @@ module _ (s : Bool) (N : ℕ) (small : N < 1000000000000000) where
       let len : length t ≡ w + suc (length g) = length-append f (46 ∷ g) ∙ ap (λ (z : ℕ). z + suc (length g)) l in
       let rest : drop (w + 1) t ≡ g = ap (λ (z : ℕ). drop (z + 1) t) (sym l) ∙ drop-append-add f (46 ∷ g) 1 in
       uns_point s t w W (sym r) n (λ (e : w ≡ 0). absurd (omega (arith, some-width W))) (λ (e : w ≡ length t). absurd (omega arith)) (get_or_at f 46 g 0 w l)
-      (Number.Value (quotient s N 6))
+      (Some (quotient s N 6))
       (fraction_read ∙ ap (fraction s W) (sym (tail-is t (w + 1) ∙ rest)))
 
 first_of : (k v : ℕ) (r : List ℕ) → 1 ≤ k → get_or (figures k v ++ r) 0 0 ≡ 45 → ⊥
@@ -90,18 +88,18 @@ unfolding figures
 first_of zero v r h e = omega arith
 first_of (suc k) v r h e = omega arith
 
-pub plain_read : (N : ℕ) → N < 1000000000000000 → number (millionths_text N) ≡ Number.Value (quotient false N 6)
+pub plain_read : (N : ℕ) → N < 1000000000000000 → number (millionths_text N) ≡ Some (quotient false N 6)
 unfolding millionths_text
 plain_read N h =
     sym
     (no_minus (millionths_text N) (first_of (width (N / 1000000)) (N / 1000000) (46 ∷ figures 6 N) (some-width (N / 1000000)))
-    (Number.Value (quotient false N 6))
+    (Some (quotient false N 6))
     (unsigned_read false N h))
 
-pub minus_read : (N : ℕ) → N < 1000000000000000 → number (45 ∷ millionths_text N) ≡ Number.Value (quotient true N 6)
+pub minus_read : (N : ℕ) → N < 1000000000000000 → number (45 ∷ millionths_text N) ≡ Some (quotient true N 6)
 minus_read N h =
     let t : List ℕ = 45 ∷ millionths_text N in
-    sym (minus_in t refl (Number.Value (quotient true N 6)) (unsigned_read true N h ∙ ap (unsigned true) (sym (tail-is t 1))))
+    sym (minus_in t refl (Some (quotient true N 6)) (unsigned_read true N h ∙ ap (unsigned true) (sym (tail-is t 1))))
 
 -- ---- n / 10 ^ k and n * 10 ^ (6 - k) / 10 ^ 6 are one number
 module _ (n k : ℕ) (l : k ≤ 6) (h : n < 10 ^ (9 + k)) where
@@ -178,18 +176,18 @@ module _ (n k : ℕ) (l : k ≤ 6) (h : n < 10 ^ (9 + k)) where
   text_of false p = rw (size_of false, not-under N N-low)
 
   read_back : (s b : Bool) → b ≡ (s && ltb 0 N) → quotient s N 6 ≡ signed b
-      → number (cond b (45 ∷ millionths_text N) (millionths_text N)) ≡ Number.Value (signed b)
-  read_back true true e q = minus_read N N-low ∙ ap Number.Value q
+      → number (cond b (45 ∷ millionths_text N) (millionths_text N)) ≡ Some (signed b)
+  read_back true true e q = minus_read N N-low ∙ ap Some q
   read_back false true e q = absurd (mathlib.Core.Bool.true≢false e)
-  read_back s false e q = plain_read N N-low ∙ ap Number.Value (again-is false ∙ ap signed refl)
+  read_back s false e q = plain_read N N-low ∙ ap Some (again-is false ∙ ap signed refl)
 
-  pub same-again : (s : Bool) → number (number_text (quotient s n k)) ≡ Number.Value (quotient s n k)
+  pub same-again : (s : Bool) → number (number_text (quotient s n k)) ≡ Some (quotient s n k)
   same-again s =
       let b = s && ltb 0 N in
       ap (λ (x : Float). number (number_text x)) (first-is s)
       ∙ ap number (text_of b (some s (ltb 0 N) refl))
       ∙ read_back s b refl (again-is s)
-      ∙ ap Number.Value (sym (first-is s))
+      ∙ ap Some (sym (first-is s))
     where
       some : (s t : Bool) → ltb 0 N ≡ t → (s && t) ≡ true → 0 < N
       some true true e p = ltb-true 0 N e
@@ -205,11 +203,11 @@ pub record Readable (x : Float) : Type 0 where
   pub low : whole < 10 ^ (9 + places)
   pub value : x ≡ quotient sign whole places
 
-of_fraction : (s : Bool) (n : ℕ) (t : List ℕ) (x : Float) → n < 1000000000 → fraction s n t ≡ Number.Value x → Readable x
+of_fraction : (s : Bool) (n : ℕ) (t : List ℕ) (x : Float) → n < 1000000000 → fraction s n t ≡ Some x → Readable x
 unfolding fraction
 of_fraction s n t x h e = go (eqb (run 6 t) 0) (eqb (run 6 t) (length t)) e
   where
-    go : (a b : Bool) → cond a Number.Bad (cond b (Number.Value (quotient s (num n (take (run 6 t) t)) (run 6 t))) Number.Bad) ≡ Number.Value x → Readable x
+    go : (a b : Bool) → cond a None (cond b (Some (quotient s (num n (take (run 6 t) t)) (run 6 t))) None) ≡ Some x → Readable x
     go true b e = absurd (no_value x e)
     go false false e = absurd (no_value x e)
     go false true e =
@@ -222,7 +220,7 @@ of_fraction s n t x h e = go (eqb (run 6 t) 0) (eqb (run 6 t) (length t)) e
           value = cc;
         }
 
-of_unsigned : (s : Bool) (t : List ℕ) (x : Float) → unsigned s t ≡ Number.Value x → Readable x
+of_unsigned : (s : Bool) (t : List ℕ) (x : Float) → unsigned s t ≡ Some x → Readable x
 unfolding unsigned
 of_unsigned s t x e = go (eqb (run 9 t) 0) (eqb (run 9 t) (length t)) (eqb (get_or t (run 9 t) 0) 46) e
   where
@@ -232,25 +230,25 @@ of_unsigned s t x e = go (eqb (run 9 t) 0) (eqb (run 9 t) (length t)) (eqb (get_
         (le_trans (le_of_eq (native.Mathlib.Nat.one-mul (10 ^ run 9 t))) (pow-le-pow_right (lit< {m = 0} {n = 10} tt) (run-most 9 t)))
 
     go : (a b d : Bool)
-        → cond a Number.Bad (cond b (Number.Value (quotient s (num 0 (take (run 9 t) t)) 0))
-        (cond d (fraction s (num 0 (take (run 9 t) t)) (drop (suc (run 9 t)) t)) Number.Bad)) ≡ Number.Value x
+        → cond a None (cond b (Some (quotient s (num 0 (take (run 9 t) t)) 0))
+        (cond d (fraction s (num 0 (take (run 9 t) t)) (drop (suc (run 9 t)) t)) None)) ≡ Some x
         → Readable x
     go true b d e = absurd (no_value x e)
     go false true d e = record { sign = s; whole = num 0 (take (run 9 t) t); places = 0; few = zero-le; low = low; value = cc }
     go false false true e = of_fraction s (num 0 (take (run 9 t) t)) (drop (suc (run 9 t)) t) x low e
     go false false false e = absurd (no_value x e)
 
-pub readable : (t : List ℕ) (x : Float) → number t ≡ Number.Value x → Readable x
+pub readable : (t : List ℕ) (x : Float) → number t ≡ Some x → Readable x
 unfolding number
 readable t x e = go (eqb (get_or t 0 0) 45) e
   where
-    go : (b : Bool) → cond b (unsigned true (drop 1 t)) (unsigned false t) ≡ Number.Value x → Readable x
+    go : (b : Bool) → cond b (unsigned true (drop 1 t)) (unsigned false t) ≡ Some x → Readable x
     go true e = of_unsigned true (drop 1 t) x e
     go false e = of_unsigned false t x e
 
 -- What can be read is written, and read again it is the same number.
-pub read_again : (t : List ℕ) (x : Float) → number t ≡ Number.Value x → (shown x ≡ true) × (number (number_text x) ≡ Number.Value x)
+pub read_again : (t : List ℕ) (x : Float) → number t ≡ Some x → (shown x ≡ true) × (number (number_text x) ≡ Some x)
 read_again t x e =
     let r = readable t x e in
-    subst (λ (z : Float). (shown z ≡ true) × (number (number_text z) ≡ Number.Value z)) (sym r.value)
+    subst (λ (z : Float). (shown z ≡ true) × (number (number_text z) ≡ Some z)) (sym r.value)
     (is-shown r.whole r.places r.few r.low r.sign, same-again r.whole r.places r.few r.low r.sign)

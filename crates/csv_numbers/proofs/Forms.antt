@@ -1,5 +1,5 @@
 -- LAWS. `number` takes the texts that have the form of a number, and no others; so does `line_number` with line numbers. Assumes nothing.
-use Rattle.std.specs.Prelude.{◌≡◌, ltb, drop, get_or, Float}
+use Rattle.std.specs.Prelude.{◌≡◌, ltb, drop, get_or, Float, Some, None}
 use Rattle.std.proofs.Math.Path.{refl, ap}
 use Rattle.std.proofs.Common.{sym, ◌∙◌, subst, le_refl, le_of_eq, arith, length-append, take_at, length-take-le}
 use Prim.Native.Nat.{ℕ, zero, suc, ◌+◌, ◌-◌, ◌*◌, ◌≤◌, ◌<◌}
@@ -14,10 +14,6 @@ use Rattle.std.specs.Float.Ieee.Bits.{is_true}
 use borrow.Author.Tests.{ltb-true, ltb-false, eqb-true, eqb-false}
 use Rattle.layout.specs.Layout.{line_numbers}
 use Rattle.csv_decimal.specs.Decimal.{quotient}
-use Rattle.csv_fields.specs.declared.Number.{Number}
-use Rattle.csv_fields.specs.declared.Number.TheVariants as Number
-use Rattle.csv_fields.specs.declared.Line.{Line}
-use Rattle.csv_fields.specs.declared.Line.TheVariants as Line
 use Rattle.csv_fields.specs.Read.{is_digit, run, num, fraction, unsigned, number, line_number}
 use Rattle.csv_numbers.specs.Grammar.{all_digits, Unsigned, plain, point, Written, bare, minus, Numbered}
 use Rattle.csv_fields.specs.Scans.{run-nil, run_more, run-stops, run-most, run_length_lem}
@@ -48,13 +44,13 @@ num_append (c ∷ s) t n = num_append s t (n * 10 + (c - 48))
 
 -- ---- what has the form is read
 module _ (s : Bool) where
-  fraction_of : (n : ℕ) (f : List ℕ) → T (all_digits f) → 1 ≤ length f → length f ≤ 6 → Number.Value (quotient s (num n f) (length f)) ≡ fraction s n f
+  fraction_of : (n : ℕ) (f : List ℕ) → T (all_digits f) → 1 ≤ length f → length f ≤ 6 → Some (quotient s (num n f) (length f)) ≡ fraction s n f
   fraction_of n f d l h =
       let r : run 6 f ≡ length f = ap (run 6) (sym (append-nil f)) ∙ run-digits 6 f [] d h run-nil in
       let t : take (length f) f ≡ f = take_all (length f) f (le_refl (length f)) in
       frac_some s n f (length f) (num n f) (sym r) (ap (num n) (sym t)) (λ (e : length f ≡ 0). omega arith) refl (quotient s (num n f) (length f)) refl
 
-  unsigned_of : (t : List ℕ) (n k : ℕ) → Unsigned t n k → Number.Value (quotient s n k) ≡ unsigned s t
+  unsigned_of : (t : List ℕ) (n k : ℕ) → Unsigned t n k → Some (quotient s n k) ≡ unsigned s t
   unsigned_of t n k (plain w d l h) =
       let r : run 9 w ≡ length w = ap (run 9) (sym (append-nil w)) ∙ run-digits 9 w [] d h run-nil in
       let e : take (length w) w ≡ w = take_all (length w) w (le_refl (length w)) in
@@ -67,8 +63,8 @@ module _ (s : Bool) where
       let rest : drop (a + 1) t ≡ f = drop-append-add w (46 ∷ f) 1 in
       uns_point s t a (num 0 w) (sym r) (ap (num 0) (sym (take_at w (46 ∷ f) a refl))) (λ (z : a ≡ 0). omega arith) (λ (z : a ≡ length t). omega arith)
       (get_or_at w 46 f 0 a refl)
-      (Number.Value (quotient s (num 0 (w ++ f)) (length f)))
-      (ap (λ (v : ℕ). Number.Value (quotient s v (length f))) (num_append w f 0)
+      (Some (quotient s (num 0 (w ++ f)) (length f)))
+      (ap (λ (v : ℕ). Some (quotient s v (length f))) (num_append w f 0)
       ∙ fraction_of (num 0 w) f d' l' h'
       ∙ ap (fraction s (num 0 w)) (sym (tail-is t (a + 1) ∙ rest)))
 
@@ -84,11 +80,11 @@ bare-start : (t : List ℕ) (n k : ℕ) → Unsigned t n k → get_or t 0 0 ≡ 
 bare-start t n k (plain w d l h) e = no_sign w [] d l (ap (λ (x : List ℕ). get_or x 0 0) (append-nil w) ∙ e)
 bare-start t n k (point w f d l h d' l' h') e = no_sign w (46 ∷ f) d l e
 
-pub form_read : (t : List ℕ) (s : Bool) (n k : ℕ) → Written t s n k → number t ≡ Number.Value (quotient s n k)
-form_read t s n k (bare {t = u} u') = sym (no_minus u (bare-start u n k u') (Number.Value (quotient false n k)) (unsigned_of false u n k u'))
+pub form_read : (t : List ℕ) (s : Bool) (n k : ℕ) → Written t s n k → number t ≡ Some (quotient s n k)
+form_read t s n k (bare {t = u} u') = sym (no_minus u (bare-start u n k u') (Some (quotient false n k)) (unsigned_of false u n k u'))
 form_read t s n k (minus {t = u} u') =
     let v : List ℕ = 45 ∷ u in
-    sym (minus_in v refl (Number.Value (quotient true n k)) (unsigned_of true u n k u' ∙ ap (unsigned true) (sym (tail-is v 1))))
+    sym (minus_in v refl (Some (quotient true n k)) (unsigned_of true u n k u' ∙ ap (unsigned true) (sym (tail-is v 1))))
 
 -- ---- what is read has the form
 pub record Formed (t : List ℕ) (x : Float) : Type 0 where
@@ -104,19 +100,19 @@ record Plain (s : Bool) (t : List ℕ) (x : Float) : Type 0 where
   form : Unsigned t whole places
   value : x ≡ quotient s whole places
 
-pub no_value : (x : Float) → Number.Bad ≡ Number.Value x → ⊥
+pub no_value : (x : Float) → None ≡ Some x → ⊥
 no_value x e = let z : ◌≡◌ {A = ℕ} 0 1 = cc in omega arith
 
-inner : (x y : Float) → Number.Value y ≡ Number.Value x → x ≡ y
+inner : (x y : Float) → Some y ≡ Some x → x ≡ y
 inner x y e = cc
 
 module _ (s : Bool) (x : Float) where
-  of_fraction : (w t : List ℕ) → T (all_digits w) → 1 ≤ length w → length w ≤ 9 → fraction s (num 0 w) t ≡ Number.Value x → Plain s (w ++ (46 ∷ t)) x
+  of_fraction : (w t : List ℕ) → T (all_digits w) → 1 ≤ length w → length w ≤ 9 → fraction s (num 0 w) t ≡ Some x → Plain s (w ++ (46 ∷ t)) x
   unfolding fraction
   of_fraction w t d l h e = go (eqb (run 6 t) 0) (eqb (run 6 t) (length t)) refl refl e
     where
       go : (a b : Bool) → eqb (run 6 t) 0 ≡ a → eqb (run 6 t) (length t) ≡ b
-          → cond a Number.Bad (cond b (Number.Value (quotient s (num (num 0 w) (take (run 6 t) t)) (run 6 t))) Number.Bad) ≡ Number.Value x
+          → cond a None (cond b (Some (quotient s (num (num 0 w) (take (run 6 t) t)) (run 6 t))) None) ≡ Some x
           → Plain s (w ++ (46 ∷ t)) x
       go true b p q e = absurd (no_value x e)
       go false false p q e = absurd (no_value x e)
@@ -136,7 +132,7 @@ module _ (s : Bool) (x : Float) where
                 ∙ ap (quotient s (num 0 (w ++ t))) r;
           }
 
-  of_unsigned : (t : List ℕ) → unsigned s t ≡ Number.Value x → Plain s t x
+  of_unsigned : (t : List ℕ) → unsigned s t ≡ Some x → Plain s t x
   unfolding unsigned
   of_unsigned t e = go (eqb (run 9 t) 0) (eqb (run 9 t) (length t)) (eqb (get_or t (run 9 t) 0) 46) refl refl refl e
     where
@@ -147,8 +143,8 @@ module _ (s : Bool) (x : Float) where
       w = take (run 9 t) t
 
       go : (p q r : Bool) → eqb (run 9 t) 0 ≡ p → eqb (run 9 t) (length t) ≡ q → eqb (get_or t (run 9 t) 0) 46 ≡ r
-          → cond p Number.Bad (cond q (Number.Value (quotient s (num 0 (take (run 9 t) t)) 0))
-          (cond r (fraction s (num 0 (take (run 9 t) t)) (drop (suc (run 9 t)) t)) Number.Bad)) ≡ Number.Value x
+          → cond p None (cond q (Some (quotient s (num 0 (take (run 9 t) t)) 0))
+          (cond r (fraction s (num 0 (take (run 9 t) t)) (drop (suc (run 9 t)) t)) None)) ≡ Some x
           → Plain s t x
       go true q r f g i e = absurd (no_value x e)
       go false true r f g i e =
@@ -174,11 +170,11 @@ module _ (s : Bool) (x : Float) where
           split_at t (run 9 t) 0 (omega arith) ∙ ap (λ (c : ℕ). take (run 9 t) t ++ (c ∷ drop (suc (run 9 t)) t)) p in
           subst (λ (z : List ℕ). Plain s z x) (sym u) (of_fraction (take (run 9 t) t) (drop (suc (run 9 t)) t) (all-run 9 t) (omega arith) (omega arith) e)
 
-pub read_form : (t : List ℕ) (x : Float) → number t ≡ Number.Value x → Formed t x
+pub read_form : (t : List ℕ) (x : Float) → number t ≡ Some x → Formed t x
 unfolding number
 read_form t x e = go t (eqb (get_or t 0 0) 45) refl e
   where
-    go : (t : List ℕ) (b : Bool) → eqb (get_or t 0 0) 45 ≡ b → cond b (unsigned true (drop 1 t)) (unsigned false t) ≡ Number.Value x → Formed t x
+    go : (t : List ℕ) (b : Bool) → eqb (get_or t 0 0) 45 ≡ b → cond b (unsigned true (drop 1 t)) (unsigned false t) ≡ Some x → Formed t x
     go t false h e = let p = of_unsigned false x t e in record { sign = false; whole = p.whole; places = p.places; form = bare p.form; value = p.value }
     go [] true h e = absurd (mathlib.Core.Bool.false≢true h)
     go (c ∷ t) true h e =
@@ -192,24 +188,24 @@ read_form t x e = go t (eqb (get_or t 0 0) 45) refl e
         }
 
 -- ---- line numbers
-pub line-form_read : (t : List ℕ) (n : ℕ) → Numbered t n → line_number t ≡ Line.At n
+pub line-form_read : (t : List ℕ) (n : ℕ) → Numbered t n → line_number t ≡ Some n
 line-form_read t n f =
     let r : run 10 t ≡ length t = ap (run 10) (sym (append-nil t)) ∙ run-digits 10 t [] f.digits f.few run-nil in
     let k : take (length t) t ≡ t = take_all (length t) t (le_refl (length t)) in
     sym (line_at t (length t) n (sym r) (f.value ∙ ap (num 0) (sym k)) (λ (e : length t ≡ 0). omega (arith, f.some)) refl f.low)
 
-no_line : (n : ℕ) → Line.Bad ≡ Line.At n → ⊥
+no_line : (n : ℕ) → None ≡ Some n → ⊥
 no_line n e = let z : ◌≡◌ {A = ℕ} 0 1 = cc in omega arith
 
-same_line : (a b : ℕ) → Line.At a ≡ Line.At b → a ≡ b
+same_line : (a b : ℕ) → Some a ≡ Some b → a ≡ b
 same_line a b e = cc
 
-pub line_read_form : (t : List ℕ) (n : ℕ) → line_number t ≡ Line.At n → Numbered t n
+pub line_read_form : (t : List ℕ) (n : ℕ) → line_number t ≡ Some n → Numbered t n
 unfolding line_number
 line_read_form t n e = go (eqb (run 10 t) 0) (eqb (run 10 t) (length t)) (ltb (num 0 (take (run 10 t) t)) line_numbers) refl refl refl e
   where
     go : (a b c : Bool) → eqb (run 10 t) 0 ≡ a → eqb (run 10 t) (length t) ≡ b → ltb (num 0 (take (run 10 t) t)) line_numbers ≡ c
-        → cond a Line.Bad (cond b (cond c (Line.At (num 0 (take (run 10 t) t))) Line.Bad) Line.Bad) ≡ Line.At n → Numbered t n
+        → cond a None (cond b (cond c (Some (num 0 (take (run 10 t) t))) None) None) ≡ Some n → Numbered t n
     go true b c p q r e = absurd (no_line n e)
     go false false c p q r e = absurd (no_line n e)
     go false true false p q r e = absurd (no_line n e)

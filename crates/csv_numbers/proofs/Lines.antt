@@ -1,11 +1,9 @@
 -- LAWS. A line number that is written and read again is the same. Assumes nothing.
-use Rattle.std.specs.Prelude.{◌≡◌, ℕ, ◌+◌, ◌*◌, ◌^◌, ◌<◌, [], take}
+use Rattle.std.specs.Prelude.{◌≡◌, ℕ, ◌+◌, ◌*◌, ◌^◌, ◌<◌, [], take, Some}
 use Rattle.std.proofs.Common.{sym, ap, ◌∙◌, le_of_eq, mod-eq_of_lt, zero-mul, zero-add, arith, append-nil, take_all}
 use Rattle.layout.specs.Layout.{line_numbers}
 use Rattle.csv_decimal.specs.Decimal.{width}
 use Rattle.csv_decimal.specs.Widths.{some-width, width-ten, width-holds}
-use Rattle.csv_fields.specs.declared.Line.{Line}
-use Rattle.csv_fields.specs.declared.Line.TheVariants as Line
 use Rattle.csv_fields.specs.Read.{run, num, line_number}
 use Rattle.csv_figures.specs.Write.{whole_text}
 use Rattle.csv_fields.specs.Scans.{run-nil}
@@ -23,7 +21,7 @@ whole-num v h =
     ap (num 0) (take_all w (whole_text v) (le_of_eq (figures-length w v)))
     ∙ num-figures w v 0 ∙ ap (λ (z : ℕ). 0 * 10 ^ w + z) (mod-eq_of_lt (width-holds v h)) ∙ ap (λ (z : ℕ). z + v) (zero-mul (10 ^ w)) ∙ zero-add v
 
-pub line-again : (v : ℕ) → v < line_numbers → line_number (whole_text v) ≡ Line.At v
+pub line-again : (v : ℕ) → v < line_numbers → line_number (whole_text v) ≡ Some v
 line-again v h =
     sym
     (line_at (whole_text v) (width v) v (sym (whole_run v)) (sym (whole-num v (omega arith)))

@@ -29,11 +29,5 @@ pub fn over_power(minus: bool, n: u64, k: usize) -> f64
     ensures { result ≡ quotient minus n k }
 {
     let q = std::num::nearest_u64_to_f64(n) / std::num::nearest_u64_to_f64(power(k));
-    if minus {
-        if n > 0 {
-            return -q;
-        }
-        return q;
-    }
-    q
+    if minus && n > 0 { -q } else { q }
 }

@@ -1,4 +1,5 @@
 -- The reader field after field: what the first field of a text makes of the rest. Assumes nothing.
+use Rattle.std.specs.Prelude.{Option as Read, Some, None}
 use Prim.Native.Nat.{ℕ, suc, ◌+◌, ◌-◌, ◌≤◌, ◌<◌}
 use mathlib.Core.Path.{◌≡◌, refl, sym, ap, ◌∙◌, subst}
 use mathlib.Core.Bool.{Bool, true, false}
@@ -11,11 +12,7 @@ use lib.ListN.{length, take, drop, set, replicate}
 use Rattle.floats.specs.Lists.{upto, is_some}
 use Rattle.layout.specs.Layout.{r_present, row_words}
 use Rattle.row_cells.specs.Row.{row_of, mask_of}
-use Rattle.csv_words.specs.declared.Found.{Found}
-use Rattle.csv_words.specs.declared.Found.TheVariants as Found
 use Rattle.csv_words.specs.Words.{motion_of, plane_of}
-use Rattle.csv_fields.specs.declared.Line.{Line}
-use Rattle.csv_fields.specs.declared.Line.TheVariants as Line
 use Rattle.csv_fields.specs.Read.{line_number}
 use Rattle.csv_fields.specs.Readers.{tail-is}
 use Rattle.csv_line.specs.LineText.{column_count, parted}
@@ -99,39 +96,39 @@ module _ (l m p : ℕ) (fs : List (List ℕ)) (row words : List ℕ) where
 -- ---- the plane word, the motion word, the line number
 module _ (t : List ℕ) (end : ℕ) (e : end ≡ 0 + reach (drop 0 t)) (row : List ℕ) where
   module _ (l m : ℕ) where
-    pub plane_nowhere : Found.Nowhere ≡ plane_of (take end t) → Answer (from_plane l m (parted t)) row row false
-    plane_nowhere q = bad_field t end e (from_plane l m) row (λ (fs : List (List ℕ)). ap (λ (f : Found). coded f (λ (c : ℕ). from_cells l m c fs)) (sym q))
+    pub plane_nowhere : None ≡ plane_of (take end t) → Answer (from_plane l m (parted t)) row row false
+    plane_nowhere q = bad_field t end e (from_plane l m) row (λ (fs : List (List ℕ)). ap (λ (f : Read ℕ). coded f (λ (c : ℕ). from_cells l m c fs)) (sym q))
 
-    pub plane-last : (c : ℕ) → Found.Code c ≡ plane_of (take end t) → end ≡ length t → Answer (from_plane l m (parted t)) row row false
+    pub plane-last : (c : ℕ) → Some c ≡ plane_of (take end t) → end ≡ length t → Answer (from_plane l m (parted t)) row row false
     unfolding from_cells cells_ok
-    plane-last c q = no_more t end e (from_plane l m) row (ap (λ (f : Found). coded f (λ (c : ℕ). from_cells l m c [])) (sym q))
+    plane-last c q = no_more t end e (from_plane l m) row (ap (λ (f : Read ℕ). coded f (λ (c : ℕ). from_cells l m c [])) (sym q))
 
-    pub plane-on : (c : ℕ) → Found.Code c ≡ plane_of (take end t) → (end ≡ length t → ⊥) → (row' : List ℕ) (r : Bool)
+    pub plane-on : (c : ℕ) → Some c ≡ plane_of (take end t) → (end ≡ length t → ⊥) → (row' : List ℕ) (r : Bool)
         → Answer (from_cells l m c (parted (take (length t - (end + 1)) (drop (end + 1) t)))) row row' r → Answer (from_plane l m (parted t)) row row' r
     plane-on c q =
-        go_on t end e (from_plane l m) row (from_cells l m c) (λ (fs : List (List ℕ)). ap (λ (f : Found). coded f (λ (c : ℕ). from_cells l m c fs)) (sym q))
+        go_on t end e (from_plane l m) row (from_cells l m c) (λ (fs : List (List ℕ)). ap (λ (f : Read ℕ). coded f (λ (c : ℕ). from_cells l m c fs)) (sym q))
 
   module _ (l : ℕ) where
-    pub motion_nowhere : Found.Nowhere ≡ motion_of (take end t) → Answer (from_motion l (parted t)) row row false
-    motion_nowhere q = bad_field t end e (from_motion l) row (λ (fs : List (List ℕ)). ap (λ (f : Found). coded f (λ (c : ℕ). from_plane l c fs)) (sym q))
+    pub motion_nowhere : None ≡ motion_of (take end t) → Answer (from_motion l (parted t)) row row false
+    motion_nowhere q = bad_field t end e (from_motion l) row (λ (fs : List (List ℕ)). ap (λ (f : Read ℕ). coded f (λ (c : ℕ). from_plane l c fs)) (sym q))
 
-    pub motion-last : (c : ℕ) → Found.Code c ≡ motion_of (take end t) → end ≡ length t → Answer (from_motion l (parted t)) row row false
-    motion-last c q = no_more t end e (from_motion l) row (ap (λ (f : Found). coded f (λ (c : ℕ). from_plane l c [])) (sym q))
+    pub motion-last : (c : ℕ) → Some c ≡ motion_of (take end t) → end ≡ length t → Answer (from_motion l (parted t)) row row false
+    motion-last c q = no_more t end e (from_motion l) row (ap (λ (f : Read ℕ). coded f (λ (c : ℕ). from_plane l c [])) (sym q))
 
-    pub motion-on : (c : ℕ) → Found.Code c ≡ motion_of (take end t) → (end ≡ length t → ⊥) → (row' : List ℕ) (r : Bool)
+    pub motion-on : (c : ℕ) → Some c ≡ motion_of (take end t) → (end ≡ length t → ⊥) → (row' : List ℕ) (r : Bool)
         → Answer (from_plane l c (parted (take (length t - (end + 1)) (drop (end + 1) t)))) row row' r → Answer (from_motion l (parted t)) row row' r
     motion-on c q =
-        go_on t end e (from_motion l) row (from_plane l c) (λ (fs : List (List ℕ)). ap (λ (f : Found). coded f (λ (c : ℕ). from_plane l c fs)) (sym q))
+        go_on t end e (from_motion l) row (from_plane l c) (λ (fs : List (List ℕ)). ap (λ (f : Read ℕ). coded f (λ (c : ℕ). from_plane l c fs)) (sym q))
 
-  pub line_bad : Line.Bad ≡ line_number (take end t) → Answer (read_row t) row row false
+  pub line_bad : None ≡ line_number (take end t) → Answer (read_row t) row row false
   unfolding read_row
-  line_bad q = bad_field t end e from_line row (λ (fs : List (List ℕ)). ap (λ (f : Line). numbered f (λ (n : ℕ). from_motion n fs)) (sym q))
+  line_bad q = bad_field t end e from_line row (λ (fs : List (List ℕ)). ap (λ (f : Read ℕ). numbered f (λ (n : ℕ). from_motion n fs)) (sym q))
 
-  pub line-last : (n : ℕ) → Line.At n ≡ line_number (take end t) → end ≡ length t → Answer (read_row t) row row false
+  pub line-last : (n : ℕ) → Some n ≡ line_number (take end t) → end ≡ length t → Answer (read_row t) row row false
   unfolding read_row
-  line-last n q = no_more t end e from_line row (ap (λ (f : Line). numbered f (λ (n : ℕ). from_motion n [])) (sym q))
+  line-last n q = no_more t end e from_line row (ap (λ (f : Read ℕ). numbered f (λ (n : ℕ). from_motion n [])) (sym q))
 
-  pub line_on : (n : ℕ) → Line.At n ≡ line_number (take end t) → (end ≡ length t → ⊥) → (row' : List ℕ) (r : Bool)
+  pub line_on : (n : ℕ) → Some n ≡ line_number (take end t) → (end ≡ length t → ⊥) → (row' : List ℕ) (r : Bool)
       → Answer (from_motion n (parted (take (length t - (end + 1)) (drop (end + 1) t)))) row row' r → Answer (read_row t) row row' r
   unfolding read_row
-  line_on n q = go_on t end e from_line row (from_motion n) (λ (fs : List (List ℕ)). ap (λ (f : Line). numbered f (λ (n : ℕ). from_motion n fs)) (sym q))
+  line_on n q = go_on t end e from_line row (from_motion n) (λ (fs : List (List ℕ)). ap (λ (f : Read ℕ). numbered f (λ (n : ℕ). from_motion n fs)) (sym q))

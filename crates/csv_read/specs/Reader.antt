@@ -1,14 +1,10 @@
 -- DEFINITIONS. The row that a line of the input is: rules 7.4, 7.5. Assumes nothing.
-use Rattle.std.specs.Prelude.{ℕ, suc, cond, List, [], ◌∷◌, eqb, get_or}
+use Rattle.std.specs.Prelude.{ℕ, suc, cond, List, [], ◌∷◌, eqb, get_or, Option as Read, Some, None}
 use Rattle.std.proofs.Math.Option.{Option, none, some}
 use Rattle.floats.specs.Lists.{upto}
 use Rattle.layout.specs.Layout.{cells}
 use Rattle.row_cells.specs.Row.{row_of}
-use Rattle.csv_fields.specs.declared.Line.{Line}
-use Rattle.csv_fields.specs.declared.Line.TheVariants as Line
 use Rattle.csv_fields.specs.Read.{line_number}
-use Rattle.csv_words.specs.declared.Found.{Found}
-use Rattle.csv_words.specs.declared.Found.TheVariants as Found
 use Rattle.csv_words.specs.Words.{motion_of, plane_of}
 use Rattle.csv_line.specs.LineText.{columns, parted}
 use Rattle.csv_cells.specs.Cells.{given, cells_ok}
@@ -25,13 +21,13 @@ cells_in fs = upto (λ (k : ℕ). cell_in k 0 columns fs) cells
 unfoldable pub from_cells : ℕ → ℕ → ℕ → List (List ℕ) → Option (List ℕ)
 from_cells line motion plane fs = cond (cells_ok fs) (some (row_of line motion plane 0 0 (cells_in fs))) none
 
-abbrev pub coded : Found → (ℕ → Option (List ℕ)) → Option (List ℕ)
-coded (Found.Code c) k = k c
-coded Found.Nowhere k = none
+abbrev pub coded : Read ℕ → (ℕ → Option (List ℕ)) → Option (List ℕ)
+coded (Some c) k = k c
+coded None k = none
 
-abbrev pub numbered : Line → (ℕ → Option (List ℕ)) → Option (List ℕ)
-numbered (Line.At n) k = k n
-numbered Line.Bad k = none
+abbrev pub numbered : Read ℕ → (ℕ → Option (List ℕ)) → Option (List ℕ)
+numbered (Some n) k = k n
+numbered None k = none
 
 abbrev pub from_plane : ℕ → ℕ → List (List ℕ) → Option (List ℕ)
 from_plane line motion [] = none

@@ -8,20 +8,7 @@ ghost use Rattle.floats.specs.Lists.{is_some};
 ghost use Rattle.csv_line.specs.LineText.{parted};
 ghost use Rattle.csv_read.specs.Reader.{from_plane, from_motion, read_row};
 
-use csv_fields::Line;
-use csv_words::Found;
 use layout::{R_LINE, R_MOTION, R_PLANE, ROW_WORDS};
-
-fn copy_row(row: &mut [u64], words: &[u64])
-    requires { length row.old ≡ length words.now }
-    ensures { row.new ≡ words.now }
-{
-    let mut i: usize = 0;
-    while i < words.len() {
-        row[i] = words[i];
-        i += 1;
-    }
-}
 
 // The rest of a row, from its plane word on.
 fn read_from_plane(text: &[u8], line: u64, motion: u64, row: &mut [u64]) -> bool
@@ -30,7 +17,7 @@ fn read_from_plane(text: &[u8], line: u64, motion: u64, row: &mut [u64]) -> bool
         (row.new ≡ get_or (from_plane line motion (parted text.now)) row.old) }
 {
     let end = csv_cells::field_end(text, 0);
-    let Found::Code(plane) = csv_words::read_plane(&text[..end]) else {
+    let Some(plane) = csv_words::read_plane(&text[..end]) else {
         return false;
     };
     if end == text.len() {
@@ -42,7 +29,7 @@ fn read_from_plane(text: &[u8], line: u64, motion: u64, row: &mut [u64]) -> bool
     words[R_PLANE] = plane as u64;
     let from = end + 1;
     if csv_cells::read_cells(&text[from..], &mut words) {
-        copy_row(row, &words);
+        row.copy_from_slice(&words);
         return true;
     }
     false
@@ -55,7 +42,7 @@ fn read_from_motion(text: &[u8], line: u64, row: &mut [u64]) -> bool
         (row.new ≡ get_or (from_motion line (parted text.now)) row.old) }
 {
     let end = csv_cells::field_end(text, 0);
-    let Found::Code(motion) = csv_words::read_motion(&text[..end]) else {
+    let Some(motion) = csv_words::read_motion(&text[..end]) else {
         return false;
     };
     if end == text.len() {
@@ -71,7 +58,7 @@ pub fn read_row(text: &[u8], row: &mut [u64]) -> bool
     ensures { (result ≡ is_some (read_row text.now)) × (row.new ≡ get_or (read_row text.now) row.old) }
 {
     let end = csv_cells::field_end(text, 0);
-    let Line::At(line) = csv_fields::read_line(&text[..end]) else {
+    let Some(line) = csv_fields::read_line(&text[..end]) else {
         return false;
     };
     if end == text.len() {

@@ -5,7 +5,6 @@ ghost use Rattle.std.specs.Prelude.{◌≡◌, ◌+◌, ◌*◌, ◌≤◌, leng
 ghost use Rattle.layout.specs.Layout.{row_words};
 ghost use Rattle.csv_write.specs.Writer.{row_room, row_text, writable, rows_text, rows_writable, Tried};
 
-use csv_figures::Placed;
 use csv_row_parts::{put_cells, put_head};
 use csv_write::put_end;
 use layout::{LINE_NUMBERS, R_LINE, R_MOTION, R_PLANE, ROW_WORDS};
@@ -13,42 +12,31 @@ use layout::{LINE_NUMBERS, R_LINE, R_MOTION, R_PLANE, ROW_WORDS};
 const MOTIONS: u64 = 16;
 
 // The line of a row from n on, where it has one. None is longer than 224 bytes.
-fn write_row(row: &[u64], out: &mut [u8], n: usize) -> Placed
+fn write_row(row: &[u64], out: &mut [u8], n: usize) -> Option<usize>
     requires { (length row.now ≡ row_words) × (n + row_room ≤ length out.old) }
     ensures { Tried (writable row.now) (row_text row.now) out.old n out.new result }
 {
-    if row[R_LINE] >= LINE_NUMBERS {
-        return Placed::Refused;
-    }
-    if row[R_MOTION] >= MOTIONS {
-        return Placed::Refused;
-    }
-    if !row_check::plane_ok(row[R_PLANE]) {
-        return Placed::Refused;
+    if row[R_LINE] >= LINE_NUMBERS
+        || row[R_MOTION] >= MOTIONS
+        || !row_check::plane_ok(row[R_PLANE])
+    {
+        return None;
     }
     let a = put_head(row, out, n);
-    let Placed::Upto(b) = put_cells(row, out, a) else {
-        return Placed::Refused;
-    };
-    let c = put_end(row, out, b);
-    Placed::Upto(c)
+    let b = put_cells(row, out, a)?;
+    Some(put_end(row, out, b))
 }
 
 // The lines of the first `count` rows from n on, where each has one.
-pub fn write_rows(rows: &[u64], count: usize, out: &mut [u8], n: usize) -> Placed
+pub fn write_rows(rows: &[u64], count: usize, out: &mut [u8], n: usize) -> Option<usize>
     requires { (count * row_words ≤ length rows.now) × (n + row_room * count ≤ length out.old) }
     ensures { Tried (rows_writable rows.now count) (rows_text rows.now count) out.old n out.new result }
 {
     let mut at = n;
-    let mut i: usize = 0;
-    while i < count {
+    for i in 0..count {
         let from = i * ROW_WORDS;
         let to = from + ROW_WORDS;
-        let Placed::Upto(next) = write_row(&rows[from..to], out, at) else {
-            return Placed::Refused;
-        };
-        at = next;
-        i += 1;
+        at = write_row(&rows[from..to], out, at)?;
     }
-    Placed::Upto(at)
+    Some(at)
 }

@@ -18,12 +18,11 @@ use call_push::push;
 use csv_count::BAD_TEXT;
 use csv_ending::{Ending, last};
 use csv_io::{ERR_ROOM, OUT_ROOM};
-use csv_line::End;
 use csv_next::next_found;
 use csv_out::{LENT_ROWS, Run, headed, next_line, refuse};
 use csv_reading::{Reading, behind, ends, fails, first, going, left_of, reads_on};
 use csv_replied::{call_answered, source_of};
-use csv_status::{GOES_ON, may_end, turns_left};
+use csv_status::{GOES_ON, may_end};
 use layout::{MOST_HELD, ROW_WORDS, STATE_WORDS};
 use std::io::{Read, Write};
 use text_lines::{Found, Turn};
@@ -94,7 +93,7 @@ fn whole_line(
         let is = slices state.new store.new rows.new out.new err.new in
         Stepped (on_end (standing run was) line.now (end_of line.now)) run was result is }
 {
-    let End::Upto(n) = csv_line::text_end(line) else {
+    let Some(n) = csv_line::text_end(line) else {
         return refuse(run, err, run.physical, BAD_TEXT);
     };
     text_line(run, &line[..n], state, store, rows, out, err)
@@ -273,10 +272,11 @@ fn all_turns<R: Read, W: Write, E: Write>(
         AllTurns result buf.new is }
 {
     let mut s = first();
-    let mut turns = u64::MAX;
-    while turns > 0 {
+    for _ in 0..u64::MAX {
         s = step(s, buf, state, store, rows, out, err, input, output, errors);
-        turns = turns_left(turns, s.over);
+        if s.over != GOES_ON {
+            return s;
+        }
     }
     s
 }

@@ -1,12 +1,10 @@
 -- DEFINITIONS. What the row text program does with one line, and with the end of its input. Assumes nothing.
-use Rattle.std.specs.Prelude.{ℕ, Bool, cond, List, eqb, take}
+use Rattle.std.specs.Prelude.{ℕ, Bool, cond, List, eqb, take, Option as Read, Some, None}
 use Rattle.std.proofs.Math.Option.{Option, none, some}
 use Rattle.row_cells.specs.Row.{line_of}
 use Rattle.call_reply.specs.Replies.{After}
 use Rattle.call_answer.specs.Push.{push_spec}
 use Rattle.call_answer.specs.Close.{close_spec}
-use Rattle.csv_line.specs.declared.End.{End}
-use Rattle.csv_line.specs.declared.End.TheVariants as End
 use Rattle.csv_line.specs.LineText.{end_of}
 use Rattle.csv_read.specs.Reader.{read_row}
 use Rattle.csv_count.specs.Count.{bad_text, next_line}
@@ -64,9 +62,9 @@ on_read s (some row) = on_row s row
 unfoldable pub on_text : Stand → List ℕ → Step
 on_text s text = cond (eqb s.physical 1) (spoken s (heading s.physical text)) (on_read s (read_row text))
 
-abbrev pub on_end : Stand → List ℕ → End → Step
-on_end s line End.Bad = unread s
-on_end s line (End.Upto n) = on_text s (take n line)
+abbrev pub on_end : Stand → List ℕ → Read ℕ → Step
+on_end s line None = unread s
+on_end s line (Some n) = on_text s (take n line)
 
 -- the line is counted
 abbrev pub counted : Step → Step

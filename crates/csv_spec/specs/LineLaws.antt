@@ -1,5 +1,5 @@
 -- LAWS. The definition of a line and of the end of the input, by cases. Assumes nothing.
-use Rattle.std.specs.Prelude.{ℕ, ◌+◌, ◌-◌, ◌≤◌, ◌≡◌, Bool, cond, List, eqb, ltb, length, get_or}
+use Rattle.std.specs.Prelude.{ℕ, ◌+◌, ◌-◌, ◌≤◌, ◌≡◌, Bool, cond, List, eqb, ltb, length, get_or, Some, None}
 use Rattle.std.proofs.Math.Path.{refl, ap}
 use Rattle.std.proofs.Common.{sym, arith, eq-eqb, ne_eqb}
 use Rattle.std.proofs.Math.Bool.{true, false}
@@ -7,8 +7,6 @@ use Rattle.std.proofs.lemmas.Bool.{false≢true}
 use Rattle.std.proofs.Math.Option
 use Rattle.std.proofs.Math.Option.{Option, none, some}
 use Rattle.floats.specs.Lists.{is_some}
-use Rattle.csv_line.specs.declared.End.{End}
-use Rattle.csv_line.specs.declared.End.TheVariants as End
 use Rattle.csv_line.specs.LineText.{end_of}
 use Rattle.csv_read.specs.Reader.{read_row}
 use Rattle.csv_out.specs.Say.{heading}
@@ -43,21 +41,21 @@ module _ (s : Stand) (left : ℕ) where
   end-left h = rw (ne_eqb left 0 h)
 
 -- the text of a line is all but its last two bytes, and so lies in it
-pub end-at : (s : List ℕ) {n : ℕ} → end_of s ≡ End.Upto n → n ≡ length s - 2
+pub end-at : (s : List ℕ) {n : ℕ} → end_of s ≡ Some n → n ≡ length s - 2
 unfolding end_of
 end-at s {n} e = go (ltb (length s) 2) (eqb (get_or s (length s - 2) 0) 13) (eqb (get_or s (length s - 2 + 1) 0) 10) e
   where
-    same : (a b : ℕ) → End.Upto a ≡ End.Upto b → a ≡ b
+    same : (a b : ℕ) → Some a ≡ Some b → a ≡ b
     same a b e = cc
 
-    none-there : (a : ℕ) → End.Bad ≡ End.Upto a → ⊥
+    none-there : (a : ℕ) → None ≡ Some a → ⊥
     none-there a e = let z : ◌≡◌ {A = ℕ} 0 1 = cc in omega arith
 
-    go : (a b c : Bool) → cond a End.Bad (cond b (cond c (End.Upto (length s - 2)) End.Bad) End.Bad) ≡ End.Upto n → n ≡ length s - 2
+    go : (a b c : Bool) → cond a None (cond b (cond c (Some (length s - 2)) None) None) ≡ Some n → n ≡ length s - 2
     go true b c q = absurd (none-there n q)
     go false true true q = sym (same (length s - 2) n q)
     go false true false q = absurd (none-there n q)
     go false false c q = absurd (none-there n q)
 
-pub end_in : (s : List ℕ) {n : ℕ} → end_of s ≡ End.Upto n → n ≤ length s
+pub end_in : (s : List ℕ) {n : ℕ} → end_of s ≡ Some n → n ≤ length s
 end_in s e = omega (arith, end-at s e)

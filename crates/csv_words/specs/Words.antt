@@ -1,9 +1,7 @@
 -- DEFINITIONS. The motion words, whose places are their codes, and then the plane words: rules 1.9, 7.6. The spare codes 16 to 31 have
 -- none. Definitions only.
-use Rattle.std.specs.Prelude.{ℕ, zero, suc, ◌+◌, ◌-◌, Bool, true, false, cond, ◌&&◌, List, [], ◌∷◌, map, eqb, ltb, length, get_or}
+use Rattle.std.specs.Prelude.{ℕ, zero, suc, ◌+◌, ◌-◌, Bool, true, false, cond, ◌&&◌, List, [], ◌∷◌, map, eqb, ltb, length, get_or, Option, Some, None}
 use Rattle.csv_words.specs.Text.{bytes}
-use Rattle.csv_words.specs.declared.Found.{Found}
-use Rattle.csv_words.specs.declared.Found.TheVariants as Found
 
 -- 7.5, 7.6: each motion word at its number, then the plane words;
 -- an empty field is the word of no motion and of no plane
@@ -31,12 +29,16 @@ unfoldable pub seek : ℕ → ℕ → List ℕ → ℕ
 seek i zero t = i
 seek i (suc k) t = cond (same (word_at i) t) i (seek (suc i) k t)
 
+-- that place, where t stands there
+abbrev pub place_of : ℕ → ℕ → List ℕ → Option ℕ
+place_of i k t = cond (ltb (seek i k t) (i + k)) (Some (seek i k t)) None
+
 -- the code of a motion word, 0 for none
-unfoldable pub motion_of : List ℕ → Found
+unfoldable pub motion_of : List ℕ → Option ℕ
 unfolding seek
-motion_of t = cond (ltb (seek 0 16 t) 16) (Found.Code (seek 0 16 t)) Found.Nowhere
+motion_of t = cond (ltb (seek 0 16 t) 16) (Some (seek 0 16 t)) None
 
 -- the code of a plane word, 17 to 19, 0 for none
-unfoldable pub plane_of : List ℕ → Found
+unfoldable pub plane_of : List ℕ → Option ℕ
 unfolding seek
-plane_of t = cond (eqb (length t) 0) (Found.Code 0) (cond (ltb (seek 16 3 t) 19) (Found.Code (seek 16 3 t + 1)) Found.Nowhere)
+plane_of t = cond (eqb (length t) 0) (Some 0) (cond (ltb (seek 16 3 t) 19) (Some (seek 16 3 t + 1)) None)

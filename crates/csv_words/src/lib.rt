@@ -4,7 +4,7 @@
 
 ghost use Rattle.std.specs.Prelude.{◌≡◌, ◌+◌, ◌-◌, ◌*◌, ◌/◌, ◌%◌, ◌^◌, ◌≤◌, ◌<◌, length};
 ghost use Rattle.csv_figures.specs.Out.{Wrote};
-ghost use Rattle.csv_words.specs.Words.{word_at, plane_text, seek, motion_of, plane_of};
+ghost use Rattle.csv_words.specs.Words.{word_at, plane_text, place_of, motion_of, plane_of};
 ghost use Rattle.csv_words.specs.Packed.{pack, word_number, chars};
 
 // Each word's bytes and then its length in the three lowest bits: none, the motion words in the order of their
@@ -31,13 +31,6 @@ const WORDS: [u64; 19] = [
     0x23989cb, // G19
 ];
 
-// What a word field holds.
-#[derive(Clone, Copy)]
-pub enum Found {
-    Code(usize),
-    Nowhere,
-}
-
 fn entry(i: usize) -> u64
     requires { i < 19 }
     ensures { result ≡ word_number (word_at i) }
@@ -51,60 +44,45 @@ fn packed(s: &[u8]) -> u64
     ensures { (result ≡ pack 0 s.now) × (result < 2 ^ 56) }
 {
     let mut n: u64 = 0;
-    let mut i = 0;
-    while i < s.len() {
-        n = n * 256 + csv_digits::wide(s[i]);
-        i += 1;
+    for b in s {
+        n = n * 256 + u64::from(*b);
     }
     n
 }
 
-// The first place of s among `count` words from `from` on, and the place behind them if it is none.
-fn find(s: &[u8], from: usize, count: usize) -> usize
-    requires { (from + count ≤ 19) × (length s.now ≤ 7) }
-    ensures { result ≡ seek from count s.now }
+// The first place of s among `count` words from `from` on.
+fn find(s: &[u8], from: usize, count: usize) -> Option<usize>
+    requires { from + count ≤ 19 }
+    ensures { result ≡ place_of from count s.now }
 {
-    let p = packed(s) * 8 + s.len() as u64;
-    let end = from + count;
-    let mut i = from;
-    while i < end {
-        if entry(i) == p {
-            return i;
-        }
-        i += 1;
+    if s.len() > 7 {
+        return None;
     }
-    i
+    let number = packed(s) * 8 + s.len() as u64;
+    for i in from..from + count {
+        if entry(i) == number {
+            return Some(i);
+        }
+    }
+    None
 }
 
 // The code of the motion word s.
-pub fn read_motion(s: &[u8]) -> Found
+pub fn read_motion(s: &[u8]) -> Option<usize>
     ensures { result ≡ motion_of s.now }
 {
-    if s.len() > 7 {
-        return Found::Nowhere;
-    }
-    let i = find(s, 0, 16);
-    if i < 16 {
-        return Found::Code(i);
-    }
-    Found::Nowhere
+    find(s, 0, 16)
 }
 
 // The code of the plane word s.
-pub fn read_plane(s: &[u8]) -> Found
+pub fn read_plane(s: &[u8]) -> Option<usize>
     ensures { result ≡ plane_of s.now }
 {
-    if s.len() == 0 {
-        return Found::Code(0);
+    if s.is_empty() {
+        return Some(0);
     }
-    if s.len() > 7 {
-        return Found::Nowhere;
-    }
-    let i = find(s, 16, 3);
-    if i < 19 {
-        return Found::Code(i + 1);
-    }
-    Found::Nowhere
+    let i = find(s, 16, 3)?;
+    Some(i + 1)
 }
 
 // The byte of v at 256^k.
@@ -121,14 +99,10 @@ fn put_chars(out: &mut [u8], n: usize, k: usize, v: u64) -> usize
     requires { (n + k ≤ length out.old) × (k ≤ 7) }
     ensures { Wrote out.old n (chars k v) out.new result }
 {
-    let mut at = n;
-    let mut j = k;
-    while j > 0 {
-        j -= 1;
-        out[at] = byte(v, j);
-        at += 1;
+    for i in 0..k {
+        out[n + i] = byte(v, k - 1 - i);
     }
-    at
+    n + k
 }
 
 // Stores the word at the place i of the table from n on.
@@ -153,8 +127,5 @@ pub fn put_plane(out: &mut [u8], n: usize, code: usize) -> usize
     requires { (n + 7 ≤ length out.old) × (code < 20) }
     ensures { Wrote out.old n (plane_text code) out.new result }
 {
-    if code == 0 {
-        return put_word(out, n, 0);
-    }
-    put_word(out, n, code - 1)
+    put_word(out, n, code.saturating_sub(1))
 }

@@ -1,5 +1,5 @@
 -- DEFINITIONS. The line that a row is written as: rules 7.11, 7.12. Assumes nothing.
-use Rattle.std.specs.Prelude.{ℕ, ◌+◌, ◌*◌, ◌≤◌, Bool, true, cond, ◌&&◌, ◌≡◌, List, [], ◌∷◌, ◌++◌, ltb, eqb, length, take, drop, get_or}
+use Rattle.std.specs.Prelude.{ℕ, ◌+◌, ◌*◌, ◌≤◌, Bool, true, cond, ◌&&◌, ◌≡◌, List, [], ◌∷◌, ◌++◌, ltb, eqb, length, take, drop, get_or, Option, Some, None}
 use Rattle.std.proofs.lemmas.List.Edits.{sets}
 use Rattle.floats.specs.Numbers.{num}
 use Rattle.floats.specs.Lists.{upto, flatten, all}
@@ -8,8 +8,6 @@ use Rattle.row_cells.specs.Codes.{plane_ok}
 use Rattle.row_cells.specs.Bits.{has}
 use Rattle.row_cells.specs.Row.{line_of, motion_of, plane_of, mark_of, present_of}
 use Rattle.csv_figures.specs.Write.{whole_text, number_text, shown}
-use Rattle.csv_figures.specs.declared.Placed.{Placed}
-use Rattle.csv_figures.specs.declared.Placed.TheVariants as Placed
 use Rattle.csv_words.specs.Words.{word_at, plane_text}
 use Rattle.csv_line.specs.LineText.{crlf, column_count, code_at, joined}
 
@@ -52,8 +50,8 @@ unfoldable pub writable : List ℕ → Bool
 writable r = head_ok r && all column_count (cell_shown r)
 
 -- text that is stored from n on, or not: what stood before n stays, and where it is not, what stands from n on is not said
-pub record Tried (ok : Bool) (t : List ℕ) (o : List ℕ) (n : ℕ) (o' : List ℕ) (r : Placed) : Type 0 where
-  pub answer : r ≡ cond ok (Placed.Upto (n + length t)) Placed.Refused
+pub record Tried (ok : Bool) (t : List ℕ) (o : List ℕ) (n : ℕ) (o' : List ℕ) (r : Option ℕ) : Type 0 where
+  pub answer : r ≡ cond ok (Some (n + length t)) None
   pub text : ok ≡ true → o' ≡ sets o n t
   pub kept : (m : ℕ) → m ≤ n → take m o' ≡ take m o
   pub same : length o' ≡ length o

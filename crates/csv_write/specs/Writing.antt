@@ -1,6 +1,6 @@
 -- LAWS. What the steps of the writer do. Assumes nothing.
 use Prim.Native.Nat.{ℕ, zero, suc, ◌+◌, ◌-◌, ◌*◌, ◌/◌, ◌%◌, ◌^◌, ◌≤◌, ◌<◌}
-use Rattle.std.specs.Prelude.{◌≡◌, ltb, eqb, length, take, drop, get_or, set, Float}
+use Rattle.std.specs.Prelude.{◌≡◌, ltb, eqb, length, take, drop, get_or, set, Float, Option, Some, None}
 use Rattle.std.proofs.Math.Path.{refl, sym, ap, subst}
 use Rattle.std.proofs.Common.{◌∙◌, add-one, add-zero, mul-suc, le_trans, lt-ltb, le-ltb, eq-eqb, ne_eqb, eqb-true}
 use mathlib.Core.Bool.{Bool, true, false, cond, ◌&&◌, and-false}
@@ -16,8 +16,6 @@ use Rattle.layout.specs.Layout.{c_offset, r_cells, line_numbers, row_words}
 use Rattle.row_cells.specs.Codes.{plane_ok}
 use Rattle.row_cells.specs.Bits.{has}
 use Rattle.row_cells.specs.Row.{line_of, motion_of, plane_of, mark_of, present_of}
-use Rattle.csv_figures.specs.declared.Placed.{Placed}
-use Rattle.csv_figures.specs.declared.Placed.TheVariants as Placed
 use Rattle.csv_figures.specs.Out.{Wrote, Put}
 use Rattle.csv_figures.specs.OutLaws.{wrote_then, wrote-length}
 use Rattle.csv_figures.specs.Write.{whole_text, number_text, shown}
@@ -45,22 +43,22 @@ sets_kept (c ∷ t) o n m h = sets_kept t (set o n c) (suc n) m (omega arith) �
 pub wrote_kept : {o o' t : List ℕ} {n r : ℕ} → Wrote o n t o' r → (m : ℕ) → m ≤ n → take m o' ≡ take m o
 wrote_kept {o} {o'} {t} {n} {r} w m h = ap (take m) w.text ∙ sets_kept t o n m h
 
-pub tried : {o o' t : List ℕ} {n r : ℕ} {ok : Bool} → ok ≡ true → Wrote o n t o' r → Tried ok t o n o' (Placed.Upto r)
+pub tried : {o o' t : List ℕ} {n r : ℕ} {ok : Bool} → ok ≡ true → Wrote o n t o' r → Tried ok t o n o' (Some r)
 tried {o} {o'} {t} {n} {r} {ok} e w =
-    record { answer = rw e (ap Placed.Upto w.next); text = λ _. w.text; kept = wrote_kept w; same = wrote-length w }
+    record { answer = rw e (ap Some w.next); text = λ _. w.text; kept = wrote_kept w; same = wrote-length w }
 
-pub not-tried : {o t : List ℕ} {n : ℕ} {ok : Bool} → ok ≡ false → Tried ok t o n o Placed.Refused
+pub not-tried : {o t : List ℕ} {n : ℕ} {ok : Bool} → ok ≡ false → Tried ok t o n o None
 not-tried {o} {t} {n} {ok} e =
     record { answer = rw e; text = λ (h : ok ≡ true). absurd (mathlib.Core.Bool.false≢true (sym e ∙ h)); kept = λ m h. refl; same = refl }
 
 -- ---- a cell
-number-tried : {o o₁ o₂ : List ℕ} {n a : ℕ} {r : Placed} (x : Float) → Wrote o n (comma ∷ []) o₁ a → Put x o₁ a o₂ r
+number-tried : {o o₁ o₂ : List ℕ} {n a : ℕ} {r : Option ℕ} (x : Float) → Wrote o n (comma ∷ []) o₁ a → Put x o₁ a o₂ r
     → Tried (shown x) (comma ∷ number_text x) o n o₂ r
 number-tried {o} {o₁} {o₂} {n} {a} {r} x w p =
     let t = number_text x in
     let e : a + length t ≡ n + suc (length t) = omega (arith, w.next) in
     record {
-      answer = p.answer ∙ ap (λ (k : ℕ). cond (shown x) (Placed.Upto k) Placed.Refused) e;
+      answer = p.answer ∙ ap (λ (k : ℕ). cond (shown x) (Some k) None) e;
       text = λ (h : shown x ≡ true).
           p.text
           ∙ ap (λ (b : Bool). cond b (sets o₁ a t) o₁) h
@@ -79,7 +77,7 @@ number-tried {o} {o₁} {o₂} {n} {a} {r} x w p =
     sized false = wrote-length w
 
 module _ (row : List ℕ) (i code : ℕ) (k : code ≡ code_at i) where
-  pub cell-present : {o o₁ o₂ : List ℕ} {n a : ℕ} {r : Placed} → true ≡ has (present_of row) code → Wrote o n (comma ∷ []) o₁ a → (y : Float)
+  pub cell-present : {o o₁ o₂ : List ℕ} {n a : ℕ} {r : Option ℕ} → true ≡ has (present_of row) code → Wrote o n (comma ∷ []) o₁ a → (y : Float)
       → y ≡ num (get_or row (r_cells + code) 0) → Put y o₁ a o₂ r
       → Tried (cell_shown row i) (comma ∷ cell_text row i) o n o₂ r
   unfolding cell_shown cell_text
@@ -87,7 +85,7 @@ module _ (row : List ℕ) (i code : ℕ) (k : code ≡ code_at i) where
       rw (← k, ← h) (number-tried (num (get_or row (r_cells + code) 0)) w (subst (λ (z : Float). Put z o₁ a o₂ r) q p))
 
   pub cell-absent : {o o₁ : List ℕ} {n a : ℕ} → false ≡ has (present_of row) code → Wrote o n (comma ∷ []) o₁ a
-      → Tried (cell_shown row i) (comma ∷ cell_text row i) o n o₁ (Placed.Upto a)
+      → Tried (cell_shown row i) (comma ∷ cell_text row i) o n o₁ (Some a)
   unfolding cell_shown cell_text
   cell-absent h w = rw (← k, ← h) (tried refl w)
 
@@ -104,7 +102,7 @@ module _ (ok : ℕ → Bool) (f : ℕ → List ℕ) (w : ℕ) where
   unfolding all upto flatten
   puts_none o n = record { good = refl; wrote = record { next = omega arith; text = refl }; room = omega arith; ahead = omega arith; same = refl }
 
-  pub puts_more : {o o' o'' : List ℕ} {n i at a : ℕ} → Putting ok f w o n i o' at → Tried (ok i) (f i) o' at o'' (Placed.Upto a)
+  pub puts_more : {o o' o'' : List ℕ} {n i at a : ℕ} → Putting ok f w o n i o' at → Tried (ok i) (f i) o' at o'' (Some a)
       → (ok i ≡ true → length (f i) ≤ w) → Putting ok f w o n (i + 1) o'' a
   puts_more {o} {o'} {o''} {n} {i} {at} {a} p t short =
       let k = tried-good t refl in
@@ -118,8 +116,8 @@ module _ (ok : ℕ → Bool) (f : ℕ → List ℕ) (w : ℕ) where
         same = t.same ∙ p.same;
       }
 
-  pub puts_not : {o o' o'' : List ℕ} {n i at : ℕ} (k : ℕ) → Putting ok f w o n i o' at → i < k → Tried (ok i) (f i) o' at o'' Placed.Refused
-      → Tried (all k ok) (flatten (upto f k)) o n o'' Placed.Refused
+  pub puts_not : {o o' o'' : List ℕ} {n i at : ℕ} (k : ℕ) → Putting ok f w o n i o' at → i < k → Tried (ok i) (f i) o' at o'' None
+      → Tried (all k ok) (flatten (upto f k)) o n o'' None
   puts_not {o} {o'} {o''} {n} {i} {at} k p h t =
       let g : all k ok ≡ false = all-fails k ok i h (tried_bad t refl) in
       record {
@@ -130,17 +128,17 @@ module _ (ok : ℕ → Bool) (f : ℕ → List ℕ) (w : ℕ) where
       }
 
   -- the same, for an answer that was matched
-  pub puts_on : {o o' o'' : List ℕ} {n i at : ℕ} {r : Placed} (a : ℕ) → Putting ok f w o n i o' at → r ≡ Placed.Upto a → Tried (ok i) (f i) o' at o'' r
+  pub puts_on : {o o' o'' : List ℕ} {n i at : ℕ} {r : Option ℕ} (a : ℕ) → Putting ok f w o n i o' at → r ≡ Some a → Tried (ok i) (f i) o' at o'' r
       → (ok i ≡ true → length (f i) ≤ w) → Putting ok f w o n (i + 1) o'' a
-  puts_on {o} {o'} {o''} {n} {i} {at} {r} a p e t = puts_more p (subst (λ (z : Placed). Tried (ok i) (f i) o' at o'' z) e t)
+  puts_on {o} {o'} {o''} {n} {i} {at} {r} a p e t = puts_more p (subst (λ (z : Option ℕ). Tried (ok i) (f i) o' at o'' z) e t)
 
-  pub puts_off : {o o' o'' : List ℕ} {n i at : ℕ} {r : Placed} (k : ℕ) → Putting ok f w o n i o' at → i < k → r ≡ Placed.Refused
+  pub puts_off : {o o' o'' : List ℕ} {n i at : ℕ} {r : Option ℕ} (k : ℕ) → Putting ok f w o n i o' at → i < k → r ≡ None
       → Tried (ok i) (f i) o' at o'' r
-      → Tried (all k ok) (flatten (upto f k)) o n o'' Placed.Refused
-  puts_off {o} {o'} {o''} {n} {i} {at} {r} k p h e t = puts_not k p h (subst (λ (z : Placed). Tried (ok i) (f i) o' at o'' z) e t)
+      → Tried (all k ok) (flatten (upto f k)) o n o'' None
+  puts_off {o} {o'} {o''} {n} {i} {at} {r} k p h e t = puts_not k p h (subst (λ (z : Option ℕ). Tried (ok i) (f i) o' at o'' z) e t)
 
-  pub puts_all : {o o' : List ℕ} {n i at : ℕ} (k : ℕ) → Putting ok f w o n i o' at → i ≡ k → Tried (all k ok) (flatten (upto f k)) o n o' (Placed.Upto at)
-  puts_all {o} {o'} {n} {i} {at} k p e = subst (λ (j : ℕ). Tried (all j ok) (flatten (upto f j)) o n o' (Placed.Upto at)) e (tried p.good p.wrote)
+  pub puts_all : {o o' : List ℕ} {n i at : ℕ} (k : ℕ) → Putting ok f w o n i o' at → i ≡ k → Tried (all k ok) (flatten (upto f k)) o n o' (Some at)
+  puts_all {o} {o'} {n} {i} {at} k p e = subst (λ (j : ℕ). Tried (all j ok) (flatten (upto f j)) o n o' (Some at)) e (tried p.good p.wrote)
 
 -- ---- columns that are passed together
 commas-length : (d : ℕ) → length (commas d) ≡ d
@@ -260,7 +258,7 @@ skips_offsets {row} {o} {o'} {n} {at} {i} e h w =
     }
 
 -- ---- the whole line
-pub cells-tried : {o o' : List ℕ} {n : ℕ} {r : Placed} (row : List ℕ)
+pub cells-tried : {o o' : List ℕ} {n : ℕ} {r : Option ℕ} (row : List ℕ)
     → Tried (all column_count (cell_shown row)) (flatten (upto (λ (i : ℕ). comma ∷ cell_text row i) column_count)) o n o' r
     → Tried (all column_count (cell_shown row)) (tailed (cell_texts row column_count)) o n o' r
 unfolding cell_texts
@@ -317,15 +315,15 @@ unfolding mark_text
 marked row e u v w = rw (ne_eqb (mark_of row) 0 e) (wrote_then u (wrote_then v w))
 
 module _ (row o : List ℕ) (n : ℕ) where
-  pub line-high : line_numbers ≤ line_of row → Tried (writable row) (row_text row) o n o Placed.Refused
+  pub line-high : line_numbers ≤ line_of row → Tried (writable row) (row_text row) o n o None
   unfolding writable head_ok
   line-high h = not-tried (and_f _ (and_f _ (le-ltb (line_of row) line_numbers h)))
 
-  pub motion-high : 16 ≤ motion_of row → Tried (writable row) (row_text row) o n o Placed.Refused
+  pub motion-high : 16 ≤ motion_of row → Tried (writable row) (row_text row) o n o None
   unfolding writable head_ok
   motion-high h = not-tried (and_f _ (not_right (ltb (line_of row) line_numbers) (and_f _ (le-ltb (motion_of row) 16 h))))
 
-  pub no-plane : plane_ok (plane_of row) ≡ false → Tried (writable row) (row_text row) o n o Placed.Refused
+  pub no-plane : plane_ok (plane_of row) ≡ false → Tried (writable row) (row_text row) o n o None
   unfolding writable head_ok
   no-plane h = not-tried (and_f _ (not_right (ltb (line_of row) line_numbers) (not_right (ltb (motion_of row) 16) h)))
 
@@ -337,9 +335,9 @@ module _ (row o : List ℕ) (n : ℕ) where
     pub behind-head : {o₁ : List ℕ} {a : ℕ} → Wrote o n (joined (head_fields row)) o₁ a → a ≤ n + 26
     behind-head w = omega (arith, w.next, head-length row m (plane-low (plane_of row) p))
 
-    pub number-refused : {o₁ o₂ : List ℕ} {a : ℕ} {r : Placed} → Wrote o n (joined (head_fields row)) o₁ a → r ≡ Placed.Refused
+    pub number-refused : {o₁ o₂ : List ℕ} {a : ℕ} {r : Option ℕ} → Wrote o n (joined (head_fields row)) o₁ a → r ≡ None
         → Tried (all column_count (cell_shown row)) (tailed (cell_texts row column_count)) o₁ a o₂ r
-        → Tried (writable row) (row_text row) o n o₂ Placed.Refused
+        → Tried (writable row) (row_text row) o n o₂ None
     unfolding writable
     number-refused {o₁} {o₂} {a} {r} w q t =
         let g : writable row ≡ false = not_right (head_ok row) (tried_bad t q) in
@@ -350,19 +348,19 @@ module _ (row o : List ℕ) (n : ℕ) where
           same = t.same ∙ wrote-length w;
         }
 
-    cells-wrote : {o₁ o₂ : List ℕ} {a b : ℕ} {r : Placed} → r ≡ Placed.Upto b
+    cells-wrote : {o₁ o₂ : List ℕ} {a b : ℕ} {r : Option ℕ} → r ≡ Some b
         → Tried (all column_count (cell_shown row)) (tailed (cell_texts row column_count)) o₁ a o₂ r
         → (all column_count (cell_shown row) ≡ true) × Wrote o₁ a (tailed (cell_texts row column_count)) o₂ b
     cells-wrote q t = let g = tried-good t q in (g.0, record { next = g.1; text = t.text g.0 })
 
-    pub behind-cells : {o₁ o₂ : List ℕ} {a b : ℕ} {r : Placed} → Wrote o n (joined (head_fields row)) o₁ a → r ≡ Placed.Upto b
+    pub behind-cells : {o₁ o₂ : List ℕ} {a b : ℕ} {r : Option ℕ} → Wrote o n (joined (head_fields row)) o₁ a → r ≡ Some b
         → Tried (all column_count (cell_shown row)) (tailed (cell_texts row column_count)) o₁ a o₂ r
         → (b ≤ n + 224) × (length o₂ ≡ length o)
     behind-cells w q t = let c = cells-wrote q t in (omega (arith, c.1.next, behind-head w, cells-length row c.0), t.same ∙ wrote-length w)
 
-    pub row_written : {o₁ o₂ o₃ : List ℕ} {a b c : ℕ} {r : Placed} → Wrote o n (joined (head_fields row)) o₁ a → r ≡ Placed.Upto b
+    pub row_written : {o₁ o₂ o₃ : List ℕ} {a b c : ℕ} {r : Option ℕ} → Wrote o n (joined (head_fields row)) o₁ a → r ≡ Some b
         → Tried (all column_count (cell_shown row)) (tailed (cell_texts row column_count)) o₁ a o₂ r
-        → Wrote o₂ b (comma ∷ (mark_text row ++ crlf)) o₃ c → Tried (writable row) (row_text row) o n o₃ (Placed.Upto c)
+        → Wrote o₂ b (comma ∷ (mark_text row ++ crlf)) o₃ c → Tried (writable row) (row_text row) o n o₃ (Some c)
     unfolding writable
     row_written {o₁} {o₂} {o₃} {a} {b} {c} {r} w q t z =
         let k = cells-wrote q t in
@@ -373,7 +371,7 @@ pub row-part : (rows : List ℕ) (i from to : ℕ) → from ≡ i * row_words �
 row-part rows i from to e f = let k : to - from ≡ row_words = omega arith in ap (λ (z : ℕ). take z (drop from rows)) k ∙ ap
     (λ (z : ℕ). take row_words (drop z rows)) e
 
-pub part-tried : {o o' : List ℕ} {n : ℕ} {r : Placed} (rows : List ℕ) (i from to : ℕ) → from ≡ i * row_words → to ≡ from + row_words
+pub part-tried : {o o' : List ℕ} {n : ℕ} {r : Option ℕ} (rows : List ℕ) (i from to : ℕ) → from ≡ i * row_words → to ≡ from + row_words
     → Tried (writable (take (to - from) (drop from rows))) (row_text (take (to - from) (drop from rows))) o n o' r
     → Tried (writable (row_at rows i)) (row_text (row_at rows i)) o n o' r
 part-tried {o} {o'} {n} {r} rows i from to e f t = subst (λ (z : List ℕ). Tried (writable z) (row_text z) o n o' r) (row-part rows i from to e f) t

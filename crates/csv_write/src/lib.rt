@@ -35,12 +35,9 @@ pub fn pass_offsets(row: &[u64], out: &mut [u8], n: usize, i: usize) -> Passed
     requires { (length row.now ≡ row_words) × ((i < column_count) × (n + 18 ≤ length out.old)) }
     ensures { Skipped row.now out.old n i out.new result }
 {
-    if i == I_COLUMN {
-        if no_offsets(row[R_PRESENT]) {
-            let at = csv_line::put_bytes(out, n, b",,,,,,,");
-            return Passed { at, i: F_COLUMN };
-        }
-        return Passed { at: n, i };
+    if i == I_COLUMN && no_offsets(row[R_PRESENT]) {
+        let at = csv_line::put_bytes(out, n, b",,,,,,,");
+        return Passed { at, i: F_COLUMN };
     }
     Passed { at: n, i }
 }

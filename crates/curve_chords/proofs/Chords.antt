@@ -1,7 +1,7 @@
 -- LAWS. One more channel of a chord, and one more chord. Assumes nothing.
-use mathlib.Core.Path.{◌≡◌, sym, ◌∙◌}
+use mathlib.Core.Path.{◌≡◌, sym, ap, ◌∙◌}
 use mathlib.Core.List.{List}
-use Prim.Native.Nat.{ℕ, ◌+◌, ◌*◌, ◌-◌, ◌≤◌, ◌<◌}
+use Prim.Native.Nat.{ℕ, zero, suc, ◌+◌, ◌*◌, ◌-◌, ◌≤◌, ◌<◌}
 use native.Mathlib.Numerals.{add-one}
 use native.Mathlib.Omega.{arith}
 use lib.ListN.{length, get_or}
@@ -27,10 +27,20 @@ parts-fit xs ms a n b h =
     let e2 : length (part xs (a + n) n) ≡ n = length_part xs (a + n) n h in
     (rw e b, omega (arith, e, e2))
 
-pub chord-more : (xs : List Float) (n m : ℕ) (ms : List ℕ) (k a : ℕ) {t g r : Float} → k + 1 < m → a ≡ k * n → t ≡ chord_to (rows_of xs n m) ms k
-    → g ≡ len_to (part xs a n) (part xs (a + n) n) ms (length ms) → r ≡ root g → t ⊕ r ≡ chord_to (rows_of xs n m) ms (k + 1)
+pub next_start : (k n a : ℕ) → 1 ≤ k → a ≡ (k - 1) * n → a + n ≡ (k + 1 - 1) * n
+next_start k n a h e =
+    let ek : k + 1 - 1 ≡ k - 1 + 1 = omega arith in
+    rw ek (next_row (k - 1) n a e)
+
+pub chord-more : (xs : List Float) (n m : ℕ) (ms : List ℕ) (k a : ℕ) {t g r : Float} → 1 ≤ k → k < m → a ≡ (k - 1) * n
+    → t ≡ chord_to (rows_of xs n m) ms (k - 1) → g ≡ len_to (part xs a n) (part xs (a + n) n) ms (length ms) → r ≡ root g
+    → t ⊕ r ≡ chord_to (rows_of xs n m) ms k
 unfolding chord_to
-chord-more xs n m ms k a h e et eg er =
-    let first : point_of (rows_of xs n m) k ≡ part xs a n = point-rows xs n m k (omega arith) ∙ sym (part-row xs k n a e) in
-    let second : point_of (rows_of xs n m) (k + 1) ≡ part xs (a + n) n = point-rows xs n m (k + 1) h ∙ sym (part-row xs (k + 1) n (a + n) (next_row k n a e)) in
-    rw (er, eg, et, add-one, ← first, ← second)
+chord-more xs n m ms zero a h lt e et eg er = absurd (omega arith)
+chord-more xs n m ms (suc j) a h lt e et eg er =
+    let ej : suc j - 1 ≡ j = omega arith in
+    let ea : a ≡ j * n = e ∙ ap (λ (z : ℕ). z * n) ej in
+    let first : point_of (rows_of xs n m) j ≡ part xs a n = point-rows xs n m j (omega arith) ∙ sym (part-row xs j n a ea) in
+    let second : point_of (rows_of xs n m) (j + 1) ≡ part xs (a + n) n =
+    point-rows xs n m (j + 1) (omega arith) ∙ sym (part-row xs (j + 1) n (a + n) (next_row j n a ea)) in
+    rw (er, eg, et, ej, ← first, ← second)

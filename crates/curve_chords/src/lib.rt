@@ -13,12 +13,9 @@ fn gap2(a: &[f64], b: &[f64], ms: &[usize]) -> f64
     ensures { result ≡ len_to a.now b.now ms.now (length ms.now) }
 {
     let mut sum = 0.0;
-    let mut k = 0;
-    while k < ms.len() {
-        let i = ms[k];
-        let d = b[i] - a[i];
+    for i in ms {
+        let d = b[*i] - a[*i];
         sum = sum + d * d;
-        k += 1;
     }
     sum
 }
@@ -31,14 +28,12 @@ pub fn chord_parameters(pts: &[f64], ch: usize, ms: &[usize], n: usize, out: &mu
 {
     let mut t = 0.0;
     let mut at = 0;
-    let mut k = 0;
     out[0] = t;
-    while k + 1 < n {
+    for k in 1..n {
         let mid = at + ch;
         let end = mid + ch;
         t = t + root::root(gap2(&pts[at..mid], &pts[mid..end], ms));
-        out[k + 1] = t;
+        out[k] = t;
         at = mid;
-        k += 1;
     }
 }

@@ -45,13 +45,13 @@ pub fn count_walk(
     }
     let less = left - 1;
     let first = Interval {
-        t0: t0,
+        t0,
         t1: tm,
         left: less,
     };
     let other = Interval {
         t0: tm,
-        t1: t1,
+        t1,
         left: less,
     };
     let reached = count_walk(s, ms, first, p0, &pm[..ch], ks, cs, at, counts, lefts);

@@ -75,10 +75,7 @@ pub fn is_flat(
 {
     let t0 = h.t0;
     let t1 = h.t1;
-    if is_near(ms, s.tol, p0, p1, pm) {
-        if near_at(s, ms, p0, p1, ks, cs, t0 + 0.25 * (t1 - t0)) {
-            return near_at(s, ms, p0, p1, ks, cs, t0 + 0.75 * (t1 - t0));
-        }
-    }
-    false
+    is_near(ms, s.tol, p0, p1, pm)
+        && near_at(s, ms, p0, p1, ks, cs, t0 + 0.25 * (t1 - t0))
+        && near_at(s, ms, p0, p1, ks, cs, t0 + 0.75 * (t1 - t0))
 }

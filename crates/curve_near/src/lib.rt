@@ -17,12 +17,10 @@ fn foot(p: &[f64], a: &[f64], b: &[f64], ms: &[usize]) -> f64
 {
     let mut dot = 0.0;
     let mut len2 = 0.0;
-    let mut k = 0;
-    while k < ms.len() {
-        let g = gap_at(p, a, b, ms[k]);
+    for i in ms {
+        let g = gap_at(p, a, b, *i);
         dot = dot + toward(g);
         len2 = len2 + g.d * g.d;
-        k += 1;
     }
     foot_of(dot, len2)
 }
@@ -35,10 +33,8 @@ fn deviation_any(p: &[f64], a: &[f64], b: &[f64], ms: &[usize]) -> f64
 {
     let t = foot(p, a, b, ms);
     let mut sum = 0.0;
-    let mut k = 0;
-    while k < ms.len() {
-        sum = sum + missed(gap_at(p, a, b, ms[k]), t);
-        k += 1;
+    for i in ms {
+        sum = sum + missed(gap_at(p, a, b, *i), t);
     }
     sum
 }

@@ -13,10 +13,8 @@ fn owner_at(s: Shape, ks: &[f64], o: usize, t: f64) -> usize
     requires { Owners s ks.now o }
     ensures { result ≡ own_of s ks.now o t }
 {
-    let n = s.n;
-    let form = s.form;
-    match form {
-        Form::Basis(degree) => bspline_owner::advance(ks, degree, n - 1, o, t),
+    match s.form {
+        Form::Basis(degree) => bspline_owner::advance(ks, degree, s.n - 1, o, t),
         Form::Fit(_) => o,
     }
 }
@@ -29,7 +27,7 @@ fn count_one(s: Shape, ks: &[f64], o: usize, t: f64, counts: &mut [usize]) -> us
 {
     let owner = owner_at(s, ks, o, t);
     let i = owner - 1;
-    counts[i] = counts[i] + 1;
+    counts[i] += 1;
     owner
 }
 
@@ -58,12 +56,9 @@ pub fn count_sample(
     ensures bumped { Bumped (own_of s ks.now) at.owner t counts.old result.owner counts.new }
     ensures sample_value { (result.sample ≡ at.sample + 1) × (lefts.new ≡ set lefts.old at.sample left) }
 {
-    let o = at.owner;
-    let c = at.sample;
-    remember(lefts, c, left);
-    let owner = count_one(s, ks, o, t, counts);
+    remember(lefts, at.sample, left);
     Reached {
-        owner: owner,
-        sample: c + 1,
+        owner: count_one(s, ks, at.owner, t, counts),
+        sample: at.sample + 1,
     }
 }

@@ -11,12 +11,10 @@ fn put_point(p: &[f64], out: &mut [u64], from: usize) -> usize
     requires { from + length p.now ≤ length out.old }
     ensures { Written out.old from (p.now ∷ []) result out.new }
 {
-    let mut k = 0;
-    while k < p.len() {
-        out[from + k] = floats::bits(p[k]);
-        k += 1;
+    for (k, x) in p.iter().enumerate() {
+        out[from + k] = floats::bits(*x);
     }
-    from + k
+    from + p.len()
 }
 
 // Writes the words of p, as one sample.
@@ -24,27 +22,15 @@ pub fn put_sample(p: &[f64], out: &mut [u64], at: Place) -> Place
     requires { (at.word + length p.now ≤ length out.old) × (at.sample + 1 ≤ 2 ^ 60) }
     ensures { Written out.old at.word (p.now ∷ []) result.word out.new × (result.sample ≡ at.sample + 1) }
 {
-    let from = at.word;
-    let c = at.sample;
-    let word = put_point(p, out, from);
     Place {
-        word: word,
-        sample: c + 1,
+        word: put_point(p, out, at.word),
+        sample: at.sample + 1,
     }
-}
-
-fn wide(b: u8) -> usize
-    ensures { result ≡ b }
-{
-    b as usize
 }
 
 // Whether the memory has it that the walk stopped at the sample c with `left` halvings left.
 pub fn is_remembered(lefts: &[u8], c: usize, left: usize) -> bool
     ensures { result ≡ (ltb c (length lefts.now) && eqb (get_or lefts.now c 0) left) }
 {
-    if c < lefts.len() {
-        return wide(lefts[c]) == left;
-    }
-    false
+    c < lefts.len() && lefts[c] as usize == left
 }

@@ -6,8 +6,9 @@ use mathlib.Core.Logic.{⊎_elim}
 use Prim.Native.Nat.{ℕ, zero, suc, ◌+◌, ◌-◌, ◌*◌, ◌<◌, ◌≤◌}
 use native.Mathlib.Omega.{arith}
 use lib.Dec.{ltb}
-use lib.ListN.{length, get_or, take, drop}
-use lib.Seq.{ext_get_or, drop_at}
+use lib.ListN.{length, get_or, take, drop, replicate}
+use Rattle.std.proofs.lemmas.List.{length-replicate, get_or-replicate}
+use lib.Seq.{ext_get_or, drop_at, length-take-le}
 use lib.Ieee.{Float}
 use borrow.Author.Tests.{lt-ltb, le-ltb}
 use Rattle.floats.specs.Lists.{upto, filled, flatten, rows_of, spliced}
@@ -26,7 +27,6 @@ use Rattle.bspline_tables.specs.BasisLaws.{runs_join, run_at}
 use Rattle.bspline_tables.specs.Tables.{advanced}
 use Rattle.bspline_tables.specs.TableLaws.{curve-is, owner-is, points_are, spans_are}
 use Rattle.curve_walk.specs.declared.Form.{Form}
-use Rattle.curve_walk.specs.declared.Form.TheVariants as Form
 use Rattle.curve_walk.specs.declared.Kept.{Kept}
 use Rattle.curve_walk.specs.declared.Shape.{Shape}
 use Rattle.curve_walk.specs.Walks.{encode, form_at, eval_of, own_in, own_of, counted, points_of}
@@ -42,6 +42,13 @@ use Rattle.curve_runs.specs.Asks.{Ready}
 use Rattle.curve_runs.proofs.Owning.{own_from, count-owned, count_past}
 
 -- ---- counts that start from 0
+
+pub cleared : (l : List ℕ) (m : ℕ) {xs : List ℕ} → m ≤ length l → xs ≡ replicate (length (take m l)) 0 → xs ++ drop m l ≡ filled (λ (i : ℕ). 0) m l
+cleared l m h e =
+    let zero : ℕ → ℕ = λ i. 0 in
+    let same : replicate m 0 ≡ upto zero m = sym (ext_get_or 0 (upto zero m) (replicate m 0) (length-upto zero m ∙ sym (length-replicate m 0))
+    (λ k g. let less : k < m = omega (arith, length-upto zero m) in at-upto zero m k 0 less ∙ sym (get_or-replicate m k 0 0 less))) in
+    ap (λ (z : List ℕ). z ++ drop m l) (e ∙ ap (λ (n : ℕ). replicate n 0) (length-take-le m l h) ∙ same)
 
 pub fresh_of : {s : Shape} {n : ℕ} (l : List ℕ) {xs : List ℕ} → s.n ≡ n → n - 1 ≤ length l → xs ≡ filled (λ (i : ℕ). 0) (n - 1) l → Fresh s xs
 fresh_of {s} {n} l {xs} e h ex = record {

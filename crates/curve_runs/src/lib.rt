@@ -17,6 +17,6 @@ pub fn shape_of(d: Drawing, form: Form) -> Shape
         n: d.n,
         ch: d.ch,
         tol: d.tol,
-        form: form,
+        form,
     }
 }

@@ -46,17 +46,6 @@ pub fn prepare(
     })
 }
 
-fn clear(counts: &mut [usize], m: usize)
-    requires { m ≤ length counts.old }
-    ensures { counts.new ≡ filled (λ (i : ℕ). 0) m counts.old }
-{
-    let mut i = 0;
-    while i < m {
-        counts[i] = 0;
-        i += 1;
-    }
-}
-
 // The length of the run of each point after the start; for the writing, as far as lefts reaches, the halvings left at
 // each sample.
 pub fn count_runs(
@@ -77,15 +66,13 @@ pub fn count_runs(
     ensures remembers { Remembers (shape_of d form) ms.now pts.now ks.now cs.now lefts.new }
 {
     let s = shape_of(d, form);
-    let n = d.n;
-    clear(counts, n - 1);
+    counts[..d.n - 1].fill(0);
     match form {
         Form::Basis(degree) => {
             count_spline(s, degree, ms, ks, cs, counts, lefts);
         }
         Form::Fit(k) => {
-            let points = k.points;
-            if points < 2 {
+            if k.points < 2 {
                 return;
             }
             count_segments(s, k, ms, pts, ks, cs, counts, lefts);
@@ -93,7 +80,7 @@ pub fn count_runs(
     }
 }
 
-// The points of all runs, one after another.
+// The points of all runs, one after another. The match is count_runs's: shared, it would need a trait, which is no plainer.
 pub fn write_runs(
     d: Drawing,
     form: Form,
@@ -117,8 +104,7 @@ pub fn write_runs(
             write_spline(s, degree, ms, ks, cs, lefts, out);
         }
         Form::Fit(k) => {
-            let points = k.points;
-            if points < 2 {
+            if k.points < 2 {
                 return;
             }
             write_segments(s, k, ms, pts, ks, cs, lefts, out);

@@ -52,8 +52,8 @@ fn count_segment(
         sample: c,
     };
     let h = Interval {
-        t0: t0,
-        t1: t1,
+        t0,
+        t1,
         left: DEPTH,
     };
     let reached = count_walk(
@@ -89,14 +89,9 @@ pub fn count_segments(
     ensures lefts_after { lefts.new ≡ sets lefts.old 0
         (joined (fit_lefts s ms.now pts.now ks.now cs.now) (s.n - 1)) }
 {
-    let n = s.n;
-    let last = n - 1;
     let mut c = 0;
-    let mut i = 0;
-    while i < last {
-        let next = i + 1;
-        let here = at_stretch(s, k, ks, next);
+    for i in 0..s.n - 1 {
+        let here = at_stretch(s, k, ks, i + 1);
         c = count_segment(here, ms, pts, ks, cs, i, c, counts, lefts);
-        i = next;
     }
 }

@@ -23,12 +23,9 @@ pub fn at_stretch(s: Shape, k: Kept, ks: &[f64], i: usize) -> Shape
     let end = ks[i];
     let times = n + n;
     let piece = fit_piece::piece(&ks[n..times], points, end);
-    let here = Kept {
-        points: points,
-        piece: piece,
-    };
+    let here = Kept { points, piece };
     Shape {
-        n: n,
+        n,
         ch: s.ch,
         tol: s.tol,
         form: Form::Fit(here),

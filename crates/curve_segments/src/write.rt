@@ -47,8 +47,8 @@ fn write_segment(
         return put_sample(&pts[b..e], out, at);
     }
     let h = Interval {
-        t0: t0,
-        t1: t1,
+        t0,
+        t1,
         left: DEPTH,
     };
     write_walk(s, ms, h, &pts[a..b], &pts[b..e], ks, cs, lefts, at, out)
@@ -71,14 +71,9 @@ pub fn write_segments(
     ensures { out.new ≡ spliced out.old 0
         (encode (flatten (upto (fit_run_at s ms.now pts.now ks.now cs.now) (s.n - 1)))) }
 {
-    let n = s.n;
-    let last = n - 1;
     let mut at = Place { word: 0, sample: 0 };
-    let mut i = 0;
-    while i < last {
-        let next = i + 1;
-        let here = at_stretch(s, k, ks, next);
+    for i in 0..s.n - 1 {
+        let here = at_stretch(s, k, ks, i + 1);
         at = write_segment(here, ms, pts, ks, cs, i, lefts, at, out);
-        i = next;
     }
 }

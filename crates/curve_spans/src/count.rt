@@ -38,8 +38,7 @@ pub fn count_spline(
     };
     let mut t = 0.0;
     let mut prev = point_at(s, ks, cs, t);
-    let mut j = 0;
-    while j < spans {
+    for j in 0..spans {
         let u = (j + 1) as f64;
         let next = point_at(s, ks, cs, u);
         let h = Interval {
@@ -61,6 +60,5 @@ pub fn count_spline(
         );
         t = u;
         prev = next;
-        j += 1;
     }
 }

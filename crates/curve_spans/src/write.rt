@@ -35,8 +35,7 @@ pub fn write_spline(
     let mut at = Place { word: 0, sample: 0 };
     let mut t = 0.0;
     let mut prev = point_at(s, ks, cs, t);
-    let mut j = 0;
-    while j < spans {
+    for j in 0..spans {
         let u = (j + 1) as f64;
         let next = point_at(s, ks, cs, u);
         let h = Interval {
@@ -47,6 +46,5 @@ pub fn write_spline(
         at = write_walk(s, ms, h, &prev[..ch], &next[..ch], ks, cs, lefts, at, out);
         t = u;
         prev = next;
-        j += 1;
     }
 }

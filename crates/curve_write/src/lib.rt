@@ -29,13 +29,11 @@ fn is_flat_from(
     ensures { result ≡ cond (ltb c reach) false (flat (eval_of s ks.now cs.now) ms.now s.tol
         h.t0 p0.now h.t1 p1.now pm.now) }
 {
-    if c < reach {
-        return false;
-    }
-    is_flat(s, ms, h, p0, p1, pm, ks, cs)
+    c >= reach && is_flat(s, ms, h, p0, p1, pm, ks, cs)
 }
 
 // Writes the points of the stretch, and stops where the count did.
+// No one walk with count_walk: a trait's laws would need the memory's answer and the second test, and be no plainer.
 pub fn write_walk(
     s: Shape,
     ms: &[usize],
@@ -76,13 +74,13 @@ pub fn write_walk(
     }
     let less = left - 1;
     let first = Interval {
-        t0: t0,
+        t0,
         t1: tm,
         left: less,
     };
     let other = Interval {
         t0: tm,
-        t1: t1,
+        t1,
         left: less,
     };
     let mid = write_walk(s, ms, first, p0, &pm[..ch], ks, cs, lefts, at, out);

@@ -4,7 +4,6 @@
 ghost use Rattle.std.specs.Prelude.{◌≡◌, ◌≤◌, ◌<◌, ◌+◌, length};
 ghost use Rattle.floats.specs.Lists.{filled, Agrees};
 ghost use Rattle.layout.specs.Layout.{most_points};
-ghost use Rattle.fit_slopes.specs.Sizes.{small_points};
 ghost use Rattle.fit_slopes.specs.Slopes.{diag, rhs, bend, bent, cubic_slope};
 
 use fit_forward::forward;
@@ -20,13 +19,10 @@ fn backward(ts: &[f64], ys: &[f64], m: usize, d: &[f64], r: &mut [f64])
     ensures { r.new ≡ filled (bend ts.now ys.now m) (m + 1) r.old }
 {
     let mut b = 0.0;
-    let mut i = m;
-    r[i] = b;
-    while 1 < i {
-        let j = i - 1;
+    r[m] = b;
+    for j in (1..m).rev() {
         b = (r[j] - step_at(ts, j) * b) / d[j];
         r[j] = b;
-        i = j;
     }
     r[0] = 0.0;
 }
@@ -37,43 +33,24 @@ fn slopes(ts: &[f64], ys: &[f64], m: usize, s: &[f64], out: &mut [f64])
     requires agrees { Agrees s.now (bend ts.now ys.now m) (m + 1) }
     ensures { out.new ≡ filled (bent ts.now ys.now m) (m + 1) out.old }
 {
-    let mut i = 0;
-    while i < m {
+    for i in 0..m {
         out[i] = secant_at(ts, ys, i) - step_at(ts, i) * (2.0 * s[i] + s[i + 1]) / 6.0;
-        i += 1;
     }
     let j = m - 1;
     out[m] = secant_at(ts, ys, j) + step_at(ts, j) * (s[j] + 2.0 * s[m]) / 6.0;
 }
 
 // The slopes at the m + 1 knots, in two lists: out has the diagonal until the slopes go over it, r the right sides and
-// then the second derivatives.
-fn bent_in(ts: &[f64], ys: &[f64], m: usize, r: &mut [f64], out: &mut [f64])
-    requires { (0 < m) × ((m < length ts.now) × ((m < length ys.now) × ((m < length r.old) × (m < length out.old)))) }
-    ensures { out.new ≡ filled (bent ts.now ys.now m) (m + 1) out.old }
-{
-    forward(ts, ys, m, out, r);
-    backward(ts, ys, m, out, r);
-    slopes(ts, ys, m, r, out);
-}
-
-// Few knots: less room to clear.
-fn bent_small(ts: &[f64], ys: &[f64], m: usize, out: &mut [f64])
-    requires m_nonzero { (0 < m) × (m < small_points) }
+// then the second derivatives. N is room for them: the fewer, the less to clear.
+fn bent_in<const N: usize>(ts: &[f64], ys: &[f64], m: usize, out: &mut [f64])
+    requires m_nonzero { (0 < m) × ((m < N) × (N ≤ most_points)) }
     requires m_in_bounds { (m < length ts.now) × ((m < length ys.now) × (m < length out.old)) }
     ensures { out.new ≡ filled (bent ts.now ys.now m) (m + 1) out.old }
 {
-    let mut r = [0.0f64; SMALL_POINTS];
-    bent_in(ts, ys, m, &mut r, out);
-}
-
-fn bent_large(ts: &[f64], ys: &[f64], m: usize, out: &mut [f64])
-    requires m_nonzero { (0 < m) × (m < most_points) }
-    requires m_in_bounds { (m < length ts.now) × ((m < length ys.now) × (m < length out.old)) }
-    ensures { out.new ≡ filled (bent ts.now ys.now m) (m + 1) out.old }
-{
-    let mut r = [0.0f64; MOST_POINTS];
-    bent_in(ts, ys, m, &mut r, out);
+    let mut r = [0.0f64; N];
+    forward(ts, ys, m, out, &mut r);
+    backward(ts, ys, m, out, &mut r);
+    slopes(ts, ys, m, &r, out);
 }
 
 // The slopes at n knots, two or more.
@@ -85,8 +62,8 @@ pub fn natural_cubic_slopes(ts: &[f64], ys: &[f64], n: usize, out: &mut [f64])
     if n == 2 {
         straight_slopes(ts, ys, out);
     } else if n <= SMALL_POINTS {
-        bent_small(ts, ys, n - 1, out);
+        bent_in::<SMALL_POINTS>(ts, ys, n - 1, out);
     } else {
-        bent_large(ts, ys, n - 1, out);
+        bent_in::<MOST_POINTS>(ts, ys, n - 1, out);
     }
 }

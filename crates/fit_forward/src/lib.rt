@@ -17,18 +17,16 @@ pub fn forward(ts: &[f64], ys: &[f64], m: usize, d: &mut [f64], r: &mut [f64])
     let mut dp = 1.0;
     let mut rp = 0.0;
     let mut up = 0.0;
-    let mut i = 0;
     d[0] = dp;
     r[0] = rp;
-    while i + 1 < m {
+    for i in 0..m - 1 {
         let h0 = step_at(ts, i);
         let h1 = step_at(ts, i + 1);
         let w = h0 / dp;
         dp = 2.0 * (h0 + h1) - w * up;
         rp = 6.0 * (secant_at(ts, ys, i + 1) - secant_at(ts, ys, i)) - w * rp;
         up = h1;
-        i += 1;
-        d[i] = dp;
-        r[i] = rp;
+        d[i + 1] = dp;
+        r[i + 1] = rp;
     }
 }

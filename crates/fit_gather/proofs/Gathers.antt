@@ -6,7 +6,7 @@ use Prim.Native.Nat.{ℕ, ◌+◌, ◌*◌, ◌-◌, ◌<◌, ◌≤◌}
 use native.Mathlib.Omega.{arith}
 use native.Mathlib.Nat.{le_trans, mul-le-mul_right, mul-le-mul_left}
 use lib.ListN.{length, take, drop, get_or-append}
-use lib.Seq.{length-take-le, get_or-append-add, get_or-take}
+use lib.Seq.{length-take-le, get_or-append-add, get_or-take, get_or-drop}
 use lib.Ieee.{Float, nan}
 use borrow.Rule.Slice.PartMut.{put_mid, post_of, mid_len, same_len_mid}
 use Rattle.floats.specs.Numbers.{at}
@@ -33,6 +33,13 @@ block-put {f} {a} {m} {l} ys h n e =
           rw p (get_or-append-add (take a l) (ys ++ post_of a (a + m - a) l) j nan ∙ get_or-append ys (post_of a (a + m - a) l) nan j (omega arith) ∙ e j g);
       before = λ k g. get_or-append (take a l) (ys ++ post_of a (a + m - a) l) nan k (omega arith) ∙ rw get_or-take;
     }
+
+-- a part of a list, copied over a part of another
+pub part-put : {f : ℕ → Float} {a m : ℕ} {l ys : List Float} (from : List Float) (b : ℕ) → a + m ≤ length l → length ys ≡ length (take (a + m - a) (drop a l))
+    → ys ≡ take (b + m - b) (drop b from) → ((j : ℕ) → j < m → at from (b + j) ≡ f j)
+    → Block f a m l (put_mid a (a + m - a) l ys)
+part-put {m = m} {ys = ys} from b h n ey e =
+    block-put ys h n (λ j g. ap (λ (z : List Float). at z j) ey ∙ get_or-take (b + m - b) (drop b from) j nan (omega arith) ∙ get_or-drop b from j nan ∙ e j g)
 
 pub channel_block : (cubic : Bool) (fts fps : List Float) (m ch c a : ℕ) (l₁ : List Float) {ys ms l : List Float}
     → m ≡ length l₁

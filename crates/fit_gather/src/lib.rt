@@ -6,7 +6,6 @@ ghost use Rattle.floats.specs.Numbers.{at};
 ghost use Rattle.floats.specs.Lists.{filled};
 ghost use Rattle.curve_metric.specs.Below.{Below};
 ghost use Rattle.layout.specs.Layout.{most_points};
-ghost use Rattle.fit_slopes.specs.Sizes.{small_points};
 ghost use Rattle.fit_knots.specs.Blocks.{Block, Blocks};
 ghost use Rattle.fit_knots.specs.Prepare.{slope_of, time_at, number_at, channel_at, TimesRise, FitRoom, Gathered};
 
@@ -15,31 +14,14 @@ use fit_slopes::akima::akima_slopes;
 use fit_slopes::sizes::SMALL_POINTS;
 use layout::MOST_POINTS;
 
-// Row i of `from` becomes row w of `out`, of n numbers each.
-fn copy_row(from: &[f64], i: usize, n: usize, out: &mut [f64], w: usize)
-    requires { (i * n + n ≤ length from.now) × (w * n + n ≤ length out.old) }
-    ensures { Block (λ (j : ℕ). at from.now (i * n + j)) (w * n) n out.old out.new }
-{
-    let a = i * n;
-    let b = w * n;
-    let mut j = 0;
-    while j < n {
-        out[b + j] = from[a + j];
-        j += 1;
-    }
-}
-
 // The times of the points ks.
 fn gather_times(ts: &[f64], ks: &[usize], out: &mut [f64])
     requires below { Below ks.now (length ts.now) }
     requires ks_in_bounds { length ks.now ≤ length out.old }
     ensures { out.new ≡ filled (time_at ts.now ks.now) (length ks.now) out.old }
 {
-    let mut k = 0;
-    while k < ks.len() {
-        let i = ks[k];
-        out[k] = ts[i];
-        k += 1;
+    for (k, i) in ks.iter().enumerate() {
+        out[k] = ts[*i];
     }
 }
 
@@ -49,11 +31,10 @@ fn gather_points(pts: &[f64], ch: usize, ks: &[usize], n: usize, out: &mut [f64]
     requires ch_in_bounds { (n * ch ≤ length pts.now) × (length ks.now * ch ≤ length out.old) }
     ensures { Blocks (number_at pts.now ch ks.now) ch (length ks.now) out.new }
 {
-    let mut w = 0;
-    while w < ks.len() {
-        let i = ks[w];
-        copy_row(pts, i, ch, out, w);
-        w += 1;
+    for (w, i) in ks.iter().enumerate() {
+        let from = *i * ch;
+        let to = w * ch;
+        out[to..to + ch].copy_from_slice(&pts[from..from + ch]);
     }
 }
 
@@ -62,10 +43,8 @@ fn column(fps: &[f64], ch: usize, m: usize, c: usize, out: &mut [f64])
     requires { (c < ch) × ((m * ch ≤ length fps.now) × (m ≤ length out.old)) }
     ensures { out.new ≡ filled (λ (w : ℕ). at fps.now (w * ch + c)) m out.old }
 {
-    let mut w = 0;
-    while w < m {
+    for w in 0..m {
         out[w] = fps[w * ch + c];
-        w += 1;
     }
 }
 
@@ -103,44 +82,23 @@ fn channel_slopes(
     slopes_of(cubic, &fts[..m], ys, m, &mut slopes[a..e]);
 }
 
-// The slopes of the ch channels, one block after another.
-fn slopes_in(
+// The slopes of the ch channels, one block after another. N is room for the numbers of one: the fewer, the less to clear.
+fn slopes_in<const N: usize>(
     cubic: bool,
     fts: &[f64],
     fps: &[f64],
     m: usize,
     ch: usize,
-    ys: &mut [f64],
     slopes: &mut [f64],
 )
-    requires le_m { (2 ≤ m) × ((m ≤ most_points) × ((m ≤ length fts.now) × (length ys.old ≡ m))) }
+    requires le_m { (2 ≤ m) × ((m ≤ N) × ((N ≤ most_points) × (m ≤ length fts.now))) }
     requires ch_in_bounds { (m * ch ≤ length fps.now) × (ch * m ≤ length slopes.old) }
     ensures { Blocks (channel_at cubic fts.now fps.now ch m) m ch slopes.new }
 {
-    let mut c = 0;
-    while c < ch {
-        channel_slopes(cubic, fts, fps, m, ch, c, ys, slopes);
-        c += 1;
+    let mut ys = [0.0f64; N];
+    for c in 0..ch {
+        channel_slopes(cubic, fts, fps, m, ch, c, &mut ys[..m], slopes);
     }
-}
-
-// Few points: less room to clear.
-fn slopes_small(cubic: bool, fts: &[f64], fps: &[f64], m: usize, ch: usize, slopes: &mut [f64])
-    requires le_m { (2 ≤ m) × ((m ≤ small_points) × (m ≤ length fts.now)) }
-    requires ch_in_bounds { (m * ch ≤ length fps.now) × (ch * m ≤ length slopes.old) }
-    ensures { Blocks (channel_at cubic fts.now fps.now ch m) m ch slopes.new }
-{
-    let mut ys = [0.0f64; SMALL_POINTS];
-    slopes_in(cubic, fts, fps, m, ch, &mut ys[..m], slopes);
-}
-
-fn slopes_large(cubic: bool, fts: &[f64], fps: &[f64], m: usize, ch: usize, slopes: &mut [f64])
-    requires le_m { (2 ≤ m) × ((m ≤ most_points) × (m ≤ length fts.now)) }
-    requires ch_in_bounds { (m * ch ≤ length fps.now) × (ch * m ≤ length slopes.old) }
-    ensures { Blocks (channel_at cubic fts.now fps.now ch m) m ch slopes.new }
-{
-    let mut ys = [0.0f64; MOST_POINTS];
-    slopes_in(cubic, fts, fps, m, ch, &mut ys[..m], slopes);
 }
 
 // The slopes of all channels, with as much room as m points need.
@@ -150,9 +108,9 @@ fn gather_slopes(cubic: bool, fts: &[f64], fps: &[f64], m: usize, ch: usize, slo
     ensures { Blocks (channel_at cubic fts.now fps.now ch m) m ch slopes.new }
 {
     if m <= SMALL_POINTS {
-        slopes_small(cubic, fts, fps, m, ch, slopes);
+        slopes_in::<SMALL_POINTS>(cubic, fts, fps, m, ch, slopes);
     } else {
-        slopes_large(cubic, fts, fps, m, ch, slopes);
+        slopes_in::<MOST_POINTS>(cubic, fts, fps, m, ch, slopes);
     }
 }
 

@@ -11,17 +11,7 @@ pub fn piece(ts: &[f64], n: usize, t: f64) -> usize
     requires rising { Rising ts.now n }
     ensures { (result ≡ piece_of ts.now n t) × (result + 1 < n) }
 {
-    let mut lo = 0;
-    let mut hi = n - 2;
-    while lo < hi {
-        let mid = lo + (hi - lo) / 2;
-        if t <= ts[mid + 1] {
-            hi = mid;
-        } else {
-            lo = mid + 1;
-        }
-    }
-    lo
+    ts[1..n - 1].partition_point(|end| !(t <= *end))
 }
 
 // Whether w is that piece.
@@ -30,15 +20,10 @@ fn is_piece(ts: &[f64], n: usize, t: f64, w: usize) -> bool
     requires rising { Rising ts.now n }
     ensures { result ≡ true → w ≡ piece_of ts.now n t }
 {
-    if w > 0 {
-        if t <= ts[w] {
-            return false;
-        }
+    if w > 0 && t <= ts[w] {
+        return false;
     }
-    if t <= ts[w + 1] {
-        return true;
-    }
-    w + 2 == n
+    t <= ts[w + 1] || w + 2 == n
 }
 
 // That piece, found at once where it is the hint, which may be any number.
@@ -47,10 +32,8 @@ pub fn piece_near(ts: &[f64], n: usize, t: f64, hint: usize) -> usize
     requires rising { Rising ts.now n }
     ensures { (result ≡ piece_of ts.now n t) × (result + 1 < n) }
 {
-    if hint < n - 1 {
-        if is_piece(ts, n, t, hint) {
-            return hint;
-        }
+    if hint < n - 1 && is_piece(ts, n, t, hint) {
+        return hint;
     }
     piece(ts, n, t)
 }

@@ -1,14 +1,10 @@
 -- LAWS. One channel of a point, and all of them. Assumes nothing.
-use mathlib.Core.Path.{◌≡◌, sym, ◌∙◌}
+use mathlib.Core.Path.{◌≡◌}
 use mathlib.Core.List.{List}
-use Prim.Native.Nat.{ℕ, ◌≤◌, ◌<◌, ◌+◌, ◌*◌}
-use borrow.Author.Tests.{lt-ltb, le-ltb}
-use lib.ListN.{replicate}
+use Prim.Native.Nat.{ℕ, ◌<◌, ◌+◌, ◌*◌}
+use borrow.Author.Tests.{lt-ltb}
 use lib.Ieee.{Float}
 use Rattle.floats.specs.Numbers.{◌⊖◌, ◌⊘◌, f0, f1, held_in, at}
-use Rattle.floats.specs.Lists.{upto, filled}
-use Rattle.curve_metric.specs.Widest.{widest}
-use Rattle.curve_metric.specs.Written.{padded}
 use Rattle.fit_slopes.specs.Slopes.{step}
 use Rattle.fit_knots.specs.Fit.{piece_of}
 use Rattle.fit_knots.specs.Memory.{piece_at, fit_at}
@@ -23,19 +19,9 @@ module _ (b : Blend) (fps slopes : List Float) (m ch w c : ℕ) where
   unfolding channel_of
   channel_in h ey ea ez ek er = rw (er, ey, ea, ez, ek, lt-ltb c ch h)
 
-  pub channel_out : ch ≤ c → f0 ≡ channel_of b fps slopes m ch w c
-  unfolding channel_of
-  channel_out h = rw (le-ltb c ch h)
-
 -- ---- all of them
 module _ (fts fps slopes : List Float) (m ch : ℕ) (t : Float) {w : ℕ} {h s : Float} {b : Blend}
     (ew : w ≡ piece_of fts m t) (eh : h ≡ step fts w) (es : s ≡ held_in f0 f1 ((t ⊖ at fts w) ⊘ h)) (eb : BlendIs s h b) where
-  blended_is : (c : ℕ) → c < ch → channel_of b fps slopes m ch w c ≡ fit_at fts fps slopes m ch t c
+  pub blended_is : (c : ℕ) → c < ch → channel_of b fps slopes m ch w c ≡ fit_at fts fps slopes m ch t c
   unfolding channel_of fit_at piece_at
   blended_is c l = rw (lt-ltb c ch l, eb.first, eb.rise, eb.last, eb.fall, es, eh, ew)
-
-  pub fit_is : {r : List Float} → ch ≤ widest → r ≡ upto (channel_of b fps slopes m ch w) widest
-      → r ≡ filled (fit_at fts fps slopes m ch t) ch (replicate widest f0)
-  fit_is few e =
-      e ∙ padded (fit_at fts fps slopes m ch t) (channel_of b fps slopes m ch w) ch few blended_is
-      (λ c h. sym (channel_out b fps slopes m ch w c h))

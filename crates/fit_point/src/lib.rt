@@ -3,7 +3,7 @@
 
 ghost use Rattle.std.specs.Prelude.{◌≡◌, ◌≤◌, ◌<◌, ◌+◌, ◌*◌, length, replicate};
 ghost use Rattle.floats.specs.Numbers.{f0, at};
-ghost use Rattle.floats.specs.Lists.{upto, filled};
+ghost use Rattle.floats.specs.Lists.{filled};
 ghost use Rattle.curve_metric.specs.Widest.{widest};
 ghost use Rattle.fit_knots.specs.Memory.{Prepared, fit_at};
 ghost use Rattle.fit_point.specs.Channels.{BlendIs, blend_of, channel_of};
@@ -11,6 +11,7 @@ ghost use Rattle.fit_point.specs.Channels.{BlendIs, blend_of, channel_of};
 use curve_metric::WIDEST;
 use fit_piece::piece_near;
 use fit_slopes::steps::step_at;
+use point_channels::each_channel;
 
 // Number j of row i, of n numbers each.
 fn cell(xs: &[f64], i: usize, n: usize, j: usize) -> f64
@@ -49,46 +50,18 @@ fn blended(b: Blend, y: f64, m: f64, z: f64, k: f64) -> f64
     b.y * y + b.m * m + b.z * z + b.k * k
 }
 
-// Channel c of the piece after knot w; 0 where there is none.
+// Channel c of the piece after knot w.
 fn channel_at(b: Blend, fps: &[f64], slopes: &[f64], m: usize, ch: usize, w: usize, c: usize) -> f64
-    requires { (w + 1 < m) × ((m * ch ≤ length fps.now) × (ch * m ≤ length slopes.now)) }
+    requires { (c < ch) × ((w + 1 < m) × ((m * ch ≤ length fps.now) × (ch * m ≤ length slopes.now))) }
     ensures { result ≡ channel_of b fps.now slopes.now m ch w c }
 {
-    if c < ch {
-        return blended(
-            b,
-            cell(fps, w, ch, c),
-            cell(slopes, c, m, w),
-            cell(fps, w + 1, ch, c),
-            cell(slopes, c, m, w + 1),
-        );
-    }
-    0.0
-}
-
-// All channels. Written out, each goes straight to its place, where an array filled by index is copied once more.
-fn channels(b: Blend, fps: &[f64], slopes: &[f64], m: usize, ch: usize, w: usize) -> [f64; WIDEST]
-    requires { (w + 1 < m) × ((m * ch ≤ length fps.now) × (ch * m ≤ length slopes.now)) }
-    ensures { result ≡ upto (channel_of b fps.now slopes.now m ch w) widest }
-{
-    [
-        channel_at(b, fps, slopes, m, ch, w, 0),
-        channel_at(b, fps, slopes, m, ch, w, 1),
-        channel_at(b, fps, slopes, m, ch, w, 2),
-        channel_at(b, fps, slopes, m, ch, w, 3),
-        channel_at(b, fps, slopes, m, ch, w, 4),
-        channel_at(b, fps, slopes, m, ch, w, 5),
-        channel_at(b, fps, slopes, m, ch, w, 6),
-        channel_at(b, fps, slopes, m, ch, w, 7),
-        channel_at(b, fps, slopes, m, ch, w, 8),
-        channel_at(b, fps, slopes, m, ch, w, 9),
-        channel_at(b, fps, slopes, m, ch, w, 10),
-        channel_at(b, fps, slopes, m, ch, w, 11),
-        channel_at(b, fps, slopes, m, ch, w, 12),
-        channel_at(b, fps, slopes, m, ch, w, 13),
-        channel_at(b, fps, slopes, m, ch, w, 14),
-        channel_at(b, fps, slopes, m, ch, w, 15),
-    ]
+    blended(
+        b,
+        cell(fps, w, ch, c),
+        cell(slopes, c, m, w),
+        cell(fps, w + 1, ch, c),
+        cell(slopes, c, m, w + 1),
+    )
 }
 
 // The point of the curve at t; where the hint is the piece that t lies in, it is not searched for.
@@ -106,12 +79,6 @@ pub fn eval_fit(
 {
     let w = piece_near(fts, m, t, hint);
     let h = step_at(fts, w);
-    channels(
-        blend_at(floats::held_in(0.0, 1.0, (t - fts[w]) / h), h),
-        fps,
-        slopes,
-        m,
-        ch,
-        w,
-    )
+    let b = blend_at(floats::held_in(0.0, 1.0, (t - fts[w]) / h), h);
+    each_channel(ch, |c| channel_at(b, fps, slopes, m, ch, w, c))
 }

@@ -1,19 +1,16 @@
 -- LAWS. The points that were kept are what the fit asks for. Assumes nothing.
 use mathlib.Core.Path.{◌≡◌, sym, ◌∙◌, ap}
-use mathlib.Core.Bool.{Bool}
 use mathlib.Core.List.{List}
-use Prim.Native.Nat.{ℕ, ◌-◌, ◌<◌, ◌≤◌}
+use Prim.Native.Nat.{ℕ, ◌-◌, ◌≤◌}
 use native.Mathlib.Omega.{arith}
 use lib.ListN.{length, take, drop}
 use lib.Seq.{take_at}
 use lib.Ieee.{Float}
-use Rattle.floats.specs.Numbers.{at}
 use Rattle.curve_metric.specs.Below.{Below}
-use Rattle.fit_knots.specs.Fit.{kept_to, fit_of}
+use Rattle.fit_knots.specs.Fit.{kept_to}
 use Rattle.fit_knots.specs.Kept.{Kept}
 use Rattle.fit_knots.proofs.KeptLaws.{kept_in, kept-rising}
-use Rattle.fit_knots.specs.Memory.{FitHeld}
-use Rattle.fit_knots.specs.Prepare.{TimesRise, FitReady}
+use Rattle.fit_knots.specs.Prepare.{TimesRise}
 
 module _ {ts : List Float} {n : ℕ} {l xs : List ℕ} {m : ℕ} (some : 1 ≤ n) (q : Kept ts (n - 1) l xs m) where
   pub kept-few : m ≤ n
@@ -32,10 +29,3 @@ module _ {ts : List Float} {n : ℕ} {l xs : List ℕ} {m : ℕ} (some : 1 ≤ n
   pub kept-rise : TimesRise ts (take m xs)
   unfolding TimesRise
   kept-rise k h = rw kept-front (kept-rising ts (n - 1) k (rw kept-front at h))
-
-  pub not-ready : (cubic : Bool) (pts : List (List Float)) (ch : ℕ) (fts fps slopes : List Float) → m < 2 → FitReady cubic pts ts n ch fts fps slopes m
-  not-ready cubic pts ch fts fps slopes h = record { count = q.count; held = λ g. absurd (omega arith) }
-
-  pub ready : {cubic : Bool} {pts : List (List Float)} {ch : ℕ} {fts fps slopes : List Float}
-      → FitHeld (fit_of cubic pts ts (take m xs)) fts fps slopes (length (take m xs)) ch → FitReady cubic pts ts n ch fts fps slopes m
-  ready {cubic} {pts} {ch} {fts} {fps} {slopes} h = record { count = q.count; held = λ g. rw (kept-front, ← q.count) at h }

@@ -25,10 +25,8 @@ pub fn keep(ts: &[f64], n: usize, out: &mut [usize]) -> usize
 {
     out[0] = 0;
     let mut m = 1;
-    let mut i = 1;
-    while i < n {
+    for i in 1..n {
         m = judge(ts, i, m, out);
-        i += 1;
     }
     m
 }

@@ -3,9 +3,9 @@
 
 pub mod kept;
 
-ghost use Rattle.std.specs.Prelude.{◌≤◌, length};
+ghost use Rattle.std.specs.Prelude.{◌≤◌};
 ghost use Rattle.floats.specs.Lists.{rows_of};
-ghost use Rattle.fit_slopes.specs.Sizes.{small_points};
+ghost use Rattle.layout.specs.Layout.{most_points};
 ghost use Rattle.fit_knots.specs.Prepare.{FitRoom, FitReady};
 
 use crate::kept::keep;
@@ -13,23 +13,23 @@ use fit_gather::gather;
 use fit_slopes::sizes::SMALL_POINTS;
 use layout::MOST_POINTS;
 
-// What `prepare_fit` does. ks is room for the kept points.
-fn fit_in(
+// What `prepare_fit` does. N is room for the kept points: the fewer, the less to clear.
+fn fit_in<const N: usize>(
     cubic: bool,
     pts: &[f64],
     ts: &[f64],
     n: usize,
     ch: usize,
-    ks: &mut [usize],
     fts: &mut [f64],
     fps: &mut [f64],
     slopes: &mut [f64],
 ) -> usize
     requires fit_room { FitRoom pts.now ts.now fts.old fps.old slopes.old n ch }
-    requires n_in_bounds { n ≤ length ks.old }
+    requires n_in_bounds { (n ≤ N) × (N ≤ most_points) }
     ensures { FitReady cubic (rows_of pts.now ch n) ts.now n ch fts.new fps.new slopes.new result }
 {
-    let m = keep(ts, n, ks);
+    let mut ks = [0usize; N];
+    let m = keep(ts, n, &mut ks);
     if m < 2 {
         return m;
     }
@@ -37,44 +37,8 @@ fn fit_in(
     m
 }
 
-// Few points: less room to clear.
-fn fit_small(
-    cubic: bool,
-    pts: &[f64],
-    ts: &[f64],
-    n: usize,
-    ch: usize,
-    fts: &mut [f64],
-    fps: &mut [f64],
-    slopes: &mut [f64],
-) -> usize
-    requires fit_room { FitRoom pts.now ts.now fts.old fps.old slopes.old n ch }
-    requires n_le_small_points { n ≤ small_points }
-    ensures { FitReady cubic (rows_of pts.now ch n) ts.now n ch fts.new fps.new slopes.new result }
-{
-    let mut ks = [0usize; SMALL_POINTS];
-    fit_in(cubic, pts, ts, n, ch, &mut ks, fts, fps, slopes)
-}
-
-fn fit_large(
-    cubic: bool,
-    pts: &[f64],
-    ts: &[f64],
-    n: usize,
-    ch: usize,
-    fts: &mut [f64],
-    fps: &mut [f64],
-    slopes: &mut [f64],
-) -> usize
-    requires { FitRoom pts.now ts.now fts.old fps.old slopes.old n ch }
-    ensures { FitReady cubic (rows_of pts.now ch n) ts.now n ch fts.new fps.new slopes.new result }
-{
-    let mut ks = [0usize; MOST_POINTS];
-    fit_in(cubic, pts, ts, n, ch, &mut ks, fts, fps, slopes)
-}
-
 // The fit through the n points pts, of ch numbers each, whose chord sums are ts: the number of knots kept. Where it is
-// two or more, fts holds their times, fps their points, and slopes for each channel the slopes at all of them.
+// two or more, fts holds their times, fps their points, and slopes for each channel the slopes at all of them (`FitReady`).
 pub fn prepare_fit(
     cubic: bool,
     pts: &[f64],
@@ -89,7 +53,7 @@ pub fn prepare_fit(
     ensures { FitReady cubic (rows_of pts.now ch n) ts.now n ch fts.new fps.new slopes.new result }
 {
     if n <= SMALL_POINTS {
-        return fit_small(cubic, pts, ts, n, ch, fts, fps, slopes);
+        return fit_in::<SMALL_POINTS>(cubic, pts, ts, n, ch, fts, fps, slopes);
     }
-    fit_large(cubic, pts, ts, n, ch, fts, fps, slopes)
+    fit_in::<MOST_POINTS>(cubic, pts, ts, n, ch, fts, fps, slopes)
 }

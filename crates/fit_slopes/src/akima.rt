@@ -66,14 +66,12 @@ fn many_slopes(ts: &[f64], ys: &[f64], n: usize, out: &mut [f64])
     let mut m1 = widened_at(ts, ys, n, 0);
     let mut m2 = widened_at(ts, ys, n, 1);
     let mut m3 = widened_at(ts, ys, n, 2);
-    let mut i = 0;
-    while i < n {
+    for i in 0..n {
         let m4 = widened_at(ts, ys, n, i + 3);
         out[i] = akima_of(m1, m2, m3, m4);
         m1 = m2;
         m2 = m3;
         m3 = m4;
-        i += 1;
     }
 }
 

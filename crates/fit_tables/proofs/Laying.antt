@@ -3,46 +3,20 @@ use mathlib.Core.Path.{◌≡◌, sym, ap, ◌∙◌, subst}
 use mathlib.Core.Bool.{Bool}
 use mathlib.Core.List.{List, ◌++◌}
 use Prim.Native.Nat.{ℕ, ◌+◌, ◌-◌, ◌*◌, ◌<◌, ◌≤◌}
-use native.Mathlib.Nat.{mul_comm}
 use native.Mathlib.Omega.{arith}
-use lib.ListN.{length, take, drop, length-drop, length-append}
+use lib.ListN.{length, take, drop, length-drop, length-append, get_or-append}
 use lib.Seq.{take_at, length-take-le}
 use lib.Ieee.{Float, nan}
 use borrow.Rule.Slice.PartMut.{put_mid, post_of, Post-is}
 use Rattle.floats.specs.Numbers.{at}
 use Rattle.floats.specs.Lists.{upto, filled, rows_of}
-use Rattle.floats.specs.Fill.{length-upto, at-filled, length-filled}
-use Rattle.layout.specs.Layout.{axis_codes, most_points}
+use Rattle.floats.specs.Fill.{length-upto}
 use Rattle.curve_metric.specs.Metric.{chord_to, chords}
 use Rattle.curve_metric.specs.Points.{length-rows}
-use Rattle.fit_knots.specs.Prepare.{FitReady, FitRoom}
-use Rattle.bspline_tables.specs.RowLaws.{copied, put, put-here, put-before}
+use Rattle.fit_knots.specs.Prepare.{FitReady}
+use Rattle.bspline_tables.specs.RowLaws.{put, put-here, put-before}
 use Rattle.fit_knots.specs.Memory.{fit_times, fit_points, fit_slopes}
 use Rattle.fit_tables.specs.Asks.{Fitted}
-
--- the front of a list that stayed as long as it was
-pub sums-long : (n : ℕ) (xs ys : List Float) → length ys ≡ length xs → n ≤ length xs → length (take n ys) ≡ n
-sums-long n xs ys e h = length-take-le n ys (omega arith)
-
--- room for the fit
-pub fit-room : {pts ts : List Float} (n ch : ℕ) (ks cs slopes : List Float) → 2 ≤ n → n ≤ most_points → ch ≤ axis_codes → n * ch ≤ length pts
-    → length ts ≡ n → 2 * n ≤ length ks → 2 * (n * ch) ≤ length cs → n * ch ≤ length slopes
-    → FitRoom pts ts (take (n + n - n) (drop n ks)) (take (n * ch) cs) (take (n * ch) slopes) n ch
-fit-room n ch ks cs slopes two few narrow given sums kr cr sr =
-    let e : ch * n ≡ n * ch = mul_comm ch n in
-    let a : length (take (n + n - n) (drop n ks)) ≡ n + n - n = length-take-le (n + n - n) (drop n ks) (rw length-drop (omega arith)) in
-    let b : length (take (n * ch) cs) ≡ n * ch = length-take-le (n * ch) cs (omega arith) in
-    let d : length (take (n * ch) slopes) ≡ n * ch = length-take-le (n * ch) slopes sr in
-    record {
-      some = omega arith;
-      few = few;
-      narrow = omega arith;
-      given = given;
-      sums = omega arith;
-      times = omega arith;
-      points = omega arith;
-      bends = omega arith;
-    }
 
 put-mid : (a e : ℕ) (xs ys : List Float) → a ≤ e → put_mid a (e - a) xs ys ≡ put xs a e ys
 put-mid a e xs ys h = let p : post_of a (e - a) xs ≡ drop e xs = Post-is a e xs h in rw p
@@ -55,15 +29,8 @@ part_length : (xs : List Float) (w : ℕ) → w + w ≤ length xs → length (ta
 part_length xs w h = let e : w + w - w ≡ w = omega arith in rw e (length-take-le w (drop w xs) (rw length-drop (omega arith)))
 
 -- a front that is lent comes back as long as it was
-pub back-length : (xs ys : List Float) (w : ℕ) → length ys ≡ length (take w xs) → w ≤ length xs → length (ys ++ drop w xs) ≡ length xs
+back-length : (xs ys : List Float) (w : ℕ) → length ys ≡ length (take w xs) → w ≤ length xs → length (ys ++ drop w xs) ≡ length xs
 back-length xs ys w e h = length-append ys (drop w xs) ∙ rw length-drop (omega (arith, e ∙ length-take-le w xs h))
-
-pub copy_room : (w : ℕ) (cs sl fps bends : List Float) → w + w ≤ length cs → w ≤ length sl → length fps ≡ length (take w cs) → length bends ≡ length (take w sl)
-    → length (take w (bends ++ drop w sl)) ≤ length (take (w + w - w) (drop w (fps ++ drop w cs)))
-copy_room w cs sl fps bends cr sr lp lb =
-    let c = back-length cs fps w lp (omega arith) in
-    let b = back-length sl bends w lb sr in
-    omega (arith, length-take-le w (bends ++ drop w sl) (omega arith), part_length (fps ++ drop w cs) w (omega arith))
 
 front-stays : (xs ys : List Float) (w e : ℕ) → w ≤ length xs → take w (put xs w e ys) ≡ take w xs
 front-stays xs ys w e h = take_at (take w xs) (ys ++ drop e xs) w (length-take-le w xs h)
@@ -75,24 +42,22 @@ sums_are n ch ms pts l e =
     ap (take n) e ∙ take_at (upto (chord_to (rows_of pts ch n) ms) n) (drop n l) n (length-upto (chord_to (rows_of pts ch n) ms) n)
     ∙ ap (upto (chord_to (rows_of pts ch n) ms)) (sym (length-rows pts ch n))
 
--- a list over the front of another
-abbrev overlaid : List Float → List Float → List Float
-overlaid xs l = filled (at xs) (length xs) l
-
 module _ (cubic : Bool) (n ch : ℕ) (ms : List ℕ) (pts ks cs sl l : List Float) {ts ks1 fts fps bends dst : List Float} {m : ℕ}
     (kr : 2 * n ≤ length ks) (cr : n * ch + n * ch ≤ length cs) (sr : n * ch ≤ length sl) (lt : n ≤ length ts)
     (et : ts ≡ filled (chord_to (rows_of pts ch n) ms) n l)
-    (ek : ks1 ≡ filled (at (take n ts)) (length (take n ts)) ks)
+    (ek : ks1 ≡ take n ts ++ drop n ks)
     (lf : length fts ≡ length (take (n + n - n) (drop n ks1)))
     (lp : length fps ≡ length (take (n * ch) cs))
     (lb : length bends ≡ length (take (n * ch) sl))
-    (ed : dst ≡ overlaid (take (n * ch) (bends ++ drop (n * ch) sl)) (take (n * ch + n * ch - n * ch) (drop (n * ch) (fps ++ drop (n * ch) cs))))
+    (ed : dst ≡ take (n * ch) (bends ++ drop (n * ch) sl))
     (ready : FitReady cubic (rows_of pts ch n) (take n ts) n ch fts fps bends m) where
   n-sums : length (take n ts) ≡ n
   n-sums = length-take-le n ts lt
 
   k1 : length ks1 ≡ length ks
-  k1 = ap length ek ∙ length-filled (at (take n ts)) ks (length (take n ts)) (omega (arith, n-sums))
+  k1 =
+      let front : length (take n ks) ≡ n = length-take-le n ks (omega arith) in
+      ap length ek ∙ back-length ks (take n ts) n (n-sums ∙ sym front) (omega arith)
 
   n-times : length fts ≡ n
   n-times = lf ∙ part_length ks1 n (omega (arith, k1))
@@ -116,10 +81,7 @@ module _ (cubic : Bool) (n ch : ℕ) (ms : List ℕ) (pts ks cs sl l : List Floa
   bends_are = take_at bends (drop (n * ch) sl) (n * ch) w-slopes
 
   dst_is : dst ≡ bends
-  dst_is =
-      let part = part_length cs1 (n * ch) (omega (arith, c1)) in
-      copied bends (take (n * ch + n * ch - n * ch) (drop (n * ch) cs1)) (w-slopes ∙ sym part) (w-slopes ∙ sym part)
-      (ed ∙ ap (λ (z : List Float). filled (at z) (length z) (take (n * ch + n * ch - n * ch) (drop (n * ch) cs1))) bends_are)
+  dst_is = ed ∙ bends_are
 
   w-copied : length dst ≡ n * ch
   w-copied = ap length dst_is ∙ w-slopes
@@ -139,7 +101,7 @@ module _ (cubic : Bool) (n ch : ℕ) (ms : List ℕ) (pts ks cs sl l : List Floa
   sum-at : (i : ℕ) → i < n → at ks2 i ≡ at (chords (rows_of pts ch n) ms) i
   sum-at i h =
       put-before ks1 n (n + n) fts i h (omega (arith, k1))
-      ∙ ap (λ (z : List Float). at z i) ek ∙ at-filled (at (take n ts)) ks (length (take n ts)) i nan (omega (arith, n-sums))
+      ∙ ap (λ (z : List Float). at z i) ek ∙ get_or-append (take n ts) (drop n ks) nan i (omega (arith, n-sums))
       ∙ ap (λ (z : List Float). at z i) (sums_are n ch ms pts l et)
 
   laid-put : Fitted cubic n ch ms pts m ks2 cs2

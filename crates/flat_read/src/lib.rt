@@ -1,7 +1,7 @@
 // A line of flattened row text in: the row that its first 14 fields are, with the mark that the last one is.
 #![tactic(auto)]
 
-ghost use Rattle.std.specs.Prelude.{◌≡◌, length};
+ghost use Rattle.std.specs.Prelude.{◌≡◌, ◌≤◌, length, IfSome};
 ghost use Rattle.std.proofs.Math.Option.{get_or};
 ghost use Rattle.layout.specs.Layout.{row_words};
 ghost use Rattle.floats.specs.Lists.{is_some};
@@ -9,35 +9,20 @@ ghost use Rattle.flat_read.specs.Flat.{marked_end, marked_row, read_flat};
 
 use layout::R_MARK;
 
-// Where the row of a line ends and its mark begins: a row that was programmed, or a sample.
-#[derive(Clone, Copy)]
-pub enum Marked {
-    Plain(usize),
-    Sample(usize),
-    Bad,
-}
-
-fn marked_end(text: &[u8]) -> Marked
-    ensures { result ≡ marked_end text.now }
+// Where the row of a line ends, and its mark: 0 of a row that was programmed, 1 of a sample.
+#[tactic(auto, unfolding(crate::specs::Flat::marked_end))]
+fn marked_end(text: &[u8]) -> Option<(usize, u64)>
+    ensures { (result ≡ marked_end text.now) × IfSome result (λ m. m.0 ≤ length text.now) }
 {
-    if text.len() < 2 {
-        return Marked::Bad;
+    match text {
+        [_, .., b','] => Some((text.len() - 1, 0)),
+        [.., b',', b'1'] => Some((text.len() - 2, 1)),
+        _ => None,
     }
-    let last = text.len() - 1;
-    if text[last] == b',' {
-        return Marked::Plain(last);
-    }
-    if text[last] != b'1' {
-        return Marked::Bad;
-    }
-    let end = text.len() - 2;
-    if text[end] != b',' {
-        return Marked::Bad;
-    }
-    Marked::Sample(end)
 }
 
 // The row of `text`, with a mark.
+#[tactic(auto, unfolding(crate::specs::Flat::marked_row))]
 fn read_marked(text: &[u8], mark: u64, row: &mut [u64]) -> bool
     requires { length row.old ≡ row_words }
     ensures { (result ≡ is_some (marked_row mark text.now)) ×
@@ -51,14 +36,14 @@ fn read_marked(text: &[u8], mark: u64, row: &mut [u64]) -> bool
 }
 
 // The row that the text of a line, without its CRLF, is, into row; where it is none, row stays.
+#[tactic(auto, unfolding(crate::specs::Flat::read_flat))]
 pub fn read_flat(text: &[u8], row: &mut [u64]) -> bool
     requires { length row.old ≡ row_words }
     ensures { (result ≡ is_some (read_flat text.now)) ×
         (row.new ≡ get_or (read_flat text.now) row.old) }
 {
     match marked_end(text) {
-        Marked::Plain(n) => read_marked(&text[..n], 0, row),
-        Marked::Sample(n) => read_marked(&text[..n], 1, row),
-        Marked::Bad => false,
+        Some((n, mark)) => read_marked(&text[..n], mark, row),
+        None => false,
     }
 }

@@ -1,4 +1,5 @@
 // The flattener's four calls for programs in C, each the library's with its clause.
+// The C interface needs both: the archive for C is built of this crate, and programs in Rattle call the crate flattener.
 #![tactic(auto)]
 
 ghost use Rattle.call_reply.specs.Replies.{StateIs, PushIs};

@@ -1,2 +1,1 @@
-mod Arms
 pub mod MotionLaws

@@ -45,48 +45,33 @@ pub fn kind_of(motion: u64) -> Kind
 pub fn is_spline(kind: Kind) -> bool
     ensures { result ≡ spline_kind kind }
 {
-    match kind {
-        Kind::Akima | Kind::Basis | Kind::Cubic => true,
-        _ => false,
-    }
+    matches!(kind, Kind::Akima | Kind::Basis | Kind::Cubic)
 }
 
 // Whether the word is a curve's that goes out unchanged.
 pub fn is_other(kind: Kind) -> bool
     ensures { result ≡ other_kind kind }
 {
-    match kind {
-        Kind::Other => true,
-        _ => false,
-    }
+    matches!(kind, Kind::Other)
 }
 
 pub fn is_basis(kind: Kind) -> bool
     ensures { result ≡ basis_kind kind }
 {
-    match kind {
-        Kind::Basis => true,
-        _ => false,
-    }
+    matches!(kind, Kind::Basis)
 }
 
 pub fn is_cubic(kind: Kind) -> bool
     ensures { result ≡ cubic_kind kind }
 {
-    match kind {
-        Kind::Cubic => true,
-        _ => false,
-    }
+    matches!(kind, Kind::Cubic)
 }
 
 // Whether a block of this kind does not go straight.
 pub fn is_curve(kind: Kind) -> bool
     ensures { result ≡ curve_kind kind }
 {
-    match kind {
-        Kind::Same | Kind::Linear => false,
-        _ => true,
-    }
+    !matches!(kind, Kind::Same | Kind::Linear)
 }
 
 // Whether the word is a rapid move's.

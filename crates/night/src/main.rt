@@ -8,12 +8,15 @@ ghost use Rattle.tally_words.specs.Words.{tally_words};
 use csv_status::{ENDED, NO_INPUT, report};
 use layout::STATE_WORDS;
 use night_args::MOST_TOLERANCES;
-use night_command::{Asked, Command, MOST_FILES, command_of};
+use night_command::{Command, MOST_FILES, command_of};
 use night_course::{CLOSED, Ticket, UNTOLD};
 use night_flush::{Files, Tried};
-use night_print::{done_of, print_report};
-use night_start::{Began, begun, complain_plainly, explain, has_room};
-use night_steps::{Coming, Facts, Made, Next, Night, Place, TryFiles, next_try, settle};
+use night_known::Jobs;
+use night_print::{Report, Verdict};
+use night_start::{Began, begun, explain, has_room};
+use night_steps::{
+    Coming, Facts, Fault, Made, Next, Night, Place, TryFiles, next_try, say, settle, show_end,
+};
 use night_try::{INPUT, LISTED_ROOM, OUT_ROOM, ROWS, STORE, whole_try};
 use tally::tally_start;
 use tally_words::TALLY_WORDS;
@@ -21,31 +24,25 @@ use tally_words::TALLY_WORDS;
 // Each try and each file that cannot be opened takes a turn: at most so many are made.
 const MOST_TURNS: u64 = (MOST_TOLERANCES as u64 + 1) * MOST_FILES as u64 + 1;
 
-// What failed in a try, if anything did.
-fn failure(tried: Tried) -> u64 {
+// What a try was, or what failed in it.
+fn facts_of(tried: Tried) -> Result<Facts, Fault> {
     if tried.over == NO_INPUT {
-        return night_steps::INPUT;
+        return Err(Fault::Input);
     }
     if tried.over != ENDED {
-        return night_steps::OUTPUT;
+        return Err(Fault::Output);
     }
     let course = tried.course;
     if course.stands == UNTOLD {
-        return night_steps::UNTOLD;
+        return Err(Fault::Untold);
     }
-    night_steps::NOTHING
-}
-
-fn facts_of(tried: Tried) -> Facts {
-    let course = tried.course;
-    Facts {
-        failed: failure(tried),
+    Ok(Facts {
         closed: course.stands == CLOSED,
         refusal: course.refusal,
         line: course.line,
         curved: course.curved,
         checksum: tried.sum,
-    }
+    })
 }
 
 fn ticket_of(next: Next) -> Ticket {
@@ -63,159 +60,98 @@ fn files_of<'a>(night: &'a Night, files: &'a TryFiles) -> Files<'a> {
     }
 }
 
-// The place behind a file that could not be opened.
-fn passed_over(next: Next) -> Place {
+// The place behind a job whose files could not be opened.
+fn passed_over(job: usize) -> Place {
     Place {
-        job: std::num::wrapping_add_usize(next.job, 1),
+        job: Some(std::num::wrapping_add_usize(job, 1)),
         faults: true,
-        stop: false,
     }
 }
 
-// A try that is due: where the night stands, and what comes next.
+// The memory of a try, which the next one has again.
 #[derive(Drop)]
-struct Due<'a> {
-    night: &'a Night,
-    place: Place,
-    coming: Coming,
+struct Memory<'a> {
+    buf: &'a mut [u8; INPUT],
+    state: &'a mut [u64; STATE_WORDS],
+    store: &'a mut [u64; STORE],
+    rows: &'a mut [u64; ROWS],
+    tally: &'a mut [u64; TALLY_WORDS],
+    out: &'a mut [u8; OUT_ROOM],
+    listed: &'a mut [u8; LISTED_ROOM],
 }
 
-// A tally as it stands, kept.
+// A tally as it stands.
 fn kept(tally: &[u64; TALLY_WORDS]) -> [u64; TALLY_WORDS]
-    ensures { tally_words ≡ length result }
+    ensures { length result ≡ tally_words }
 {
-    let mut words = [0u64; TALLY_WORDS];
-    let mut k: usize = 0;
-    while k < TALLY_WORDS {
-        words[k] = tally[k];
-        k += 1;
-    }
-    words
+    *tally
 }
 
-// A job has one tally: another job begins with an empty one. Answers whose it is.
-fn tally_for(job: usize, told: usize, tally: &mut [u64; TALLY_WORDS]) -> usize {
-    if job != told {
-        tally_start(tally);
-    }
-    job
-}
-
-// One try, made, told and written down; a file that could not be opened is passed over.
+// One try, made, told and written down.
 fn one_try(
     rt: &HostRuntime,
-    due: Due<'_>,
-    marks: &mut [u64; MOST_FILES],
-    tries: &mut [u64; MOST_FILES],
-    buf: &mut [u8; INPUT],
-    state: &mut [u64; STATE_WORDS],
-    store: &mut [u64; STORE],
-    rows: &mut [u64; ROWS],
-    tally: &mut [u64; TALLY_WORDS],
-    out: &mut [u8; OUT_ROOM],
-    listed: &mut [u8; LISTED_ROOM],
+    night: &Night,
+    place: Place,
+    next: Next,
+    files: TryFiles,
+    jobs: &mut Jobs,
+    memory: &mut Memory<'_>,
 ) -> Place {
-    let night = due.night;
-    let place = due.place;
-    let Coming { next, files } = due.coming;
-    let Some(opened) = files else {
-        return passed_over(next);
-    };
-    let before = kept(tally);
+    let before = kept(memory.tally);
     let tried = whole_try(
-        files_of(night, &opened),
+        files_of(night, &files),
         ticket_of(next),
         next.tolerance,
-        buf,
-        state,
-        store,
-        rows,
-        tally,
-        out,
-        listed,
+        memory.buf,
+        memory.state,
+        memory.store,
+        memory.rows,
+        memory.tally,
+        memory.out,
+        memory.listed,
     );
+    let made = Made { place, next, files };
     settle(
         rt,
         night,
-        Made {
-            place,
-            next,
-            files: opened,
-        },
+        made,
         facts_of(tried),
         &before,
-        tally,
-        marks,
-        tries,
+        memory.tally,
+        jobs,
     )
 }
 
-// All tries of a night, one after another.
-fn tries_in(
-    rt: &HostRuntime,
-    night: &Night,
-    marks: &mut [u64; MOST_FILES],
-    tries: &mut [u64; MOST_FILES],
-    buf: &mut [u8; INPUT],
-    state: &mut [u64; STATE_WORDS],
-    store: &mut [u64; STORE],
-    rows: &mut [u64; ROWS],
-    tally: &mut [u64; TALLY_WORDS],
-    out: &mut [u8; OUT_ROOM],
-    listed: &mut [u8; LISTED_ROOM],
-) -> Place {
-    let mut told: usize = MOST_FILES;
+// All tries of a night, one after another, and whether something could not be read or written. A job has one tally: another job
+// begins with an empty one.
+fn tries_in(rt: &HostRuntime, night: &Night, jobs: &mut Jobs, memory: &mut Memory<'_>) -> bool {
+    let mut told = None;
     let mut place = Place {
-        job: 0,
+        job: Some(0),
         faults: false,
-        stop: false,
     };
-    let mut turns = MOST_TURNS;
-    while turns > 0 {
-        let coming = next_try(rt, night, place, marks, tries);
-        if !coming.next.found {
-            return place;
+    for _ in 0..MOST_TURNS {
+        match next_try(rt, night, place, jobs) {
+            None => return place.faults,
+            Some(Coming::PassedOver(job)) => {
+                place = passed_over(job);
+            }
+            Some(Coming::Try(next, files)) => {
+                if told != Some(next.job) {
+                    tally_start(memory.tally);
+                }
+                told = Some(next.job);
+                place = one_try(rt, night, place, next, files, jobs, memory);
+            }
         }
-        told = tally_for(coming.next.job, told, tally);
-        place = one_try(
-            rt,
-            Due {
-                night,
-                place,
-                coming,
-            },
-            marks,
-            tries,
-            buf,
-            state,
-            store,
-            rows,
-            tally,
-            out,
-            listed,
-        );
-        turns -= 1;
     }
-    place
+    place.faults
 }
 
-// 0, since a night has no more than MOST_FILES files.
-fn rounds_of(files: usize) -> u64 {
-    (files / (MOST_FILES + 1)) as u64
-}
-
-// The same, in memory of a fixed size that is all here. A function that calls itself is not made a part of its caller: so
-// its arrays are in no other frame, and a night that is not begun needs no large stack.
-fn all_tries(
-    rt: &HostRuntime,
-    night: &Night,
-    marks: &mut [u64; MOST_FILES],
-    tries: &mut [u64; MOST_FILES],
-    rounds: u64,
-) -> Place {
-    if rounds > 0 {
-        return all_tries(rt, night, marks, tries, rounds - 1);
-    }
+// The same, in memory of a fixed size that is all here. It is not made a part of its caller: so its arrays are in no other
+// frame, and a night that is not begun needs no large stack.
+#[inline(never)]
+fn all_tries(rt: &HostRuntime, night: &Night, jobs: &mut Jobs) -> bool {
     let mut buf = [0u8; INPUT];
     let mut state = [0u64; STATE_WORDS];
     let mut store = [0u64; STORE];
@@ -223,88 +159,71 @@ fn all_tries(
     let mut out = [0u8; OUT_ROOM];
     let mut listed = [0u8; LISTED_ROOM];
     let mut tally = [0u64; TALLY_WORDS];
-    tries_in(
-        rt,
-        night,
-        marks,
-        tries,
-        &mut buf,
-        &mut state,
-        &mut store,
-        &mut rows,
-        &mut tally,
-        &mut out,
-        &mut listed,
-    )
+    let mut memory = Memory {
+        buf: &mut buf,
+        state: &mut state,
+        store: &mut store,
+        rows: &mut rows,
+        tally: &mut tally,
+        out: &mut out,
+        listed: &mut listed,
+    };
+    tries_in(rt, night, jobs, &mut memory)
 }
 
-// The status: 0 where every job's first try passed, 1 where not, 2 where something failed.
-fn status(rt: &HostRuntime, ok: bool, all: bool) {
-    if ok {
-        report(rt, ENDED, !all);
-        return;
-    }
-    report(rt, NO_INPUT, false);
-}
-
-// What is shown and printed once no try is left, and the status.
-fn ended(
-    rt: &HostRuntime,
-    command: Command,
-    began: Began,
-    faults: bool,
-    marks: &[u64; MOST_FILES],
-    tries: &[u64; MOST_FILES],
-) {
-    night_steps::show_end(rt, done_of(command, marks, tries), command.files);
-    let told = print_report(rt, &began.night.tries, began.from, command, marks, tries);
-    // The status goes to descriptor 3, which is none of these files: they are closed before.
+// What is shown and printed once no try is left. The status goes to descriptor 3, which is none of the night's files: they are
+// closed here.
+fn ended(rt: &HostRuntime, began: Began, jobs: &Jobs) -> Option<Verdict> {
+    let night = &began.night;
+    let end = Report {
+        table: &night.tries,
+        from: began.from,
+        command: night.command,
+        jobs,
+    };
+    show_end(rt, end.done(), night.command.files);
+    let told = end.print(rt);
     drop(began);
-    if !told.ok {
-        complain_plainly(
+    if told.is_none() {
+        say(
             rt,
             b"night: standard output could not be written, or tries.csv not be read\n",
         );
     }
-    if faults {
-        status(rt, false, false);
-        return;
-    }
-    status(rt, told.ok, told.all);
+    told
 }
 
-// The night that was asked for.
-fn whole_night(rt: &HostRuntime, command: Command) {
-    let mut marks = [0u64; MOST_FILES];
-    let mut tries = [0u64; MOST_FILES];
+// The night that was asked for, and what is told of its first tries; nothing where something failed.
+fn whole_night(rt: &HostRuntime, command: Command) -> Option<Verdict> {
     if !has_room(rt) {
-        complain_plainly(
+        say(
             rt,
             b"night: the stack is limited to less than 128 MB; raise it (ulimit -s 262144), as ./night does\n",
         );
-        status(rt, false, false);
-        return;
+        return None;
     }
-    let Some(began) = begun(rt, command, &mut marks, &mut tries) else {
-        status(rt, false, false);
-        return;
+    let mut jobs = Jobs::new();
+    let began = begun(rt, command, &mut jobs)?;
+    let faults = all_tries(rt, &began.night, &mut jobs);
+    let told = ended(rt, began, &jobs);
+    if faults { None } else { told }
+}
+
+// The status: 0 where every job's first try passed, 1 where not, 2 where something failed.
+fn status(rt: &HostRuntime, told: Option<Verdict>) {
+    match told {
+        Some(verdict) => report(rt, ENDED, verdict == Verdict::NotAll),
+        None => report(rt, NO_INPUT, false),
     };
-    let place = all_tries(
-        rt,
-        &began.night,
-        &mut marks,
-        &mut tries,
-        rounds_of(command.files),
-    );
-    ended(rt, command, began, place.faults, &marks, &tries);
 }
 
 fn main(rt: HostRuntime) {
-    match command_of(&rt) {
-        Asked::Night(command) => whole_night(&rt, command),
-        Asked::Nothing(reason) => {
+    let told = match command_of(&rt) {
+        Ok(command) => whole_night(&rt, command),
+        Err(reason) => {
             explain(&rt, reason);
-            status(&rt, false, false);
+            None
         }
-    }
+    };
+    status(&rt, told);
 }

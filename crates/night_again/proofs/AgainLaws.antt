@@ -1,5 +1,5 @@
 -- LAWS. A line of tries reads back as what was written, where it can hold that; names, tolerances and figures it can. Assumes nothing.
-use Rattle.std.specs.Prelude.{ℕ, suc, ◌+◌, ◌-◌, ◌≤◌, ◌<◌, ◌≡◌, refl, Bool, cond, ◌&&◌, not, ltb}
+use Rattle.std.specs.Prelude.{ℕ, suc, ◌+◌, ◌-◌, ◌≤◌, ◌<◌, ◌≡◌, refl, Bool, cond, ◌&&◌, not, ltb, Option, Some, None, Float}
 use Rattle.std.proofs.Common.{sym, ◌∙◌, arith, length-append, get_or-append-add, eq-eqb, ne_eqb, le-ltb, eqb-true, ltb-true, ltb-false}
 use Rattle.std.proofs.Math.Path.{ap}
 use Rattle.std.proofs.Math.Bool.{true, false}
@@ -14,14 +14,11 @@ use Rattle.floats.specs.Fill.{length-upto, at-upto, upto-below}
 use Rattle.floats.specs.Truth.{and_i, or_t, or_f, all-at, all_intro, by_bit}
 use Rattle.csv_decimal.specs.Decimal.{width}
 use Rattle.csv_decimal.specs.Widths.{some-width}
-use Rattle.csv_fields.specs.declared.Number.{Number}
-use Rattle.csv_fields.specs.declared.Number.TheVariants as Number
 use Rattle.csv_fields.specs.Read.{number}
 use Rattle.csv_figures.specs.Write.{whole_text}
 use Rattle.csv_figures.specs.Writers.{whole_length}
 use Rattle.csv_numbers.proofs.Forms.{read_form}
 use Rattle.csv_numbers.proofs.Lines.{whole_run, whole-num}
-use Rattle.csv_line.specs.declared.End.TheVariants as End
 use Rattle.csv_line.specs.LineText.{comma, crlf, end_of, parted, joined}
 use Rattle.csv_forms.specs.Clean.{clean_byte, clean, clean_all}
 use Rattle.csv_forms.specs.CleanLaws.{clean-above, digits-clean, parted-joined, clean-upto}
@@ -32,7 +29,6 @@ use Rattle.tally_words.specs.Words.{w_slots, job_words}
 use Rattle.night_figures.specs.Figures.{most_figure, capped, since, figure_of}
 use Rattle.night_stands.specs.Standing.{quote, byte_stands, may_stand}
 use Rattle.night_tolerance.specs.Tolerance.{above_zero, is_tolerance}
-use Rattle.night_columns.specs.declared.Whole.TheVariants as Whole
 use Rattle.night_columns.specs.Columns.{columns, c_file, c_tolerance, c_refusal, c_line, is_text, may_lack}
 use Rattle.night_columns.specs.Read.{whole_of, empty_at, column_of, is_whole, value_of}
 use Rattle.night_table.specs.Table.{field_text, fields, try_line}
@@ -40,7 +36,7 @@ use Rattle.night_table.specs.Back.{read_at, is_try, values_of}
 use Rattle.night_again.specs.Again.{Writable, back_of, line_text, ReadsBack}
 
 -- ---- a number reads back
-whole_again : (v : ℕ) → v ≤ most_figure → whole_of (whole_text v) ≡ Whole.Is v
+whole_again : (v : ℕ) → v ≤ most_figure → whole_of (whole_text v) ≡ Some v
 unfolding whole_of
 whole_again v h =
     rw (
@@ -50,17 +46,17 @@ whole_again v h =
       whole-num v (omega arith),
     )
 
-number-again : (v k : ℕ) → v ≤ most_figure → is_text k ≡ false → column_of (whole_text v) k ≡ Whole.Is v
+number-again : (v k : ℕ) → v ≤ most_figure → is_text k ≡ false → column_of (whole_text v) k ≡ Some v
 unfolding column_of
 number-again v k h e =
     rw (e, ne_eqb (length (whole_text v)) 0 (λ (z : length (whole_text v) ≡ 0). omega (arith, some-width v, whole_length v))) (whole_again v h)
 
-text-again : (s : List ℕ) (k : ℕ) → is_text k ≡ true → column_of s k ≡ Whole.Is (length s)
+text-again : (s : List ℕ) (k : ℕ) → is_text k ≡ true → column_of s k ≡ Some (length s)
 unfolding column_of
 text-again s k e = rw e
 
 -- ---- a line's end is found
-end-found : (t : List ℕ) → end_of (t ++ crlf) ≡ End.Upto (length t)
+end-found : (t : List ℕ) → end_of (t ++ crlf) ≡ Some (length t)
 unfolding end_of
 end-found t =
     let n = length-append t crlf in
@@ -80,14 +76,14 @@ module _ (numbers file tolerance : List ℕ) (w : Writable numbers file toleranc
       (λ (h : eqb k c_refusal ≡ false). ap (λ (i : ℕ). get_or numbers i 0) (eqb-true k c_line (sym (or_f (eqb k c_line) h) ∙ e)) ∙ w.unrefused z)
 
   lack_again : (k : ℕ) → is_text k ≡ false → may_lack k ≡ true
-      → column_of (cond (eqb (get_or numbers c_refusal 0) 0) [] (whole_text (get_or numbers k 0))) k ≡ Whole.Is (get_or numbers k 0)
+      → column_of (cond (eqb (get_or numbers c_refusal 0) 0) [] (whole_text (get_or numbers k 0))) k ≡ Some (get_or numbers k 0)
   unfolding column_of empty_at
   lack_again k t m =
       by_bit (eqb (get_or numbers c_refusal 0) 0)
-      (λ (h : eqb (get_or numbers c_refusal 0) 0 ≡ true). rw (h, t, m) (ap Whole.Is (sym (lacking k m (eqb-true (get_or numbers c_refusal 0) 0 h)))))
+      (λ (h : eqb (get_or numbers c_refusal 0) 0 ≡ true). rw (h, t, m) (ap Some (sym (lacking k m (eqb-true (get_or numbers c_refusal 0) 0 h)))))
       (λ (h : eqb (get_or numbers c_refusal 0) 0 ≡ false). rw h (number-again (get_or numbers k 0) k (w.few k) t))
 
-  column_again : (k : ℕ) → column_of (field_text numbers file tolerance k) k ≡ Whole.Is (back_of numbers file tolerance k)
+  column_again : (k : ℕ) → column_of (field_text numbers file tolerance k) k ≡ Some (back_of numbers file tolerance k)
   unfolding field_text is_text
   column_again k =
       by_bit (eqb k c_file)
@@ -126,7 +122,7 @@ module _ (numbers file tolerance : List ℕ) (w : Writable numbers file toleranc
       some [] l c = absurd (omega arith)
       some (f ∷ fs) l c = parted-joined f fs (Fits.and_l (clean f) (clean_all fs) c) (Fits.and_r (clean f) (clean_all fs) c)
 
-  read_again : (k : ℕ) → k < columns → read_at (parted (line_text numbers file tolerance)) k ≡ Whole.Is (back_of numbers file tolerance k)
+  read_again : (k : ℕ) → k < columns → read_at (parted (line_text numbers file tolerance)) k ≡ Some (back_of numbers file tolerance k)
   unfolding fields
   read_again k h =
       ap (λ (fs : List (List ℕ)). read_at fs k) parted-again
@@ -185,9 +181,9 @@ pub tolerance-clean : (t : List ℕ) → is_tolerance t ≡ true → T (clean t)
 unfolding is_tolerance
 tolerance-clean t h = go (number t) refl h
   where
-    go : (x : Number) → number t ≡ x → above_zero x ≡ true → T (clean t)
-    go (Number.Value x) e g = cell-clean t _ (present (read_form t x e).form)
-    go Number.Bad e g = absurd (false≢true g)
+    go : (x : Option Float) → number t ≡ x → above_zero x ≡ true → T (clean t)
+    go (Some x) e g = cell-clean t _ (present (read_form t x e).form)
+    go None e g = absurd (false≢true g)
 
 pub night_writes : (numbers file tolerance : List ℕ) → ((k : ℕ) → get_or numbers k 0 ≤ most_figure) → may_stand file ≡ true → is_tolerance tolerance ≡ true
     → (get_or numbers c_refusal 0 ≡ 0 → get_or numbers c_line 0 ≡ 0)

@@ -1,7 +1,6 @@
 -- DEFINITIONS. What the line of a try can hold, and what it reads back as: rules 11.14 to 11.16. Assumes nothing.
-use Rattle.std.specs.Prelude.{ℕ, ◌≤◌, ◌≡◌, true, cond, List, T, eqb, length, get_or, take}
+use Rattle.std.specs.Prelude.{ℕ, ◌≤◌, ◌≡◌, true, cond, List, T, eqb, length, get_or, take, Some}
 use Rattle.floats.specs.Lists.{upto}
-use Rattle.csv_line.specs.declared.End.TheVariants as End
 use Rattle.csv_line.specs.LineText.{end_of, parted, joined}
 use Rattle.csv_forms.specs.Clean.{clean}
 use Rattle.night_figures.specs.Figures.{most_figure}
@@ -27,7 +26,7 @@ line_text numbers file tolerance = joined (fields numbers file tolerance)
 -- its end is found behind it; up to there, parted at its commas, it is the fields that were written, texts too; it is the line of a try, and of
 -- these numbers
 pub record ReadsBack (numbers file tolerance : List ℕ) : Type 0 where
-  pub end : end_of (try_line numbers file tolerance) ≡ End.Upto (length (line_text numbers file tolerance))
+  pub end : end_of (try_line numbers file tolerance) ≡ Some (length (line_text numbers file tolerance))
   pub upto-end : take (length (line_text numbers file tolerance)) (try_line numbers file tolerance) ≡ line_text numbers file tolerance
   pub parts : parted (line_text numbers file tolerance) ≡ fields numbers file tolerance
   pub good : is_try (line_text numbers file tolerance) ≡ true

@@ -1,4 +1,5 @@
 -- Laws of this crate's proofs: what the code does to a try is what the definitions say of it. Assumes nothing.
+use Rattle.std.specs.Prelude.{Option, Some, None}
 use Prim.Native.Nat.{ℕ, ◌+◌, ◌≤◌, ◌<◌}
 use mathlib.Core.Path.{◌≡◌, refl, sym, ap, ap₂, ◌∙◌, subst}
 use mathlib.Core.Bool.{Bool, true, false, cond}
@@ -11,8 +12,6 @@ use Rattle.floats.specs.Truth.{cond-t, cond-f}
 use Rattle.call_reply.specs.declared.Reply.{Reply}
 use Rattle.call_reply.specs.Replies.{plain}
 use Rattle.tally_call.specs.Calls.{k_close}
-use Rattle.csv_figures.specs.declared.Placed.{Placed}
-use Rattle.csv_figures.specs.declared.Placed.TheVariants as Placed
 use Rattle.csv_write.specs.Writer.{rows_text, rows_writable, Tried}
 use Rattle.csv_write.specs.Trying.{tried-good, tried_bad}
 use Rattle.csv_count.specs.Count.{bad_text, last_line}
@@ -132,21 +131,21 @@ module _ (kind : ℕ) (p : Reply) (rows : List ℕ) (run : TryRun) where
   pub away-refused : {o : List ℕ} {h : Heard} (l : List ℕ) → (p.code ≡ 0 → ⊥) → h ≡ turned_away run kind p → Sound run → Answers kind p rows run o l h o l
   away-refused l d r f = away p l (heard-refused p rows d) d r f refl refl
 
-  pub away_bad : {o o' : List ℕ} {h : Heard} {x : Placed} {q : Reply} (l : List ℕ) → p.code ≡ 0
+  pub away_bad : {o o' : List ℕ} {h : Heard} {x : Option ℕ} {q : Reply} (l : List ℕ) → p.code ≡ 0
       → Tried (rows_writable rows p.count) (rows_text rows p.count) o run.out o' x
-      → x ≡ Placed.Refused → q ≡ plain bad_text → h ≡ turned_away run kind q → Sound run → Answers kind p rows run o l h o' l
+      → x ≡ None → q ≡ plain bad_text → h ≡ turned_away run kind q → Sound run → Answers kind p rows run o l h o' l
   away_bad {o} {o'} {h} {x} {q} l z w e g r f =
       away (plain bad_text) l (heard_bad p rows z (tried_bad w e)) (λ (z : bad_text ≡ 0). omega arith) (r ∙ ap (turned_away run kind) g) f
       (w.kept run.out (omega arith)) w.same
 
-  pub list_fits : {o o' : List ℕ} {x : Placed} {n lent : ℕ} → p.code ≡ 0 → AnswerFits p (length rows) (length o) lent run
-      → Tried (rows_writable rows p.count) (rows_text rows p.count) o run.out o' x → x ≡ Placed.Upto n
+  pub list_fits : {o o' : List ℕ} {x : Option ℕ} {n lent : ℕ} → p.code ≡ 0 → AnswerFits p (length rows) (length o) lent run
+      → Tried (rows_writable rows p.count) (rows_text rows p.count) o run.out o' x → x ≡ Some n
       → ListFits run.course.motion rows p.count run.listed lent
   list_fits z f w e = record { lent = f.lent z; texts = (tried-good w e).0; word = f.sound.word; room = f.lists z }
 
-  pub all_done : {o o' l l' : List ℕ} {x : Placed} {n : ℕ} {named : Lines} {c : Course} → p.code ≡ 0
+  pub all_done : {o o' l l' : List ℕ} {x : Option ℕ} {n : ℕ} {named : Lines} {c : Course} → p.code ≡ 0
       → AnswerFits p (length rows) (length o) (length l) run
-      → Tried (rows_writable rows p.count) (rows_text rows p.count) o run.out o' x → x ≡ Placed.Upto n
+      → Tried (rows_writable rows p.count) (rows_text rows p.count) o run.out o' x → x ≡ Some n
       → ListIs run.ticket.job run.ticket.number run.course.motion rows p.count p.warning l run.listed l' named
       → c ≡ done_by run.course kind named.motion named.lines
       → Answers kind p rows run o l (heard_as p (record { ticket = run.ticket; course = c; out = n; listed = named.at })) o' l'

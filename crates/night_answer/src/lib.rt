@@ -7,7 +7,6 @@ ghost use Rattle.night_answer.specs.Answers.{turned_away, AnswerFits, Answers};
 
 use call_reply::{Reply, plain_reply};
 use csv_count::{BAD_TEXT, LAST_LINE};
-use csv_figures::Placed;
 use night_course::{CLOSED, Course, TryRun, with_course};
 use night_listed::put_listed;
 use night_refusal::turned_down;
@@ -82,7 +81,7 @@ pub fn answer(
         return turned_away(run, kind, reply);
     }
     let count = reply.count as usize;
-    let Placed::Upto(n) = csv_rows::write_rows(rows, count, out, run.out) else {
+    let Some(n) = csv_rows::write_rows(rows, count, out, run.out) else {
         return turned_away(run, kind, plain_reply(BAD_TEXT));
     };
     let ticket = run.ticket;

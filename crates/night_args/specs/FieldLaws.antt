@@ -1,10 +1,10 @@
 -- LAWS. The fields of a text, taken one after another. Assumes nothing.
 use Rattle.std.specs.Prelude.{ℕ, ◌+◌, ◌-◌, ◌≤◌, ◌<◌, ◌≡◌, List, [], length, take, drop, get_or}
-use Rattle.std.proofs.Common.{sym, ap, ◌∙◌, subst, arith, add-one, length-drop, drop_of_length-le}
+use Rattle.std.proofs.Common.{sym, ap, ◌∙◌, subst, arith, add-one, length-drop, drop_of_length-le, length-take-le}
 use Rattle.csv_line.specs.LineText.{parted}
 use Rattle.csv_cells.specs.Taking.{reach}
 use Rattle.csv_cells.specs.Parts.{reach-length, rest_at, rest-within, rest-behind, rest-step, Rest, rest_of, rest-none}
-use Rattle.night_args.specs.Fields.{FieldFrom, field_is}
+use Rattle.night_args.specs.Fields.{FieldFrom, IsField, field_is}
 
 -- ---- the fields of a text, one after another: those from the k-th on stand from `at` on
 pub near-end : (t : List ℕ) (at : ℕ) → at ≤ length t → at + reach (drop at t) ≤ length t
@@ -40,3 +40,20 @@ pub field_is_lem : (t : List ℕ) (at end k : ℕ) → rest_at t at ≡ drop k (
 field_is_lem t at end k e h w =
     let n : end - at ≡ reach (drop at t) = omega (arith, w) in
     (rest-next t at k e h).here ∙ ap (λ (i : ℕ). take i (drop at t)) (sym n)
+
+-- ---- one field by its number
+-- the text ends with an earlier field
+pub field-none : {t : List ℕ} {k at end i : ℕ} → FieldFrom t k at → at ≤ length t → end ≡ at + reach (drop at t) → end ≡ length t → k < i
+    → length (parted t) ≤ i
+field-none {t} {k} {at} {end} {i} f h w e l =
+    let n : length (parted t) ≤ k + 1 = rest-none (parted t) (k + 1) (sym (from_more f h w).rest ∙ rest-behind t (end + 1) (omega arith)) in omega arith
+
+-- the field is reached
+pub field-some : {t : List ℕ} {k at end i : ℕ} → FieldFrom t k at → at ≤ length t → end ≡ at + reach (drop at t) → k ≡ i → IsField t i (field_is t at end)
+field-some {t} {k} {at} {end} {i} f h w e =
+    let l : length (drop at t) ≡ length t - at = length-drop at t in
+    subst (λ (n : ℕ). IsField t n (field_is t at end)) e (record {
+      inside = (rest-next t at k f.rest h).inside;
+      is = sym (field_is_lem t at end k f.rest h w);
+      near = omega (arith, near-end t at h, length-take-le (end - at) (drop at t) (omega (arith, w, l, near-end t at h)));
+    })

@@ -1,10 +1,10 @@
 // The fields of an argument, and how many tolerances a list of them has.
 #![tactic(auto)]
 
-ghost use Rattle.std.specs.Prelude.{◌≡◌, ◌+◌, ◌≤◌, length, drop};
-ghost use Rattle.csv_cells.specs.Taking.{reach};
+ghost use Rattle.std.specs.Prelude.{◌≡◌, ◌<◌, ◌≤◌, length, MatchOption};
+ghost use Rattle.csv_line.specs.LineText.{parted};
 ghost use Rattle.night_args.specs.Tolerances.{count_of};
-ghost use Rattle.night_args.specs.Fields.{FieldFrom};
+ghost use Rattle.night_args.specs.Fields.{IsField};
 
 use csv_cells::field_end;
 use night_tolerance::is_tolerance;
@@ -12,46 +12,35 @@ use night_tolerance::is_tolerance;
 // At most so many tolerances.
 pub const MOST_TOLERANCES: usize = 16;
 
-// Where field i of a text begins, a place behind its end where it has none.
-pub fn field_from(text: &[u8], i: usize) -> usize
-    ensures { FieldFrom text.now i result }
+// Field i of a text, where it has one.
+pub fn field_at(text: &[u8], i: usize) -> Option<&[u8]>
+    ensures { MatchOption result (length (parted text.now) ≤ i) (λ field. IsField text.now i field.now) }
 {
-    let mut at: usize = 0;
-    let mut k: usize = 0;
-    while k < i {
-        if at > text.len() {
-            return at;
-        }
-        at = field_end(text, at) + 1;
-        k += 1;
-    }
-    at
-}
-
-// Where the field ends that begins at `from`.
-pub fn end_from(text: &[u8], from: usize) -> usize
-    requires { from ≤ length text.now }
-    ensures { (result ≡ from + reach (drop from text.now)) × ((from ≤ result) × (result ≤ length text.now)) }
-{
-    field_end(text, from)
-}
-
-// How many tolerances a list of them has; 0 where it is none, or has too many.
-pub fn count_of(text: &[u8]) -> usize
-    ensures { result ≡ count_of text.now }
-{
-    let mut at: usize = 0;
-    let mut k: usize = 0;
-    while at <= text.len() {
+    let mut at = 0;
+    for _ in 0..i {
         let end = field_end(text, at);
-        if !is_tolerance(&text[at..end]) {
-            return 0;
-        }
-        if k == MOST_TOLERANCES {
-            return 0;
+        if end == text.len() {
+            return None;
         }
         at = end + 1;
-        k += 1;
     }
-    k
+    Some(&text[at..field_end(text, at)])
+}
+
+// How many tolerances a list of them has, where it has no other field and not too many.
+pub fn count_of(text: &[u8]) -> Option<usize>
+    ensures { result ≡ count_of text.now }
+{
+    let mut at = 0;
+    for k in 0..MOST_TOLERANCES {
+        let end = field_end(text, at);
+        if !is_tolerance(&text[at..end]) {
+            return None;
+        }
+        if end == text.len() {
+            return Some(k + 1);
+        }
+        at = end + 1;
+    }
+    None
 }

@@ -41,67 +41,49 @@ pub const COLUMNS: usize = 28;
 // Digits of a whole number, at most.
 const DIGITS: usize = 10;
 
-// A whole number, or none.
-#[derive(Clone, Copy)]
-pub enum Whole {
-    Is(u64),
-    Bad,
-}
-
 // The whole number that a field is, of at most ten digits.
-pub fn read_whole(field: &[u8]) -> Whole
+#[tactic(auto, unfolding(crate::specs::Read::whole_of))]
+pub fn read_whole(field: &[u8]) -> Option<u64>
     ensures { result ≡ whole_of field.now }
 {
-    let a = scan(field, DIGITS, 0);
-    let count = a.count;
-    if count == 0 {
-        return Whole::Bad;
-    }
-    if count == field.len() {
-        return Whole::Is(a.n);
-    }
-    Whole::Bad
+    let digits = scan(field, DIGITS, 0);
+    (digits.count != 0 && digits.count == field.len()).then_some(digits.n)
 }
 
 // Whether a column has a text and no number.
+#[tactic(auto, unfolding(crate::specs::Columns::is_text))]
 fn is_text(k: usize) -> bool
     ensures { result ≡ is_text k }
 {
-    if k == C_FILE {
-        return true;
-    }
-    k == C_TOLERANCE
+    k == C_FILE || k == C_TOLERANCE
 }
 
 // Whether the field of a column may be empty.
+#[tactic(auto, unfolding(crate::specs::Columns::may_lack))]
 fn may_lack(k: usize) -> bool
     ensures { result ≡ may_lack k }
 {
-    if k == C_REFUSAL {
-        return true;
-    }
-    k == C_LINE
+    k == C_REFUSAL || k == C_LINE
 }
 
 // The number of an empty field.
-fn read_empty(k: usize) -> Whole
+#[tactic(auto, unfolding(crate::specs::Read::empty_at))]
+fn read_empty(k: usize) -> Option<u64>
     ensures { result ≡ empty_at k }
 {
-    if may_lack(k) {
-        return Whole::Is(0);
-    }
-    Whole::Bad
+    may_lack(k).then_some(0)
 }
 
 // What column k is read as: a text as how long it is.
-pub fn read_column(field: &[u8], k: usize) -> Whole
+#[tactic(auto, unfolding(crate::specs::Read::column_of))]
+pub fn read_column(field: &[u8], k: usize) -> Option<u64>
     ensures { result ≡ column_of field.now k }
 {
     if is_text(k) {
-        return Whole::Is(field.len() as u64);
+        Some(field.len() as u64)
+    } else if field.is_empty() {
+        read_empty(k)
+    } else {
+        read_whole(field)
     }
-    if field.len() == 0 {
-        return read_empty(k);
-    }
-    read_whole(field)
 }

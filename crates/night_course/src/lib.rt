@@ -52,65 +52,50 @@ pub struct TryRun {
 pub fn with_course(run: TryRun, course: Course) -> TryRun
     ensures { result ≡ with_course run course }
 {
-    let ticket = run.ticket;
-    TryRun {
-        ticket,
-        course,
-        out: run.out,
-        listed: run.listed,
-    }
+    TryRun { course, ..run }
 }
 
 // A call that the tally did not take ends the try.
+#[tactic(auto, unfolding(crate::specs::Course::if_told))]
 pub fn if_told(code: u64, run: TryRun) -> TryRun
     ensures { result ≡ with_course run (if_told code run.course) }
 {
     if code == 0 {
-        return run;
+        run
+    } else {
+        with_course(
+            run,
+            Course {
+                stands: UNTOLD,
+                ..run.course
+            },
+        )
     }
-    let was = run.course;
-    let course = Course {
-        physical: was.physical,
-        source: was.source,
-        motion: was.motion,
-        curved: was.curved,
-        refusal: was.refusal,
-        line: was.line,
-        stands: UNTOLD,
-    };
-    with_course(run, course)
 }
 
 // The source line of the block that is pushed.
 pub fn at_source(run: TryRun, source: u64) -> TryRun
     ensures { result ≡ with_course run (at_source source run.course) }
 {
-    let was = run.course;
-    let course = Course {
-        physical: was.physical,
-        source,
-        motion: was.motion,
-        curved: was.curved,
-        refusal: was.refusal,
-        line: was.line,
-        stands: was.stands,
-    };
-    with_course(run, course)
+    with_course(
+        run,
+        Course {
+            source,
+            ..run.course
+        },
+    )
 }
 
 // The line is counted.
 pub fn line_counted(run: TryRun) -> TryRun
     ensures { result ≡ with_course run (next_course run.course) }
 {
-    let c = run.course;
-    let course = Course {
-        physical: next_number(c.physical),
-        source: c.source,
-        motion: c.motion,
-        curved: c.curved,
-        refusal: c.refusal,
-        line: c.line,
-        stands: c.stands,
-    };
-    with_course(run, course)
+    let physical = next_number(run.course.physical);
+    with_course(
+        run,
+        Course {
+            physical,
+            ..run.course
+        },
+    )
 }

@@ -1,4 +1,5 @@
 -- A line and the end of the input, by cases, up to the call that they ask for; and a call that was told. Assumes nothing.
+use Rattle.std.specs.Prelude.{Option as Read, Some, None}
 use Prim.Native.Nat.{ℕ, ◌+◌, ◌-◌, ◌≤◌}
 use mathlib.Core.Path.{◌≡◌, refl, sym, ap, ◌∙◌, subst}
 use mathlib.Core.Bool.{Bool, true, false, cond, false≢true}
@@ -15,8 +16,6 @@ use Rattle.text_lines.specs.declared.Found.{Found}
 use Rattle.text_lines.specs.declared.Found.TheVariants as Found
 use Rattle.text_lines.specs.declared.Turn.{Turn}
 use Rattle.text_cut.specs.Cut.{between}
-use Rattle.csv_line.specs.declared.End.{End}
-use Rattle.csv_line.specs.declared.End.TheVariants as End
 use Rattle.csv_line.specs.LineText.{crlf, end_of}
 use Rattle.csv_header.specs.Header.{header, header_out}
 use Rattle.csv_words.specs.Words.{same}
@@ -149,9 +148,9 @@ text_says_lem t s text = go (eqb s.course.physical 1) (same header text) (read_b
     go false y none = refl
     go false y (some row) = refl
 
-end-says : (t : Ticket) (s : Stand) (line : List ℕ) (e : End) → on_end t s line e ≡ says_step (line_says s.course.physical line e) t s
-end-says t s line End.Bad = refl
-end-says t s line (End.Upto n) = text_says_lem t s (take n line)
+end-says : (t : Ticket) (s : Stand) (line : List ℕ) (e : Read ℕ) → on_end t s line e ≡ says_step (line_says s.course.physical line e) t s
+end-says t s line None = refl
+end-says t s line (Some n) = text_says_lem t s (take n line)
 
 pub asked-line : {t : Turn} {run : TryRun} {b row w w' o o' : List ℕ} {what : LineIs} {a : Asked} → run.course.stands ≡ goes
     → says what row ≡ line_says run.course.physical (between b t.from t.at) (end_of (between b t.from t.at))

@@ -1,5 +1,5 @@
 -- CONTRACTS. What a turn found is done up to the call that it asks for, and then a call is made and told. Assumes nothing.
-use Rattle.std.specs.Prelude.{ℕ, ◌≤◌, ◌≡◌, true, List, ◌++◌, take}
+use Rattle.std.specs.Prelude.{ℕ, ◌≤◌, ◌≡◌, true, List, ◌++◌, take, Option, Some, None}
 use Rattle.layout.specs.Layout.{row_words}
 use Rattle.call_reply.specs.declared.Reply.{Reply}
 use Rattle.call_reply.specs.Replies.{plain, After, PushIs, untouched}
@@ -7,8 +7,6 @@ use Rattle.call_answer.specs.Push.{push_spec}
 use Rattle.call_answer.specs.Close.{close_spec}
 use Rattle.text_lines.specs.declared.Found.{Found}
 use Rattle.text_lines.specs.declared.Turn.{Turn}
-use Rattle.csv_line.specs.declared.End.{End}
-use Rattle.csv_line.specs.declared.End.TheVariants as End
 use Rattle.csv_line.specs.LineText.{crlf}
 use Rattle.csv_header.specs.Header.{header_out}
 use Rattle.csv_out.specs.Said.{Adds}
@@ -39,9 +37,9 @@ pub record HeadTold (run : TryRun) (o : List ℕ) (r : TryRun) (o' : List ℕ) :
   pub adds : Adds (header_out ++ crlf) o run.out o' r.out
 
 -- what a line with its end says, and what is done with it
-abbrev pub line_says : ℕ → List ℕ → End → Says
-line_says physical line End.Bad = nothing
-line_says physical line (End.Upto n) = text_says physical (take n line)
+abbrev pub line_says : ℕ → List ℕ → Option ℕ → Says
+line_says physical line None = nothing
+line_says physical line (Some n) = text_says physical (take n line)
 
 abbrev pub says_step : Says → Ticket → Stand → Step
 says_step nothing t s = unread t s

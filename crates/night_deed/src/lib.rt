@@ -14,7 +14,7 @@ ghost use Rattle.night_deed.specs.Deeds.{HeardRoom, counted_by, Heard};
 
 use call_reply::Reply;
 use csv_header::put_header;
-use csv_line::{End, text_end};
+use csv_line::text_end;
 use night_course::{GOES, TryRun, line_counted};
 use night_due::{Call, close_due, ends_badly, is_due, source_by, told_as};
 use night_note::unread_told;
@@ -66,7 +66,7 @@ fn line_is(physical: u64, line: &[u8], row: &mut [u64]) -> LineIs
     requires { length row.old ≡ row_words }
     ensures { says result row.new ≡ line_says physical line.now (end_of line.now) }
 {
-    let End::Upto(n) = text_end(line) else {
+    let Some(n) = text_end(line) else {
         return LineIs::Unread;
     };
     text_is(physical, &line[..n], row)

@@ -12,7 +12,7 @@ use night_course::{Course, GOES, REFUSED};
 use tally_call::{K_CLOSE, K_PUSH};
 
 // The call that is due.
-#[derive(Clone, Copy)]
+#[derive(Clone, Copy, PartialEq, Eq)]
 pub enum Call {
     Nothing,
     Push,
@@ -20,23 +20,18 @@ pub enum Call {
 }
 
 // Whether the end of the input is told, with `behind` bytes behind its last line.
+#[tactic(auto, unfolding(crate::specs::Due::ends_badly, csv_status::specs::Status::may_end))]
 pub fn ends_badly(course: Course, behind: usize) -> bool
     ensures { result ≡ ends_badly course.stands course.physical behind }
 {
-    if may_end(behind, course.physical) {
-        return false;
-    }
-    course.stands == GOES
+    !may_end(behind, course.physical) && course.stands == GOES
 }
 
 // Whether a try is closed next.
 fn is_open(stands: u64) -> bool
     ensures { result ≡ is_open stands }
 {
-    if stands == GOES {
-        return true;
-    }
-    stands == REFUSED
+    stands == GOES || stands == REFUSED
 }
 
 // The call at the end of the input.
@@ -44,9 +39,10 @@ pub fn close_due(stands: u64) -> Call
     ensures { result ≡ close_due stands }
 {
     if is_open(stands) {
-        return Call::Close;
+        Call::Close
+    } else {
+        Call::Nothing
     }
-    Call::Nothing
 }
 
 // The call behind a call: a close whose rows have no text leaves the try open, and a second close ends it.
@@ -54,8 +50,7 @@ pub fn again_due(call: Call, stands: u64) -> Call
     ensures { result ≡ again_due call stands }
 {
     match call {
-        Call::Nothing => Call::Nothing,
-        Call::Push => Call::Nothing,
+        Call::Nothing | Call::Push => Call::Nothing,
         Call::Close => close_due(stands),
     }
 }
@@ -64,11 +59,7 @@ pub fn again_due(call: Call, stands: u64) -> Call
 pub fn is_due(call: Call) -> bool
     ensures { result ≡ is_due call }
 {
-    match call {
-        Call::Nothing => false,
-        Call::Push => true,
-        Call::Close => true,
-    }
+    call != Call::Nothing
 }
 
 // The kind that a call is told as.
@@ -77,8 +68,7 @@ pub fn told_as(call: Call) -> u64
 {
     match call {
         Call::Push => K_PUSH,
-        Call::Close => K_CLOSE,
-        Call::Nothing => K_CLOSE,
+        Call::Close | Call::Nothing => K_CLOSE,
     }
 }
 
@@ -89,7 +79,6 @@ pub fn source_by(call: Call, course: Course, row: &[u64]) -> u64
 {
     match call {
         Call::Push => source_of(row),
-        Call::Close => course.source,
-        Call::Nothing => course.source,
+        Call::Close | Call::Nothing => course.source,
     }
 }

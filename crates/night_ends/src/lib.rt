@@ -9,33 +9,23 @@ ghost use Rattle.night_ends.specs.Ends.{ends_in, digits_upto, ends_try};
 pub fn ends_in(text: &[u8], word: &[u8]) -> bool
     ensures { result ≡ ends_in text.now word.now }
 {
-    if text.len() < word.len() {
-        return false;
-    }
-    let at = text.len() - word.len();
-    check::same(&text[at..], word)
+    text.ends_with(word)
 }
 
 fn is_digit(b: u8) -> bool
     ensures { result ≡ is_digit b }
 {
-    if b < b'0' {
-        return false;
-    }
-    // the byte behind 9
-    b < b':'
+    b.is_ascii_digit()
 }
 
 // The place at which the digits at a text's end begin.
 fn digits_from(text: &[u8]) -> usize
     ensures { (result ≡ digits_upto text.now (length text.now)) × (result ≤ length text.now) }
 {
-    let mut i = text.len();
-    while i > 0 {
-        if !is_digit(text[i - 1]) {
-            return i;
+    for k in (0..text.len()).rev() {
+        if !is_digit(text[k]) {
+            return k + 1;
         }
-        i -= 1;
     }
     0
 }

@@ -10,30 +10,28 @@ use tally_words::JOB_WORDS;
 // Figures are counted up to this one.
 const MOST: u64 = 9999999999;
 
+#[tactic(auto, unfolding(crate::specs::Figures::capped))]
 fn capped(n: u64) -> u64
     ensures { result ≡ capped n }
 {
-    if n < MOST {
-        return n;
-    }
-    MOST
+    n.min(MOST)
 }
 
+#[tactic(auto, unfolding(crate::specs::Figures::since))]
 fn since(before: u64, after: u64) -> u64
     ensures { result ≡ since before after }
 {
-    if after < before {
-        return 0;
-    }
-    after - before
+    after.saturating_sub(before)
 }
 
 // What a try added to word k of its job's slot.
+#[tactic(auto, unfolding(crate::specs::Figures::figure_of))]
 pub fn figure_of(before: &[u64], after: &[u64], k: usize) -> u64
     ensures { result ≡ figure_of before.now after.now k }
 {
     if k < JOB_WORDS {
-        return capped(since(word_of(before, k), word_of(after, k)));
+        capped(since(word_of(before, k), word_of(after, k)))
+    } else {
+        0
     }
-    0
 }

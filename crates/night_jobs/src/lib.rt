@@ -21,11 +21,10 @@ pub fn count_lot(marks: &[u64], words: &[u64], n: usize, tolerances: u64, lot: u
     requires { (n ≤ length marks.now) × (n ≤ length words.now) }
     ensures { result ≡ count_lot marks.now words.now n tolerances lot }
 {
-    let mut r: u64 = 0;
-    let mut i: usize = 0;
-    while i < n {
+    // as a chain, over both lists zipped and over the numbers below n, it was tried, and the proof did not close
+    let mut r = 0;
+    for i in 0..n {
         r += number_of(is_in(marks[i], words[i], tolerances, lot));
-        i += 1;
     }
     r
 }

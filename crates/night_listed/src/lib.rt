@@ -90,18 +90,9 @@ pub fn put_listed(
         lines: 0,
         curved: false,
     };
-    let mut i: usize = 0;
-    while i < count {
-        now = put_row(
-            job,
-            number,
-            rows,
-            i,
-            warning_at(count, warning, i),
-            out,
-            now,
-        );
-        i += 1;
+    for i in 0..count {
+        let warned = warning_at(count, warning, i);
+        now = put_row(job, number, rows, i, warned, out, now);
     }
     Lines {
         at: now.at,

@@ -10,7 +10,7 @@ use night_marks::is_over;
 use row_cells::has_bit;
 use tally_words::{B_CLOSED, B_FINAL, B_FIRST};
 
-// The lots.
+// The lots. They are numbers and no enum, since `count_lot` of night_jobs answers for every number: 0 where it is no lot's.
 pub const AT_FIRST: u64 = 0;
 
 pub const WHEN_COARSER: u64 = 1;
@@ -26,9 +26,10 @@ fn passed_lot(mark: u64) -> u64
     ensures { result ≡ cond (has mark b_first) at_first when_coarser }
 {
     if has_bit(mark, B_FIRST) {
-        return AT_FIRST;
+        AT_FIRST
+    } else {
+        WHEN_COARSER
     }
-    WHEN_COARSER
 }
 
 // The lot of a job that is done with and did not pass.
@@ -36,20 +37,22 @@ fn failed_lot(mark: u64) -> u64
     ensures { result ≡ cond (has mark b_closed) never_passed not_closed }
 {
     if has_bit(mark, B_CLOSED) {
-        return NEVER_PASSED;
+        NEVER_PASSED
+    } else {
+        NOT_CLOSED
     }
-    NOT_CLOSED
 }
 
 // The lot of a job with this mark, which was tried so often.
+#[tactic(auto, unfolding(crate::specs::Lot::lot_of))]
 pub fn lot_of(mark: u64, tries: u64, tolerances: u64) -> u64
     ensures { result ≡ lot_of mark tries tolerances }
 {
     if has_bit(mark, B_FINAL) {
-        return passed_lot(mark);
+        passed_lot(mark)
+    } else if is_over(mark, tries, tolerances) {
+        failed_lot(mark)
+    } else {
+        NOT_TRIED
     }
-    if is_over(mark, tries, tolerances) {
-        return failed_lot(mark);
-    }
-    NOT_TRIED
 }

@@ -19,6 +19,7 @@ const FIRST: u64 = 1 << B_FIRST;
 const FINAL: u64 = 1 << B_FINAL;
 
 // The mark of three bits.
+#[tactic(auto, unfolding(crate::specs::Marks::mark_number))]
 fn mark_number(closed: bool, first: bool, last: bool) -> u64
     ensures { result ≡ mark_number closed first last }
 {
@@ -30,30 +31,28 @@ fn first_passed(mark: u64, passed: bool) -> bool
     ensures { result ≡ cond (has mark b_closed) (has mark b_first) passed }
 {
     if has_bit(mark, B_CLOSED) {
-        return has_bit(mark, B_FIRST);
+        has_bit(mark, B_FIRST)
+    } else {
+        passed
     }
-    passed
 }
 
 // The mark of a job behind one more try.
+#[tactic(auto, unfolding(crate::specs::Marks::mark_after))]
 pub fn mark_after(mark: u64, closed: bool, passed: bool) -> u64
     ensures { result ≡ mark_after mark closed passed }
 {
     if closed {
-        return mark_number(true, first_passed(mark, passed), passed);
+        mark_number(true, first_passed(mark, passed), passed)
+    } else {
+        set_bit(mark, B_LEFT)
     }
-    set_bit(mark, B_LEFT)
 }
 
 // Whether a job is done with: a try passed or was left, or there is no tolerance more.
+#[tactic(auto, unfolding(crate::specs::Marks::is_over))]
 pub fn is_over(mark: u64, tries: u64, tolerances: u64) -> bool
     ensures { result ≡ is_over mark tries tolerances }
 {
-    if has_bit(mark, B_FINAL) {
-        return true;
-    }
-    if has_bit(mark, B_LEFT) {
-        return true;
-    }
-    tries >= tolerances
+    has_bit(mark, B_FINAL) || has_bit(mark, B_LEFT) || tries >= tolerances
 }

@@ -5,19 +5,13 @@ ghost use Rattle.std.specs.Prelude.{◌≡◌};
 ghost use Rattle.night_names.specs.Ours.{is_our_name, is_ours};
 
 use night_ends::{ends_in, ends_try};
-use night_path::name_of;
+use night_path::{Name, name_of};
 
 // Whether a NAME is that of a table, or of the rows of a try.
 fn is_our_name(name: &[u8]) -> bool
     ensures { result ≡ is_our_name name.now }
 {
-    if check::same(name, b"tries") {
-        return true;
-    }
-    if check::same(name, b"curved") {
-        return true;
-    }
-    ends_try(name)
+    name == b"tries".as_slice() || name == b"curved".as_slice() || ends_try(name)
 }
 
 // Whether a FILE has the name of something that a night writes.
@@ -27,8 +21,6 @@ pub fn is_ours(path: &[u8]) -> bool
     if ends_in(path, b".part") {
         return true;
     }
-    let name = name_of(path);
-    let from = name.from;
-    let upto = name.upto;
+    let Name { from, upto } = name_of(path);
     is_our_name(&path[from..upto])
 }

@@ -13,19 +13,13 @@ pub fn word_of(tally: &[u64], k: usize) -> u64
     requires { k < job_words }
     ensures { result ≡ get_or tally.now (w_slots + k) 0 }
 {
-    let at = W_SLOTS + k;
-    if at < tally.len() {
-        return tally[at];
-    }
-    0
+    tally.get(W_SLOTS + k).copied().unwrap_or(0)
 }
 
 // Whether a try passed, by the tally behind it.
+#[tactic(auto, unfolding(crate::specs::Passed::passed_of))]
 pub fn has_passed(closed: bool, after: &[u64]) -> bool
     ensures { result ≡ passed_of closed after.now }
 {
-    if closed {
-        return has_bit(word_of(after, W_TRY), B_FINAL);
-    }
-    false
+    closed && has_bit(word_of(after, W_TRY), B_FINAL)
 }

@@ -1,13 +1,16 @@
 -- Where the name of a file begins, from the end on, and what it is by its parts. Assumes nothing.
-use Prim.Native.Nat.{ℕ, zero, suc, ◌-◌, ◌≤◌, ◌<◌}
+use Prim.Native.Nat.{ℕ, zero, suc, ◌+◌, ◌-◌, ◌≤◌, ◌<◌}
 use mathlib.Core.Path.{◌≡◌, refl, sym, ap, ◌∙◌, subst}
-use mathlib.Core.Bool.{true, false}
+use mathlib.Core.Bool.{true, false, ◌&&◌}
 use mathlib.Core.List.{List}
 use native.Mathlib.Omega.{arith}
 use lib.Dec.{leb}
-use lib.ListN.{length, get_or}
+use lib.ListN.{length, drop, get_or}
 use borrow.Author.Tests.{eq-eqb, ne_eqb, leb-true}
-use Rattle.floats.specs.Truth.{and_left, cond-t, cond-f}
+use Rattle.floats.specs.Truth.{by_bit, and_t, and_f, and_left, cond-t, cond-f}
+use Rattle.std.proofs.Common.{length-drop, drop-drop}
+use Rattle.csv_words.specs.Text.{bytes}
+use Rattle.csv_words.specs.Words.{same}
 use Rattle.night_path.specs.Names.{start_upto, slash, start, ending, ends_csv, name_of}
 
 -- ---- the place behind the last slash, from the end on
@@ -29,6 +32,22 @@ start_none t zero h = refl
 start_none t (suc i) h = absurd (omega arith)
 
 -- ---- the name of a file
+-- the end of what stands from `from` on is the whole text's, where so much stands there
+pub tail-ends : (t : List ℕ) (from : ℕ)
+    → (leb ending (length (drop from t)) && same (drop (length (drop from t) - ending) (drop from t)) (bytes ".csv")) ≡ ends_csv t from
+unfolding ends_csv
+tail-ends t from =
+    let n : length (drop from t) ≡ length t - from = length-drop from t in
+    by_bit (leb ending (length t - from))
+    (λ l.
+    let far : ending ≤ length t - from = leb-true _ _ l in
+    let e : from + (length t - from - ending) ≡ length t - ending = omega (arith, far) in
+    and_t _ (ap (leb ending) n ∙ l)
+    ∙ ap (λ (k : ℕ). same (drop (k - ending) (drop from t)) (bytes ".csv")) n
+    ∙ ap (λ (z : List ℕ). same z (bytes ".csv")) (drop-drop (length t - from - ending) from t ∙ ap (λ (k : ℕ). drop k t) e)
+    ∙ sym (and_t _ l))
+    (λ l. and_f _ (ap (leb ending) n ∙ l) ∙ sym (and_f _ l))
+
 pub ends-long : (t : List ℕ) (from : ℕ) → ends_csv t from ≡ true → ending ≤ length t - from
 unfolding ends_csv
 ends-long t from h = leb-true _ _ (and_left (leb ending (length t - from)) _ h)

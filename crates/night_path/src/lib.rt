@@ -34,12 +34,10 @@ pub struct Name {
 fn name_start(path: &[u8]) -> usize
     ensures { (result ≡ start_upto path.now (length path.now)) × (result ≤ length path.now) }
 {
-    let mut i = path.len();
-    while i > 0 {
-        if path[i - 1] == b'/' {
-            return i;
+    for k in (0..path.len()).rev() {
+        if path[k] == b'/' {
+            return k + 1;
         }
-        i -= 1;
     }
     0
 }
@@ -49,11 +47,7 @@ fn ends_csv(path: &[u8], from: usize) -> bool
     requires { from ≤ length path.now }
     ensures { result ≡ ends_csv path.now from }
 {
-    if path.len() - from < ENDING {
-        return false;
-    }
-    let at = path.len() - ENDING;
-    check::same(&path[at..], b".csv")
+    path[from..].ends_with(b".csv")
 }
 
 // The name of a file: its last part without `.csv`.

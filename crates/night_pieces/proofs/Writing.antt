@@ -34,19 +34,17 @@ one-tail : (f : List ℕ) → tailed (f ∷ []) ≡ comma ∷ f
 unfolding tailed
 one-tail f = ap (λ (l : List ℕ). comma ∷ l) (append-nil f)
 
-pub numbers_more : {numbers o o₁ o' : List ℕ} {from k n at r : ℕ} → PutNumbers numbers from k o n o₁ at
-    → Wrote o₁ at (comma ∷ whole_text (get_or numbers (from + k) 0)) o' r → r ≤ at + field_room → PutNumbers numbers from (k + 1) o n o' r
+pub numbers_more : {numbers o o₁ o' : List ℕ} {from k n at r v : ℕ} → PutNumbers numbers from k o n o₁ at → v ≡ get_or numbers (from + k) 0
+    → Wrote o₁ at (comma ∷ whole_text v) o' r → r ≤ at + field_room → PutNumbers numbers from (k + 1) o n o' r
 unfolding upto
-numbers_more {numbers} {o} {o₁} {o'} {from} {k} {n} {at} {r} p w h =
+numbers_more {numbers} {o} {o₁} {o'} {from} {k} {n} {at} {r} {v} p s w h =
     let f : ℕ → List ℕ = λ i. whole_text (get_or numbers (from + i) 0) in
-    let e : tailed (upto f k) ++ (comma ∷ f k) ≡ tailed (upto f (k + 1)) =
-    ap (λ (l : List ℕ). tailed (upto f k) ++ l) (sym (one-tail (f k)))
+    let e : tailed (upto f k) ++ (comma ∷ whole_text v) ≡ tailed (upto f (k + 1)) =
+    ap (λ (i : ℕ). tailed (upto f k) ++ (comma ∷ whole_text i)) s
+    ∙ ap (λ (l : List ℕ). tailed (upto f k) ++ l) (sym (one-tail (f k)))
     ∙ sym (tailed_append (upto f k) (f k ∷ []))
     ∙ ap (λ (i : ℕ). tailed (upto f i)) (sym (add-one k)) in
     record { text = subst (λ (t : List ℕ). Wrote o n t o' r) e (wrote_then p.text w); near = omega (arith, p.near) }
-
-pub numbers-done : {numbers o o' : List ℕ} {from k count n r : ℕ} → PutNumbers numbers from k o n o' r → k ≡ count → PutNumbers numbers from count o n o' r
-numbers-done {numbers} {o} {o'} {from} {k} {count} {n} {r} p e = subst (λ (i : ℕ). PutNumbers numbers from i o n o' r) e p
 
 -- ---- a refusal
 pub refusal-none : {o o' : List ℕ} {n r : ℕ} (refusal line : ℕ) → eqb refusal 0 ≡ true → Wrote o n (comma ∷ comma ∷ []) o' r

@@ -39,10 +39,8 @@ pub fn put_numbers(out: &mut [u8], n: usize, numbers: &[u64], from: usize, count
     ensures { PutNumbers numbers.now from count out.old n out.new result }
 {
     let mut at = n;
-    let mut k: usize = 0;
-    while k < count {
-        at = put_next(out, at, numbers[from + k]);
-        k += 1;
+    for v in &numbers[from..from + count] {
+        at = put_next(out, at, *v);
     }
     at
 }

@@ -1,17 +1,17 @@
 // The lines that a night prints at its end, as bytes.
 #![tactic(auto)]
 
-ghost use Rattle.std.specs.Prelude.{◌≡◌, ◌+◌, ◌≤◌, ◌<◌, length};
+ghost use Rattle.std.specs.Prelude.{◌≡◌, ◌+◌, ◌≤◌, length};
 ghost use Rattle.night_columns.specs.Columns.{columns};
 
 use csv_figures::put_whole;
 use csv_line::put_bytes;
 use night_columns::{C_LINE, C_REFUSAL, C_WARNINGS};
 
-// The refusal and the warning that depend on the tolerance, and the warnings.
+// The refusal and the warning that depend on the tolerance, the latter by its place among the warnings, which are numbered from 1.
 const TOO_FEW_PLACES: u64 = 7;
 
-const TOO_FINE: usize = 6;
+const TOO_FINE: usize = 5;
 
 const WARNINGS: usize = 15;
 
@@ -36,12 +36,22 @@ const MOST_JOBS: u64 = 65536;
 // a of b in tenths of a percent, rounded down; of none it is not asked.
 fn tenths(a: u64, b: u64) -> u64 {
     if a >= b {
-        return 1000;
+        1000
+    } else if b > MOST_JOBS {
+        0
+    } else {
+        a * 1000 / b
     }
-    if b > MOST_JOBS {
-        return 0;
-    }
-    a * 1000 / b
+}
+
+// `24 of 29`
+fn put_of(out: &mut [u8], n: usize, a: u64, b: u64) -> usize
+    requires { n + 24 ≤ length out.old }
+    ensures { result ≤ n + 24 }
+{
+    let x = number(out, n, a);
+    let y = word(out, x, b" of ");
+    number(out, y, b)
 }
 
 // `first tries passed 24 of 29, 82.7 percent`
@@ -50,13 +60,11 @@ pub fn put_rate(out: &mut [u8], what: &[u8], a: u64, b: u64) -> usize
     ensures { result ≤ 128 }
 {
     let x = word(out, 0, what);
-    let y = number(out, x, a);
-    let z = word(out, y, b" of ");
-    let u = number(out, z, b);
+    let y = put_of(out, x, a, b);
     if b == 0 {
-        return word(out, u, b"\n");
+        return word(out, y, b"\n");
     }
-    put_percent(out, u, tenths(a, b))
+    put_percent(out, y, tenths(a, b))
 }
 
 // `, 82.7 percent`, of tenths.
@@ -85,30 +93,17 @@ pub fn put_count(out: &mut [u8], what: &[u8], a: u64) -> usize
 fn other_warning(numbers: &[u64]) -> bool
     requires { length numbers.now ≡ columns }
 {
-    let mut w: usize = 1;
-    while w <= WARNINGS {
-        if w != TOO_FINE {
-            if numbers[C_WARNINGS + w - 1] != 0 {
-                return true;
-            }
-        }
-        w += 1;
-    }
-    false
+    numbers[C_WARNINGS..C_WARNINGS + WARNINGS]
+        .iter()
+        .enumerate()
+        .any(|(w, calls)| w != TOO_FINE && *calls != 0)
 }
 
 // Whether a coarser tolerance could help a try: nothing else is among its reasons.
 pub fn could_help(numbers: &[u64]) -> bool
     requires { length numbers.now ≡ columns }
 {
-    if other_warning(numbers) {
-        return false;
-    }
-    let refusal = numbers[C_REFUSAL];
-    if refusal == 0 {
-        return true;
-    }
-    refusal == TOO_FEW_PLACES
+    !other_warning(numbers) && matches!(numbers[C_REFUSAL], 0 | TOO_FEW_PLACES)
 }
 
 // A warning behind a space, where calls had it.
@@ -129,10 +124,8 @@ fn put_warnings(out: &mut [u8], n: usize, numbers: &[u64]) -> usize
     ensures { result ≤ n + 165 }
 {
     let mut at = n;
-    let mut w: usize = 0;
-    while w < WARNINGS {
+    for w in 0..WARNINGS {
         at = put_warning(out, at, w as u64 + 1, numbers[C_WARNINGS + w]);
-        w += 1;
     }
     at
 }
@@ -185,19 +178,16 @@ pub fn put_tried(out: &mut [u8], n: usize, tries: u64, tolerances: u64) -> usize
     ensures { result ≤ n + 64 }
 {
     let a = word(out, n, b" tried at ");
-    let b = number(out, a, tries);
-    let c = word(out, b, b" of ");
-    let d = number(out, c, tolerances);
-    word(out, d, b" tolerances\n")
+    let b = put_of(out, a, tries, tolerances);
+    word(out, b, b" tolerances\n")
 }
 
 // How many of how many jobs are done, over what stands in the line already.
 pub fn put_done(out: &mut [u8], done: u64, files: u64) -> usize
     requires { 64 ≤ length out.old }
+    ensures { result ≤ 64 }
 {
     let a = word(out, 0, b"\rnight: ");
-    let b = number(out, a, done);
-    let c = word(out, b, b" of ");
-    let d = number(out, c, files);
-    word(out, d, b" jobs done")
+    let b = put_of(out, a, done, files);
+    word(out, b, b" jobs done")
 }

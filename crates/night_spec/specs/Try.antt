@@ -1,5 +1,5 @@
 -- DEFINITIONS. A try of a night, from the bytes of its file to what it leaves: rules 11.1 to 11.3. Assumes nothing.
-use Rattle.std.specs.Prelude.{ℕ, zero, suc, cond, ◌&&◌, ◌||◌, not, List, [], ◌∷◌, ◌++◌, eqb, length, take}
+use Rattle.std.specs.Prelude.{ℕ, zero, suc, cond, ◌&&◌, ◌||◌, not, List, [], ◌∷◌, ◌++◌, eqb, length, take, Option as Read, Some, None}
 use Rattle.std.proofs.Math.Option.{Option, none, some}
 use Rattle.row_cells.specs.Row.{line_of}
 use Rattle.call_reply.specs.Replies.{After, plain}
@@ -8,8 +8,6 @@ use Rattle.call_answer.specs.Push.{push_spec}
 use Rattle.call_answer.specs.Close.{close_spec}
 use Rattle.tally_call.specs.Calls.{k_push, k_close}
 use Rattle.text_cut.specs.Cut.{lf, lines_from, rest_from}
-use Rattle.csv_line.specs.declared.End.{End}
-use Rattle.csv_line.specs.declared.End.TheVariants as End
 use Rattle.csv_line.specs.LineText.{crlf, end_of}
 use Rattle.csv_header.specs.Header.{header, header_out}
 use Rattle.csv_words.specs.Words.{same}
@@ -90,9 +88,9 @@ headed s = record { stand = s; out = header_out ++ crlf; listed = [] }
 unfoldable pub on_text : Ticket → Stand → List ℕ → Step
 on_text t s text = cond (eqb s.course.physical 1) (cond (same header text) (headed s) (unread t s)) (on_read t s (read_block text))
 
-abbrev pub on_end : Ticket → Stand → List ℕ → End → Step
-on_end t s line End.Bad = unread t s
-on_end t s line (End.Upto n) = on_text t s (take n line)
+abbrev pub on_end : Ticket → Stand → List ℕ → Read ℕ → Step
+on_end t s line None = unread t s
+on_end t s line (Some n) = on_text t s (take n line)
 
 -- the line is counted
 abbrev pub counted : Step → Step

@@ -1,19 +1,16 @@
--- Which bytes may stand in a name, test by test. Assumes nothing.
-use Prim.Native.Nat.{ℕ, ◌≤◌, ◌<◌}
-use mathlib.Core.Path.{◌≡◌}
-use mathlib.Core.Bool.{false, not}
-use lib.Dec.{eqb}
-use borrow.Author.Tests.{eq-eqb, ne_eqb, lt-ltb, le-ltb}
-use Rattle.night_stands.specs.Standing.{byte_stands}
+-- What a walk over all bytes found, as the definition counts. Assumes nothing.
+use Rattle.std.proofs.Common.{ℕ, ◌≡◌, ◌<◌, Bool, true, false, List, length, get_or, MatchBool, sym, arith}
+use Rattle.std.specs.List.{HoldsAt, AllWithin}
+use Rattle.floats.specs.Truth.{all_intro, all-fails}
+use Rattle.night_stands.specs.Standing.{byte_stands, may_stand}
 
-pub low_stands : (b : ℕ) → b < 32 → false ≡ byte_stands b
-unfolding byte_stands
-low_stands b h = rw (lt-ltb b 32 h)
+abbrev Yes : ℕ → Type 0
+Yes b = byte_stands b ≡ true
 
-pub comma-stands : (b : ℕ) → 32 ≤ b → b ≡ 44 → false ≡ byte_stands b
-unfolding byte_stands
-comma-stands b h e = rw (le-ltb b 32 h, eq-eqb b 44 e)
+abbrev No : ℕ → Type 0
+No b = byte_stands b ≡ false
 
-pub other-stands : (b : ℕ) → 32 ≤ b → (b ≡ 44 → ⊥) → not (eqb b 34) ≡ byte_stands b
-unfolding byte_stands
-other-stands b h n = rw (le-ltb b 32 h, ne_eqb b 44 n)
+pub stands-all : (t : List ℕ) (r : Bool) → MatchBool r (AllWithin Yes t 0 (length t)) ((k : ℕ) × (k < length t) × HoldsAt No t k) → r ≡ may_stand t
+unfolding may_stand
+stands-all t true h = sym (all_intro (length t) (λ (i : ℕ). byte_stands (get_or t i 0)) (λ k l. h k 0 (omega arith) l))
+stands-all t false h = sym (all-fails (length t) (λ (i : ℕ). byte_stands (get_or t i 0)) h.0 h.1 (h.2 0))

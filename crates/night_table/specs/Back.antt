@@ -1,12 +1,11 @@
 -- DEFINITIONS. What the text of a line of tries is read as: rule 11.16. Assumes nothing.
-use Rattle.std.specs.Prelude.{ℕ, Bool, ◌&&◌, List, [], eqb, length, get_or}
+use Rattle.std.specs.Prelude.{ℕ, Bool, ◌&&◌, Option, List, [], eqb, length, get_or}
 use Rattle.floats.specs.Lists.{upto, all}
 use Rattle.csv_line.specs.LineText.{parted}
-use Rattle.night_columns.specs.declared.Whole.{Whole}
 use Rattle.night_columns.specs.Columns.{columns}
 use Rattle.night_columns.specs.Read.{column_of, is_whole, value_of}
 
-abbrev pub read_at : List (List ℕ) → ℕ → Whole
+abbrev pub read_at : List (List ℕ) → ℕ → Option ℕ
 read_at fs k = column_of (get_or fs k []) k
 
 -- 11.16: the line of a try has a field for each column, each of which can be read; and its numbers by their columns

@@ -6,7 +6,7 @@ ghost use Rattle.night_columns.specs.Columns.{columns};
 ghost use Rattle.night_table.specs.Lines.{line_room, PutLine, Taken};
 
 use csv_cells::field_end;
-use night_columns::{COLUMNS, Whole, read_column};
+use night_columns::read_column;
 use night_pieces::put_front;
 use night_rest::put_rest;
 
@@ -25,21 +25,16 @@ pub fn read_line(text: &[u8], numbers: &mut [u64]) -> bool
     ensures { Taken text.now numbers.new result }
 {
     let mut at: usize = 0;
-    let mut k: usize = 0;
-    while k < COLUMNS {
+    for (k, number) in numbers.iter_mut().enumerate() {
         if at > text.len() {
             return false;
         }
         let end = field_end(text, at);
-        let Whole::Is(v) = read_column(&text[at..end], k) else {
+        let Some(v) = read_column(&text[at..end], k) else {
             return false;
         };
-        numbers[k] = v;
+        *number = v;
         at = end + 1;
-        k += 1;
     }
-    if at <= text.len() {
-        return false;
-    }
-    true
+    at > text.len()
 }

@@ -4,7 +4,6 @@
 ghost use Rattle.std.specs.Prelude.{◌≡◌};
 ghost use Rattle.night_tolerance.specs.Tolerance.{is_tolerance, bits_of};
 
-use csv_fields::Number;
 use csv_values::read_number;
 
 // Whether a text is a tolerance: a number above zero.
@@ -12,8 +11,8 @@ pub fn is_tolerance(text: &[u8]) -> bool
     ensures { result ≡ is_tolerance text.now }
 {
     match read_number(text) {
-        Number::Value(x) => x > 0.0,
-        Number::Bad => false,
+        Some(x) => x > 0.0,
+        None => false,
     }
 }
 
@@ -22,7 +21,7 @@ pub fn bits_of(text: &[u8]) -> u64
     ensures { result ≡ bits_of text.now }
 {
     match read_number(text) {
-        Number::Value(x) => floats::bits(x),
-        Number::Bad => 0,
+        Some(x) => floats::bits(x),
+        None => 0,
     }
 }

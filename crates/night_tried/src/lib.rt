@@ -10,12 +10,14 @@ const SUMS: u64 = 1 << 32;
 
 const COUNTS: u64 = 32;
 
+#[tactic(auto, unfolding(crate::specs::Tried::tried_word))]
 pub fn tried_word(sum: u64, tries: u64) -> u64
     ensures { result ≡ tried_word sum tries }
 {
     sum % SUMS * COUNTS + tries % COUNTS
 }
 
+#[tactic(auto, unfolding(crate::specs::Tried::tries_of))]
 pub fn tries_of(word: u64) -> u64
     ensures { result ≡ tries_of word }
 {
@@ -23,11 +25,9 @@ pub fn tries_of(word: u64) -> u64
 }
 
 // Whether a try whose file has this checksum is a further one of the job with this word.
+#[tactic(auto, unfolding(crate::specs::Tried::same_file, crate::specs::Tried::tries_of))]
 pub fn same_file(word: u64, sum: u64) -> bool
     ensures { result ≡ same_file word sum }
 {
-    if word % COUNTS == 0 {
-        return true;
-    }
-    word / COUNTS == sum
+    tries_of(word) == 0 || word / COUNTS == sum
 }

@@ -12,7 +12,7 @@ use call_close::close;
 use call_push::push;
 use call_reply::{Reply, plain_reply};
 use csv_out::{CALL_ROOM, LENT_ROWS};
-use csv_status::{GOES_ON, turns_left};
+use csv_status::GOES_ON;
 use layout::{MOST_HELD, ROW_WORDS, STATE_WORDS};
 use night_begin::start_told;
 use night_course::{Ticket, TryRun};
@@ -139,10 +139,11 @@ fn all_turns(
         AllTurns begun buf.old was result buf.new is }
 {
     let mut s = begun;
-    let mut turns = u64::MAX;
-    while turns > 0 {
+    for _ in 0..u64::MAX {
         s = step(files, s, buf, state, store, rows, tally, out, listed);
-        turns = turns_left(turns, s.over);
+        if s.over != GOES_ON {
+            return s;
+        }
     }
     s
 }

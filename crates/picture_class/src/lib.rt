@@ -26,31 +26,29 @@ pub struct Judged {
 }
 
 // The class of a row that is not curved.
+#[tactic(auto, unfolding(crate::specs::Class::straight_of))]
 fn straight(marked: bool, motion: u64) -> Class
     ensures { result ≡ straight_of marked motion }
 {
-    if marked {
-        return Class::Sample;
+    match (marked, is_rapid(motion)) {
+        (true, _) => Class::Sample,
+        (false, true) => Class::Rapid,
+        (false, false) => Class::Feed,
     }
-    if is_rapid(motion) {
-        return Class::Rapid;
-    }
-    Class::Feed
 }
 
 // A row under the motion in force before it.
+#[tactic(auto, unfolding(crate::specs::Class::class_of, still_curved::specs::Curved::seen_of))]
 pub fn class_of(row: &[u64], motion: u64) -> Judged
     requires { length row.now ≡ row_words }
     ensures { result ≡ class_of motion row.now }
 {
     let seen = still_curved(row, motion);
-    if seen.curved {
-        return Judged {
-            motion: seen.motion,
-            class: Class::Curved,
-        };
-    }
-    let class = straight(row[R_MARK] != 0, seen.motion);
+    let class = if seen.curved {
+        Class::Curved
+    } else {
+        straight(row[R_MARK] != 0, seen.motion)
+    };
     Judged {
         motion: seen.motion,
         class,

@@ -1,5 +1,5 @@
 -- LAWS. How large the numbers of a fit are; and a box that is fitted is no wider and no higher than the area. Assumes nothing.
-use Rattle.std.specs.Prelude.{ℕ, ◌-◌, ◌*◌, ◌/◌, ◌≤◌, ◌<◌, ◌≡◌, refl, Bool, true, false, cond, ltb}
+use Rattle.std.specs.Prelude.{ℕ, ◌*◌, ◌/◌, ◌≤◌, ◌<◌, ◌≡◌, refl, Bool, true, false, cond, ltb}
 use Rattle.std.proofs.Common.{arith, div-mul-le_self, mul-le-mul_left, mul-le-mul_right, mul_assoc, le_trans, ltb-true, ltb-false}
 use Rattle.picture_span.specs.Span.{widest}
 use Rattle.picture_fit.specs.declared.Scale.{Scale}

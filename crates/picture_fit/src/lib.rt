@@ -5,7 +5,7 @@ ghost use Rattle.std.specs.Prelude.{◌≡◌, ◌≤◌, ◌<◌};
 ghost use Rattle.picture_span.specs.Span.{widest, extent};
 ghost use Rattle.picture_fit.specs.Fit.{area_wide, least, at_least, scale_by, drawn, fit_by, fit_of, most_scale, Small};
 
-use picture_span::{Span, extent, lower};
+use picture_span::{Span, extent};
 
 // The picture's width in its own units, and the area of the path in it: how wide and high, and how far down its middle is.
 const WIDE: u64 = 1000;
@@ -26,7 +26,8 @@ const UNIT: u64 = 1000000000000;
 
 const FINE_UNIT: u64 = 10000000000000000;
 
-// A scale: a number of millionths, of which one stands for a unit a millimetre, or where it is fine for 10^-4 of that.
+// A scale: a number of millionths, of which one stands for a unit a millimetre, or where it is fine for 10^-4 of that. A struct,
+// as the theorem `in_area` and the clauses speak of the number whether it is fine or not.
 #[derive(Clone, Copy)]
 pub struct Scale {
     pub millionths: u64,
@@ -34,10 +35,11 @@ pub struct Scale {
 }
 
 // w, or LEAST where it is less.
+#[tactic(auto, unfolding(crate::specs::Fit::at_least))]
 fn at_least(w: u64) -> u64
     ensures { (result ≡ at_least w) × (least ≤ result) }
 {
-    if w < LEAST { LEAST } else { w }
+    w.max(LEAST)
 }
 
 // The scale at which w millionths of a millimetre are `units` wide.
@@ -59,11 +61,12 @@ fn scale_by(units: u64, w: u64) -> Scale
 }
 
 // How many units v is drawn over, where w is drawn over `units`.
+#[tactic(auto, unfolding(crate::specs::Fit::drawn, picture_span::specs::Span::lower_of))]
 fn drawn(units: u64, v: u64, w: u64) -> u64
     requires { (units ≤ area_wide) × (v ≤ widest) }
     ensures { (result ≡ drawn units v w) × (result ≤ area_wide) }
 {
-    lower(units * v / at_least(w), AREA_WIDE)
+    (units * v / at_least(w)).min(AREA_WIDE)
 }
 
 // Where the box is drawn: its scale, and the place of its lower left corner in the picture.
@@ -75,6 +78,7 @@ pub struct Fit {
 }
 
 // The fit of a box of w by h whose side is drawn over `units`, in the middle of the area.
+#[tactic(auto, unfolding(crate::specs::Fit::fit_by))]
 fn fit_by(units: u64, side: u64, w: u64, h: u64) -> Fit
     requires { (units ≤ area_wide) × ((w ≤ widest) × (h ≤ widest)) }
     ensures { (result ≡ fit_by units side w h) × Small result }
@@ -88,6 +92,7 @@ fn fit_by(units: u64, side: u64, w: u64, h: u64) -> Fit
 }
 
 // The fit of a box of w by h.
+#[tactic(auto, unfolding(crate::specs::Fit::fit_of))]
 fn fitted(w: u64, h: u64) -> Fit
     requires { (w ≤ widest) × (h ≤ widest) }
     ensures { (result ≡ fit_of w h) × Small result }

@@ -34,9 +34,10 @@ pub fn put_path_end(out: &mut [u8], n: usize, path: Path) -> usize
     ensures { Wrote out.old n (end_text path) out.new result }
 {
     if path.letter == 0 {
-        return n;
+        n
+    } else {
+        put_bytes(out, n, b"'/>\n")
     }
-    put_bytes(out, n, b"'/>\n")
 }
 
 // The beginning of a path at a point.
@@ -51,33 +52,29 @@ pub fn put_open(out: &mut [u8], n: usize, letter: u8, p: Point) -> usize
 }
 
 // Whether a move of a class goes on with the path that is open.
+#[tactic(auto, unfolding(crate::specs::PathText::goes_on))]
 pub fn goes_on(path: Path, letter: u8) -> bool
     ensures { result ≡ goes_on path letter }
 {
-    if path.letter == letter {
-        return path.points < LONGEST;
-    }
-    false
+    path.letter == letter && path.points < LONGEST
 }
 
+#[tactic(auto, unfolding(crate::specs::PathText::one_more))]
 fn one_more(points: u64) -> u64
     ensures { result ≡ one_more points }
 {
-    if points < LONGEST {
-        return points + 1;
-    }
-    points
+    if points < LONGEST { points + 1 } else { points }
 }
 
 // The path that is open behind a move.
+#[tactic(auto, unfolding(crate::specs::PathText::path_after))]
 pub fn path_after(path: Path, letter: u8) -> Path
     ensures { result ≡ path_after path letter }
 {
-    if goes_on(path, letter) {
-        return Path {
-            letter,
-            points: one_more(path.points),
-        };
-    }
-    Path { letter, points: 2 }
+    let points = if goes_on(path, letter) {
+        one_more(path.points)
+    } else {
+        2
+    };
+    Path { letter, points }
 }

@@ -1,5 +1,5 @@
 -- DEFINITIONS. What a row draws, and where the pen is behind it. Assumes nothing.
-use Rattle.std.specs.Prelude.{ℕ, ◌+◌, Bool, true, false, cond, List, [], ltb}
+use Rattle.std.specs.Prelude.{ℕ, ◌+◌, Bool, true, false, cond, List, [], Option, Some, None, ltb}
 use Rattle.motion.specs.Motion.{g_one}
 use Rattle.picture_class.specs.declared.Class.{Class}
 use Rattle.picture_class.specs.declared.Class.TheVariants.{Rapid, Feed, Sample, Curved}
@@ -11,7 +11,6 @@ use Rattle.picture_path.specs.PathText.{path_after, move_text}
 use Rattle.picture_span.specs.declared.Counts.{Counts}
 use Rattle.picture_span.specs.declared.Frame.{Frame}
 use Rattle.picture_span.specs.declared.Plane.{Plane}
-use Rattle.picture_spot.specs.declared.Spot.{Spot}
 use Rattle.picture_spot.specs.Spot.{shows_code, spot_after, both_known}
 use Rattle.picture_pen.specs.declared.Pen.{Pen}
 
@@ -20,8 +19,8 @@ abbrev pub first_pen : Pen
 first_pen =
     record {
       motion = g_one;
-      across = record { known = false; at = 0 };
-      up = record { known = false; at = 0 };
+      across = None;
+      up = None;
       path = record { letter = 0; points = 0 };
       frame = record { across = no_span; up = no_span };
       counts = record { rapid = 0; feed = 0; sample = 0; curved = 0 };
@@ -45,9 +44,10 @@ unfoldable pub shows_either : List ℕ → Plane → Bool
 shows_either row plane = cond (shows_code row plane.across) true (shows_code row plane.up)
 
 -- ---- the box is that of the places where both axes are known
-unfoldable pub frame_after : Frame → Spot → Spot → Frame
-frame_after f across up =
-    cond (both_known across up) (record { across = widened f.across across.at; up = widened f.up up.at }) f
+abbrev pub frame_after : Frame → Option ℕ → Option ℕ → Frame
+frame_after f None up = f
+frame_after f (Some a) None = f
+frame_after f (Some a) (Some u) = record { across = widened f.across a; up = widened f.up u }
 
 -- ---- a row moves where it shows an axis of the plane, and both were known before
 unfoldable pub moves_in : Pen → List ℕ → Plane → Bool
@@ -71,8 +71,13 @@ pen_after pen row plane =
       counts = counted_of pen.counts judged.class;
     }
 
+-- an axis that is not known stands at 0
+abbrev pub at_of : Option ℕ → ℕ
+at_of None = 0
+at_of (Some p) = p
+
 abbrev pub point_of : Pen → Point
-point_of pen = record { across = pen.across.at; up = pen.up.at }
+point_of pen = record { across = at_of pen.across; up = at_of pen.up }
 
 -- what a row draws: a move from where the pen was to where it is then, on a path of the row's class
 unfoldable pub row_drawn : Pen → List ℕ → Plane → List ℕ

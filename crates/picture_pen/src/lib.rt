@@ -14,7 +14,7 @@ use picture_move::put_move;
 use picture_path::{Path, path_after};
 use picture_point::Point;
 use picture_span::{Counts, Frame, Plane, no_span, widened};
-use picture_spot::{Spot, both_known, shows, spot_after};
+use picture_spot::{both_known, shows, spot_after};
 
 // Counts go up to what a text has room for.
 const MOST_COUNT: u64 = 9999999999;
@@ -23,8 +23,8 @@ const MOST_COUNT: u64 = 9999999999;
 #[derive(Clone, Copy)]
 pub struct Pen {
     pub motion: u64,
-    pub across: Spot,
-    pub up: Spot,
+    pub across: Option<u64>,
+    pub up: Option<u64>,
     pub path: Path,
     pub frame: Frame,
     pub counts: Counts,
@@ -34,23 +34,18 @@ pub struct Pen {
 pub fn first_pen() -> Pen
     ensures { result ≡ first_pen }
 {
-    let across = no_span();
-    let up = no_span();
     Pen {
         motion: G1,
-        across: Spot {
-            known: false,
-            at: 0,
-        },
-        up: Spot {
-            known: false,
-            at: 0,
-        },
+        across: None,
+        up: None,
         path: Path {
             letter: 0,
             points: 0,
         },
-        frame: Frame { across, up },
+        frame: Frame {
+            across: no_span(),
+            up: no_span(),
+        },
         counts: Counts {
             rapid: 0,
             feed: 0,
@@ -60,13 +55,11 @@ pub fn first_pen() -> Pen
     }
 }
 
+#[tactic(auto, unfolding(crate::specs::Pen::one_more))]
 fn one_more(n: u64) -> u64
     ensures { result ≡ one_more n }
 {
-    if n < MOST_COUNT {
-        return n + 1;
-    }
-    n
+    if n < MOST_COUNT { n + 1 } else { n }
 }
 
 // A row more of its class.
@@ -76,116 +69,92 @@ fn counted(c: Counts, class: Class) -> Counts
     match class {
         Class::Rapid => Counts {
             rapid: one_more(c.rapid),
-            feed: c.feed,
-            sample: c.sample,
-            curved: c.curved,
+            ..c
         },
         Class::Feed => Counts {
-            rapid: c.rapid,
             feed: one_more(c.feed),
-            sample: c.sample,
-            curved: c.curved,
+            ..c
         },
         Class::Sample => Counts {
-            rapid: c.rapid,
-            feed: c.feed,
             sample: one_more(c.sample),
-            curved: c.curved,
+            ..c
         },
         Class::Curved => Counts {
-            rapid: c.rapid,
-            feed: c.feed,
-            sample: c.sample,
             curved: one_more(c.curved),
+            ..c
         },
     }
 }
 
+#[tactic(auto, unfolding(crate::specs::Pen::shows_either))]
 fn shows_either(row: &[u64], plane: Plane) -> bool
     requires { (length row.now ≡ row_words) × PlaneOk plane }
     ensures { result ≡ shows_either row.now plane }
 {
-    if shows(row, plane.across) {
-        return true;
-    }
-    shows(row, plane.up)
+    shows(row, plane.across) || shows(row, plane.up)
 }
 
 // The box with the pen's place, where that is known.
-fn frame_after(frame: Frame, across: Spot, up: Spot) -> Frame
+fn frame_after(frame: Frame, across: Option<u64>, up: Option<u64>) -> Frame
     ensures { result ≡ frame_after frame across up }
 {
-    if both_known(across, up) {
-        let a = frame.across;
-        let u = frame.up;
-        let wide = widened(a, across.at);
-        let high = widened(u, up.at);
-        return Frame {
-            across: wide,
-            up: high,
-        };
+    match (across, up) {
+        (Some(a), Some(u)) => Frame {
+            across: widened(frame.across, a),
+            up: widened(frame.up, u),
+        },
+        _ => frame,
     }
-    frame
 }
 
 // Whether a row moves the pen in the plane, from a place that is known.
+#[tactic(auto, unfolding(crate::specs::Pen::moves_in))]
 fn moves(pen: Pen, row: &[u64], plane: Plane) -> bool
     requires { (length row.now ≡ row_words) × PlaneOk plane }
     ensures { result ≡ moves_in pen row.now plane }
 {
-    let across = pen.across;
-    let up = pen.up;
-    if both_known(across, up) {
-        return shows_either(row, plane);
-    }
-    false
+    both_known(pen.across, pen.up) && shows_either(row, plane)
 }
 
 // The path that is open behind a row of a class, which moves or does not.
+#[tactic(auto, unfolding(crate::specs::Pen::path_behind))]
 fn path_behind(path: Path, letter: u8, moved: bool) -> Path
     ensures { result ≡ path_behind path letter moved }
 {
     if moved {
-        return path_after(path, letter);
+        path_after(path, letter)
+    } else {
+        path
     }
-    path
 }
 
 // The pen behind a row.
+#[tactic(auto, unfolding(crate::specs::Pen::pen_after))]
 fn pen_after(pen: Pen, row: &[u64], plane: Plane) -> Pen
     requires { (length row.now ≡ row_words) × PlaneOk plane }
     ensures { result ≡ pen_after pen row.now plane }
 {
     let judged = class_of(row, pen.motion);
-    let class = judged.class;
-    let was_across = pen.across;
-    let was_up = pen.up;
-    let was_frame = pen.frame;
-    let was_counts = pen.counts;
-    let was_path = pen.path;
-    let across = spot_after(was_across, row, plane.across);
-    let up = spot_after(was_up, row, plane.up);
-    let frame = frame_after(was_frame, across, up);
-    let counts = counted(was_counts, class);
-    let path = path_behind(was_path, letter(class), moves(pen, row, plane));
+    let across = spot_after(pen.across, row, plane.across);
+    let up = spot_after(pen.up, row, plane.up);
+    let moved = moves(pen, row, plane);
     Pen {
         motion: judged.motion,
         across,
         up,
-        path,
-        frame,
-        counts,
+        path: path_behind(pen.path, letter(judged.class), moved),
+        frame: frame_after(pen.frame, across, up),
+        counts: counted(pen.counts, judged.class),
     }
 }
 
+// An axis that is not known stands at 0: nothing is drawn from it or to it.
 fn point_of(pen: Pen) -> Point
     ensures { result ≡ point_of pen }
 {
-    let across = pen.across;
-    let up = pen.up;
     Point {
-        across: across.at,
-        up: up.at,
+        across: pen.across.unwrap_or(0),
+        up: pen.up.unwrap_or(0),
     }
 }
 
@@ -203,9 +172,14 @@ pub fn draw(pen: Pen, row: &[u64], plane: Plane, out: &mut [u8], n: usize) -> Dr
 {
     let then = pen_after(pen, row, plane);
     if moves(pen, row, plane) {
-        let was = pen.path;
-        let is = then.path;
-        let at = put_move(out, n, was, is.letter, point_of(pen), point_of(then));
+        let at = put_move(
+            out,
+            n,
+            pen.path,
+            then.path.letter,
+            point_of(pen),
+            point_of(then),
+        );
         return Drawn { pen: then, at };
     }
     Drawn { pen: then, at: n }

@@ -14,31 +14,32 @@ pub const ORIGIN: u64 = 1000000000000000;
 const FARTHEST: u64 = ORIGIN - 1;
 
 // v, or FARTHEST where it is more.
+#[tactic(auto, unfolding(crate::specs::Place::near))]
 fn within(v: u64) -> u64
     ensures { (result ≡ near v) × (result ≤ farthest) }
 {
-    if v <= FARTHEST { v } else { FARTHEST }
+    v.min(FARTHEST)
 }
 
 // The place of a number of a row.
+#[tactic(auto, unfolding(crate::specs::Place::place_of))]
 pub fn place_of(x: f64) -> u64
     ensures { result ≡ place_of x }
 {
     let v = within(csv_decimal::in_millionths(x));
-    if x < 0.0 {
-        return ORIGIN - v;
-    }
-    ORIGIN + v
+    if x < 0.0 { ORIGIN - v } else { ORIGIN + v }
 }
 
 // The place on the other side of the origin, as far from it.
+#[tactic(auto, unfolding(crate::specs::Place::across))]
 pub fn across(p: u64) -> u64
     ensures { result ≡ across p }
 {
     if p < ORIGIN {
-        return ORIGIN + within(ORIGIN - p);
+        ORIGIN + within(ORIGIN - p)
+    } else {
+        ORIGIN - within(p - ORIGIN)
     }
-    ORIGIN - within(p - ORIGIN)
 }
 
 // Stores the coordinate in millimetres from n on, with six decimals.

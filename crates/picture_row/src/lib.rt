@@ -24,15 +24,11 @@ pub fn row_line(run: Run, pen: Pen, plane: Plane, row: &[u64], out: &mut [u8; OU
     ensures { Kept run result.run }
 {
     let drawn = draw(pen, row, plane, out, run.out);
-    let then = drawn.pen;
     Sheet {
         run: Run {
             out: drawn.at,
-            err: run.err,
-            physical: run.physical,
-            source: run.source,
-            refused: run.refused,
+            ..run
         },
-        pen: then,
+        pen: drawn.pen,
     }
 }

@@ -1,9 +1,7 @@
 -- LAWS. What is left of the room behind each step. Assumes nothing.
-use Rattle.std.specs.Prelude.{ℕ, ◌+◌, ◌-◌, ◌≤◌, ◌≡◌, refl, Bool, true, false, cond, List, eqb, ltb, length, get_or}
+use Rattle.std.specs.Prelude.{ℕ, ◌+◌, ◌-◌, ◌≤◌, ◌≡◌, refl, Bool, true, false, cond, List, eqb, ltb, length, get_or, Option, Some, None}
 use Rattle.std.proofs.Common.{sym, subst, arith}
 use Rattle.text_lines.specs.declared.Turn.{Turn}
-use Rattle.csv_line.specs.declared.End.{End}
-use Rattle.csv_line.specs.declared.End.TheVariants as End
 use Rattle.csv_line.specs.LineText.{end_of}
 use Rattle.csv_line.specs.Notice.{notice_text}
 use Rattle.csv_out.specs.declared.Run.{Run}
@@ -53,14 +51,14 @@ pub first-within : (s : Reading) (n : ℕ) → s ≡ first_reading → n ≤ sta
 first-within s n e h = rw e (record { window = omega arith; inside = omega arith; outs = omega arith; errs = omega arith })
 
 -- the text of a line lies in it
-abbrev upto : ℕ → Bool → Bool → Bool → End
-upto n a b c = cond a End.Bad (cond b (cond c (End.Upto n) End.Bad) End.Bad)
+abbrev upto : ℕ → Bool → Bool → Bool → Option ℕ
+upto n a b c = cond a None (cond b (cond c (Some n) None) None)
 
-pub text-within : (s : List ℕ) (n : ℕ) → end_of s ≡ End.Upto n → n ≤ length s
+pub text-within : (s : List ℕ) (n : ℕ) → end_of s ≡ Some n → n ≤ length s
 unfolding end_of
 text-within s n e = go (ltb (length s) 2) (eqb (get_or s (length s - 2) 0) 13) (eqb (get_or s (length s - 2 + 1) 0) 10) e
   where
-    go : (a b c : Bool) → upto (length s - 2) a b c ≡ End.Upto n → n ≤ length s
+    go : (a b c : Bool) → upto (length s - 2) a b c ≡ Some n → n ≤ length s
     go true b c e = let z : ◌≡◌ {A = ℕ} 0 1 = cc in omega arith
     go false true true e = let z : n ≡ length s - 2 = cc in omega arith
     go false true false e = let z : ◌≡◌ {A = ℕ} 0 1 = cc in omega arith

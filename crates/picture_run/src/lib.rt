@@ -10,11 +10,10 @@ ghost use Rattle.picture_run.specs.Pages.{FoundIn, Behind, Within};
 use csv_count::BAD_TEXT;
 use csv_ending::{Ending, last};
 use csv_io::{ERR_ROOM, OUT_ROOM};
-use csv_line::End;
 use csv_next::next_found;
 use csv_out::{Run, next_line, refuse};
 use csv_reading::{Reading, behind, ends, fails, first, going, left_of, reads_on};
-use csv_status::{ENDED, GOES_ON, may_end, turns_left};
+use csv_status::{ENDED, GOES_ON, may_end};
 use flat_read::read_flat;
 use layout::ROW_WORDS;
 use picture_fixed::put_start;
@@ -90,7 +89,7 @@ fn whole_line(
     requires { PlaneOk plane × Room run }
     ensures { Kept run result.run }
 {
-    let End::Upto(n) = csv_line::text_end(line) else {
+    let Some(n) = csv_line::text_end(line) else {
         return bad(run, pen, err);
     };
     text_line(run, pen, plane, &line[..n], out, err)
@@ -205,22 +204,10 @@ fn begin(out: &mut [u8; OUT_ROOM]) -> Page
 {
     let n = put_start(out, 0);
     let s = first();
-    let run = s.run;
-    let pen = first_pen();
+    let run = Run { out: n, ..s.run };
     Page {
-        reading: Reading {
-            at: s.at,
-            end: s.end,
-            run: Run {
-                out: n,
-                err: run.err,
-                physical: run.physical,
-                source: run.source,
-                refused: run.refused,
-            },
-            over: s.over,
-        },
-        pen,
+        reading: Reading { run, ..s },
+        pen: first_pen(),
     }
 }
 
@@ -238,10 +225,11 @@ fn all_turns<R: Read, W: Write, E: Write>(
     ensures { Within result.reading }
 {
     let mut page = begin(out);
-    let mut turns = u64::MAX;
-    while turns > 0 {
+    for _ in 0..u64::MAX {
         page = step(page, plane, buf, out, err, input, output, errors);
-        turns = turns_left(turns, over_of(page));
+        if over_of(page) != GOES_ON {
+            break;
+        }
     }
     page
 }
@@ -253,11 +241,7 @@ fn over_of(page: Page) -> u64 {
 
 // Whether all of the input was drawn.
 fn is_whole(s: Reading) -> bool {
-    let run = s.run;
-    if run.refused {
-        return false;
-    }
-    s.over == ENDED
+    !s.run.refused && s.over == ENDED
 }
 
 // The end of the picture waits behind its paths.
@@ -266,25 +250,11 @@ fn close(page: Page, plane: Plane, out: &mut [u8; OUT_ROOM]) -> Reading
     ensures { (result.run.out ≤ out_room) × (result.run.err ≤ err_room) }
 {
     let s = page.reading;
-    let run = s.run;
     let pen = page.pen;
-    let path = pen.path;
-    let counts = pen.counts;
-    let frame = pen.frame;
-    let a = put_path_end(out, run.out, path);
-    let b = put_end(out, a, is_whole(s), counts, plane, frame);
-    Reading {
-        at: s.at,
-        end: s.end,
-        run: Run {
-            out: b,
-            err: run.err,
-            physical: run.physical,
-            source: run.source,
-            refused: run.refused,
-        },
-        over: s.over,
-    }
+    let a = put_path_end(out, s.run.out, pen.path);
+    let b = put_end(out, a, is_whole(s), pen.counts, plane, pen.frame);
+    let run = Run { out: b, ..s.run };
+    Reading { run, ..s }
 }
 
 // All turns, and the end.

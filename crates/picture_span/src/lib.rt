@@ -2,7 +2,7 @@
 #![tactic(auto)]
 
 ghost use Rattle.std.specs.Prelude.{◌≡◌, ◌≤◌};
-ghost use Rattle.picture_span.specs.Span.{widest, lower_of, higher_of, no_span, widened, is_empty, extent};
+ghost use Rattle.picture_span.specs.Span.{widest, lower_of, no_span, widened, is_empty, extent};
 
 // The widest box, in millionths of a millimetre.
 const WIDEST: u64 = 2000000000000000;
@@ -16,7 +16,8 @@ pub struct Counts {
     pub curved: u64,
 }
 
-// The codes of the axes of a picture: what goes to the right, and what goes up.
+// The codes of the axes of a picture: what goes to the right, and what goes up. Numbers, as `picture_pen::draw` takes each axis
+// that has a cell (PlaneOk): an enum of three would take fewer.
 #[derive(Clone, Copy)]
 pub struct Plane {
     pub across: usize,
@@ -47,25 +48,14 @@ pub fn no_span() -> Span
     }
 }
 
-pub fn lower(a: u64, b: u64) -> u64
-    ensures { result ≡ lower_of a b }
-{
-    if b < a { b } else { a }
-}
-
-fn higher(a: u64, b: u64) -> u64
-    ensures { result ≡ higher_of a b }
-{
-    if a < b { b } else { a }
-}
-
 // The span with one more place.
+#[tactic(auto, unfolding(crate::specs::Span::lower_of, crate::specs::Span::higher_of))]
 pub fn widened(s: Span, p: u64) -> Span
     ensures { result ≡ widened s p }
 {
     Span {
-        from: lower(s.from, p),
-        to: higher(s.to, p),
+        from: s.from.min(p),
+        to: s.to.max(p),
     }
 }
 
@@ -76,11 +66,9 @@ pub fn is_empty(s: Span) -> bool
 }
 
 // How wide a span is, in millionths of a millimetre.
+#[tactic(auto, unfolding(crate::specs::Span::extent, crate::specs::Span::lower_of))]
 pub fn extent(s: Span) -> u64
     ensures { (result ≡ extent s) × (result ≤ widest) }
 {
-    if s.to < s.from {
-        return 0;
-    }
-    lower(s.to - s.from, WIDEST)
+    s.to.saturating_sub(s.from).min(WIDEST)
 }

@@ -1,4 +1,4 @@
-// Where the pen is on one axis, and whether it is known.
+// Where the pen is on one axis, once a row has shown it.
 #![tactic(auto)]
 
 ghost use Rattle.std.specs.Prelude.{◌≡◌, ◌<◌, length};
@@ -9,13 +9,6 @@ use layout::{R_CELLS, R_PRESENT};
 use picture_place::place_of;
 use row_cells::has_bit;
 
-// Where the pen is on one axis, once a row has shown it.
-#[derive(Clone, Copy)]
-pub struct Spot {
-    pub known: bool,
-    pub at: u64,
-}
-
 pub fn shows(row: &[u64], code: usize) -> bool
     requires { (length row.now ≡ row_words) × (code < cells) }
     ensures { result ≡ shows_code row.now code }
@@ -24,24 +17,20 @@ pub fn shows(row: &[u64], code: usize) -> bool
 }
 
 // The pen's place on an axis behind a row: what the row shows, or what it was.
-pub fn spot_after(spot: Spot, row: &[u64], code: usize) -> Spot
+#[tactic(auto, unfolding(crate::specs::Spot::spot_after))]
+pub fn spot_after(spot: Option<u64>, row: &[u64], code: usize) -> Option<u64>
     requires { (length row.now ≡ row_words) × (code < cells) }
     ensures { result ≡ spot_after spot row.now code }
 {
     if shows(row, code) {
-        return Spot {
-            known: true,
-            at: place_of(floats::of_bits(row[R_CELLS + code])),
-        };
+        Some(place_of(floats::of_bits(row[R_CELLS + code])))
+    } else {
+        spot
     }
-    spot
 }
 
-pub fn both_known(across: Spot, up: Spot) -> bool
+pub fn both_known(across: Option<u64>, up: Option<u64>) -> bool
     ensures { result ≡ both_known across up }
 {
-    if across.known {
-        return up.known;
-    }
-    false
+    across.is_some() && up.is_some()
 }

@@ -20,10 +20,9 @@ pub fn push_state(state: &mut [u64], row: &[u64], b: Resolved)
     requires { (Block state.old row.now) × ((b ≡ resolved state.old row.now) × (held state.old ≤ most_held)) }
     ensures { state.new ≡ push_state state.old row.now }
 {
-    let kind = b.kind;
     forget_if(state, b.emits);
     set_modal(state, b.motion, b.plane);
-    buffer_if(state, row, is_spline(kind));
+    buffer_if(state, row, is_spline(b.kind));
     warn_if(state, row[R_MOTION], b.news);
     track(state, row, b.axes);
 }
@@ -33,9 +32,7 @@ pub fn push_store(store: &mut [u64], row: &[u64], b: Resolved)
     requires { Stores b store.old row.now }
     ensures { store.new ≡ store_with b store.old row.now }
 {
-    let kind = b.kind;
-    if is_spline(kind) {
-        let at = b.kept as usize * ROW_WORDS;
-        put_row(store, at, row);
+    if is_spline(b.kind) {
+        put_row(store, b.kept as usize * ROW_WORDS, row);
     }
 }

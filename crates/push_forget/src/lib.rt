@@ -12,14 +12,11 @@ fn zero_start(state: &mut [u64])
     requires { length state.old ≡ state_words }
     ensures { state.new ≡ spliced state.old w_start (upto (λ (k : ℕ). 0) (axis_codes + 1)) }
 {
-    let mut k: usize = 0;
-    while k < AXIS_CODES + 1 {
-        state[W_START + k] = 0;
-        k += 1;
-    }
+    state[W_START..W_START + 1 + AXIS_CODES].fill(0);
 }
 
 // An emission forgets the curve start and the blocks.
+#[tactic(auto, unfolding(push_start::specs::Opened::forgotten))]
 pub fn forget(state: &mut [u64])
     requires { length state.old ≡ state_words }
     ensures { state.new ≡ forgotten state.old }

@@ -27,23 +27,18 @@ pub struct Resolved {
 }
 
 // A motion or plane cell, or what is in force where there is none.
+#[tactic(auto, unfolding(crate::specs::Blocks::or_now))]
 fn or_now(v: u64, now: u64) -> u64
     ensures { result ≡ or_now v now }
 {
-    if v == 0 {
-        return now;
-    }
-    v
+    if v == 0 { now } else { v }
 }
 
 // Whether a block ends the spline that is held.
 fn ends_spline(held: u64, then: u64, now: u64) -> bool
     ensures { result ≡ (not (eqb held 0) && not (eqb then now)) }
 {
-    if held == 0 {
-        return false;
-    }
-    then != now
+    held != 0 && then != now
 }
 
 // The blocks still held before this one.
@@ -54,14 +49,12 @@ fn still_held(emits: bool, held: u64) -> u64
 }
 
 // Whether a motion cell has another curve's word that was not warned of yet.
+#[tactic(auto, unfolding(motion::specs::Motion::is_other))]
 fn is_news(warned: u64, word: u64) -> bool
     requires { word ≤ last_motion }
     ensures { result ≡ (is_other word && not (has warned word)) }
 {
-    if is_other(kind_of(word)) {
-        return !has_bit(warned, word);
-    }
-    false
+    is_other(kind_of(word)) && !has_bit(warned, word)
 }
 
 pub fn resolve(state: &[u64], row: &[u64]) -> Resolved

@@ -1,9 +1,8 @@
 -- CONTRACTS. What the code plans for a block's own rows, with the laws that it is the definition's answer. Assumes nothing.
-use Rattle.std.specs.Prelude.{ℕ, ◌+◌, ◌*◌, ◌<◌, ◌≤◌, ◌≡◌, Bool, cond, List, [], length, get_or, eqb}
+use Rattle.std.specs.Prelude.{ℕ, ◌+◌, ◌*◌, ◌<◌, ◌≤◌, ◌≡◌, Bool, cond, List, [], None, length, get_or, eqb}
 use Rattle.layout.specs.Layout.{axis_masks, row_words, w_known}
 use Rattle.row_cells.specs.Row.{axes_of}
 use Rattle.arc_answer.specs.Arc.{arc_answer}
-use Rattle.arc_rows.specs.declared.Way.TheVariants.{Pass}
 use Rattle.arc_rows.specs.declared.Plan.{Plan}
 use Rattle.arc_rows.specs.Plan.{plan_rows, Planned}
 use Rattle.saved_state.specs.State.{geometric, tolerance, position, geometric_mask}
@@ -22,7 +21,7 @@ pub record Ready (st r : List ℕ) (b : Resolved) : Type 0 where
 
 -- no row
 abbrev pub none_plan : Plan
-none_plan = record { count = 0; warning = 0; wanted = 0; held = 0; way = Pass }
+none_plan = record { count = 0; warning = 0; wanted = 0; held = 0; way = None }
 
 -- the rows that a plan stands for
 unfoldable pub own_rows : List ℕ → List ℕ → Plan → List (List ℕ)

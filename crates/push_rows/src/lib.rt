@@ -6,7 +6,7 @@ ghost use Rattle.arc_rows.specs.Plan.{pass_plan};
 ghost use Rattle.push_rows.specs.Own.{Ready, none_plan, OwnPlanned, TurnPlanned};
 
 use arc_group::plan_arc;
-use arc_rows::{Plan, Way};
+use arc_rows::Plan;
 use floats::of_bits;
 use layout::{AXIS_CODES, W_KNOWN, W_TOLERANCE};
 use motion::Kind;
@@ -25,7 +25,7 @@ fn pass_plan() -> Plan
         warning: 0,
         wanted: 0,
         held: 0,
-        way: Way::Pass,
+        way: None,
     }
 }
 
@@ -37,7 +37,7 @@ fn none_plan() -> Plan
         warning: 0,
         wanted: 0,
         held: 0,
-        way: Way::Pass,
+        way: None,
     }
 }
 

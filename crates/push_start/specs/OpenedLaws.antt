@@ -1,5 +1,5 @@
 -- LAWS. What a change of the state keeps: the axis list, the words below the curve start. Assumes nothing.
-use Rattle.std.specs.Prelude.{ℕ, ◌+◌, ◌-◌, ◌<◌, ◌≤◌, ◌≡◌, refl, Bool, true, false, cond, List, ◌∷◌, length, get_or, set, take, drop}
+use Rattle.std.specs.Prelude.{ℕ, ◌+◌, ◌<◌, ◌≤◌, ◌≡◌, refl, Bool, true, false, cond, List, ◌∷◌, length, get_or, set, take, drop}
 use Rattle.std.proofs.Common.{sym, ◌∙◌, ap, arith, length-set, length-take, length-drop, get_or-set_other, get_or-set_same, get_or-take, get_or-drop}
 use Rattle.std.proofs.Common.{ext_get_or}
 use Rattle.std.proofs.Math.Option

@@ -13,14 +13,16 @@ use row_cells::has_bit;
 use saved_state::state::PLAIN_DEGREE;
 
 // The position of axis k, zero where it is not known.
+#[tactic(auto, unfolding(saved_state::specs::State::point_word))]
 fn known_word(state: &[u64], k: usize) -> u64
     requires { (length state.now ≡ state_words) × (k < axis_codes) }
     ensures { result ≡ get_or (position state.now k) 0 }
 {
     if has_bit(state[W_KNOWN], k as u64) {
-        return state[W_KNOWN + 1 + k];
+        state[W_KNOWN + 1 + k]
+    } else {
+        0
     }
-    0
 }
 
 fn copy_positions(state: &mut [u64])
@@ -28,10 +30,8 @@ fn copy_positions(state: &mut [u64])
     ensures { state.new ≡ spliced state.old (w_start + 1)
         (upto (λ (k : ℕ). get_or (position state.old k) 0) axis_codes) }
 {
-    let mut k: usize = 0;
-    while k < AXIS_CODES {
+    for k in 0..AXIS_CODES {
         state[W_START + 1 + k] = known_word(state, k);
-        k += 1;
     }
 }
 

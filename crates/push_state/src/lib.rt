@@ -19,24 +19,19 @@ use whole::trunc_count;
 fn degree_of(x: u64) -> u64
     ensures { result ≡ max 1 (min most_degree (trunc_count (num x))) }
 {
-    let n = trunc_count(of_bits(x));
-    if n < 1 {
-        return 1;
-    }
-    if n > MOST_DEGREE {
-        return MOST_DEGREE;
-    }
-    n
+    trunc_count(of_bits(x)).clamp(1, MOST_DEGREE)
 }
 
+#[tactic(auto, unfolding(crate::specs::Pushed::degree_with, row_cells::specs::Row::number, row_cells::specs::Row::cell))]
 fn degree_with(power: u64, row: &[u64]) -> u64
     requires { length row.now ≡ row_words }
     ensures { result ≡ degree_with power (number row.now c_sd) }
 {
     if has_bit(row[R_PRESENT], C_SD as u64) {
-        return degree_of(row[R_CELLS + C_SD]);
+        degree_of(row[R_CELLS + C_SD])
+    } else {
+        power
     }
-    power
 }
 
 pub fn buffer(state: &mut [u64], row: &[u64])

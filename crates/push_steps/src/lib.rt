@@ -52,6 +52,7 @@ pub fn track(state: &mut [u64], row: &[u64], axes: u64)
     requires { (Block state.old row.now) × (axes ≡ geometric_mask state.old) }
     ensures { state.new ≡ track_to axis_codes state.old row.now }
 {
+    // while: over the bits that are set, which no range counts
     let mut rest = row[R_PRESENT] & axes;
     while rest != 0 {
         let k = lowest_bit(rest);

@@ -9,9 +9,9 @@ use Rattle.floats.specs.Splice.{spliced-none}
 use Rattle.layout.specs.Layout.{row_words}
 use Rattle.row_cells.specs.Row.{axes_of, out_row}
 use Rattle.arc_rows.specs.Plan.{plan_rows, way_rows, WriteOf}
-use Rattle.arc_rows.specs.declared.Way.TheVariants.{Pass}
 use Rattle.arc_sample.specs.Rowing.{flatten-one}
 use mathlib.Core.Option.{Option}
+use Rattle.std.specs.Prelude.{None}
 use Rattle.arc_rows.specs.declared.Plan.{Plan}
 use Rattle.saved_state.specs.State.{position, geometric_mask}
 use Rattle.push_resolve.specs.Blocks.{plane_then}
@@ -31,7 +31,7 @@ module _ (st r : List ℕ) (p : Plan) (gs plane : ℕ) (pos : ℕ → Option ℕ
         e ∙ ap (λ (o : List (List ℕ)). spliced rows from (flatten o)) (rw (eg, ep, es) (own-rows st r p (λ z. omega arith)))
 
 -- a row that passes
-pub passed_on : (st r : List ℕ) (p : Plan) (rows : List ℕ) (from : ℕ) (u : List ℕ) → 0 < p.count → p.way ≡ Pass → u ≡ spliced rows from (out_row r)
+pub passed_on : (st r : List ℕ) (p : Plan) (rows : List ℕ) (from : ℕ) (u : List ℕ) → 0 < p.count → p.way ≡ None → u ≡ spliced rows from (out_row r)
     → u ≡ spliced rows from (flatten (own_rows st r p))
 unfolding way_rows
 passed_on st r p rows from u l w e =

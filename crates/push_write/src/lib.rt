@@ -6,7 +6,7 @@ ghost use Rattle.floats.specs.Lists.{flatten, spliced};
 ghost use Rattle.push_rows.specs.Own.{Writes, own_rows};
 
 use arc_group::write_arc;
-use arc_rows::{Plan, Way};
+use arc_rows::Plan;
 use layout::W_KNOWN;
 use push_resolve::Resolved;
 use push_rows::{POSITIONS, POSITIONS_END};
@@ -33,10 +33,9 @@ fn write_some(rows: &mut [u64], from: usize, state: &[u64], row: &[u64], b: Reso
     requires { (Writes state.now row.now b plan rows.old from) × (0 < plan.count) }
     ensures { rows.new ≡ spliced rows.old from (flatten (own_rows state.now row.now plan)) }
 {
-    let way = plan.way;
-    match way {
-        Way::Pass => put_row(rows, from, row),
-        Way::Along(_, _) => write_turn(rows, from, state, row, b, plan),
+    match plan.way {
+        None => put_row(rows, from, row),
+        Some(_) => write_turn(rows, from, state, row, b, plan),
     }
 }
 

@@ -5,21 +5,22 @@ ghost use Rattle.layout.specs.Layout.{row_words};
 ghost use Rattle.std.specs.Prelude.{length, ◌≡◌};
 
 use layout::{R_CARRY, R_CELLS, R_LINE, R_MARK, R_MOTION, R_PLANE, R_PRESENT, ROW_WORDS};
-use replay_fields::{
-    DECIMAL, HEX, Part, after_word, axis_list, cells, field, last_field, raw_words, unread,
-};
+use replay_fields::{axis_list, cells, decimal, hex, numbers};
 use replay_memory::{MOST_BLOCKS, MOST_LENGTH, MOST_ROOM};
+use std::str::{Split, from_utf8};
 
-// A call, or a change of what is lent or of what it holds. Codes and rows are in the words that reading filled, and
-// `count` is how many.
+// A call. Codes and rows are in the words that reading filled, and `count` is how many.
 #[derive(Clone, Copy)]
-pub enum Ask {
-    Nothing,
-    Bad,
-    Start { tol: u64, count: u64 },
+pub enum Call {
+    Start { tol: u64, count: usize },
     Seed { code: u64, bits: u64 },
-    Push { count: u64 },
+    Push { count: usize },
     Close,
+}
+
+// A change of what is lent or of what it holds.
+#[derive(Clone, Copy)]
+pub enum Change {
     Room(u64),
     Blocks(u64),
     Length(u64),
@@ -27,225 +28,106 @@ pub enum Ask {
     PokeStore { place: u64, word: u64 },
 }
 
-// start BITS AXES
-fn start_ask(line: &[u8], from: usize, words: &mut [u64]) -> Ask {
-    let tol = field(line, from, HEX);
-    if !tol.ok {
-        return Ask::Bad;
-    }
-    let list = axis_list(line, tol.next, words);
-    if !list.ok {
-        return Ask::Bad;
-    }
-    Ask::Start {
-        tol: tol.value,
-        count: list.value,
-    }
-}
-
-// seed CODE BITS
-fn seed_ask(line: &[u8], from: usize) -> Ask {
-    let code = field(line, from, DECIMAL);
-    if !code.ok {
-        return Ask::Bad;
-    }
-    let bits = last_field(line, code.next, HEX);
-    if !bits.ok {
-        return Ask::Bad;
-    }
-    Ask::Seed {
-        code: code.value,
-        bits: bits.value,
-    }
-}
-
-// The five fields before the cells of a push, and the place behind them.
 #[derive(Clone, Copy)]
-struct Head {
-    ok: bool,
-    line: u64,
-    motion: u64,
-    plane: u64,
-    carry: u64,
-    present: u64,
-    next: usize,
+pub enum Ask {
+    Nothing,
+    Call(Call),
+    Change(Change),
 }
 
-fn read_head(line: &[u8], from: usize) -> Head {
-    let number = field(line, from, DECIMAL);
-    let motion = field(line, number.next, DECIMAL);
-    let plane = field(line, motion.next, DECIMAL);
-    let carry = field(line, plane.next, HEX);
-    let present = field(line, carry.next, HEX);
-    Head {
-        ok: number.ok && motion.ok && plane.ok && carry.ok && present.ok,
-        line: number.value,
-        motion: motion.value,
-        plane: plane.value,
-        carry: carry.value,
-        present: present.value,
-        next: present.next,
-    }
+// BITS AXES
+fn start(fields: &mut Split<'_, char>, words: &mut [u64]) -> Option<Call> {
+    let tol = hex(fields.next()?)?;
+    let count = axis_list(fields.next()?, words)?;
+    Some(Call::Start { tol, count })
 }
 
-fn set_head(h: Head, row: &mut [u64])
+// CODE BITS
+fn seed(fields: &mut Split<'_, char>) -> Option<Call> {
+    let code = decimal(fields.next()?)?;
+    let bits = hex(fields.next()?)?;
+    Some(Call::Seed { code, bits })
+}
+
+// LINE MOTION PLANE CARRY PRESENCE BITS..
+fn fill_row(fields: &mut Split<'_, char>, row: &mut [u64]) -> Option<()>
     requires { length row.old ≡ row_words }
-    ensures { length row.new ≡ row_words }
 {
-    row[R_LINE] = h.line;
-    row[R_MOTION] = h.motion;
-    row[R_PLANE] = h.plane;
+    row[R_LINE] = decimal(fields.next()?)?;
+    row[R_MOTION] = decimal(fields.next()?)?;
+    row[R_PLANE] = decimal(fields.next()?)?;
     row[R_MARK] = 0;
-    row[R_CARRY] = h.carry;
-    row[R_PRESENT] = h.present;
+    row[R_CARRY] = hex(fields.next()?)?;
+    let present = hex(fields.next()?)?;
+    row[R_PRESENT] = present;
+    cells(fields, present, &mut row[R_CELLS..])
 }
 
-// The row of a push, whether the line says one.
-fn fill_row(line: &[u8], from: usize, row: &mut [u64]) -> bool
-    requires { length row.old ≡ row_words }
-{
-    let h = read_head(line, from);
-    if !h.ok {
-        return false;
-    }
-    set_head(h, row);
-    let end = cells(line, h.next, h.present, &mut row[R_CELLS..]);
-    if !end.ok {
-        return false;
-    }
-    end.next > line.len()
+fn push(fields: &mut Split<'_, char>, words: &mut [u64; 64]) -> Option<Call> {
+    fill_row(fields, &mut words[..ROW_WORDS])?;
+    Some(Call::Push { count: ROW_WORDS })
 }
 
-// push LINE MOTION PLANE CARRY PRESENCE BITS..
-fn push_ask(line: &[u8], from: usize, words: &mut [u64]) -> Ask
-    requires { length words.old ≡ 64 }
-{
-    if fill_row(line, from, &mut words[..ROW_WORDS]) {
-        return Ask::Push {
-            count: ROW_WORDS as u64,
-        };
-    }
-    Ask::Bad
+// HEX..
+fn raw_push(fields: &mut Split<'_, char>, words: &mut [u64]) -> Option<Call> {
+    let count = numbers(fields, hex, words)?;
+    Some(Call::Push { count })
 }
 
-// words HEX..
-fn words_ask(line: &[u8], from: usize, words: &mut [u64]) -> Ask {
-    let read = raw_words(line, from, words);
-    if !read.ok {
-        return Ask::Bad;
-    }
-    Ask::Push { count: read.value }
-}
-
-// The number of a line that changes what is lent, where it is no more than `most`.
-fn setting(line: &[u8], from: usize, most: u64) -> Part {
-    let n = last_field(line, from, DECIMAL);
-    if n.value > most {
-        return unread();
-    }
-    n
-}
-
-// room N
-fn room_ask(line: &[u8], from: usize) -> Ask {
-    let n = setting(line, from, MOST_ROOM as u64);
-    if n.ok { Ask::Room(n.value) } else { Ask::Bad }
-}
-
-// blocks N
-fn blocks_ask(line: &[u8], from: usize) -> Ask {
-    let n = setting(line, from, MOST_BLOCKS as u64);
-    if n.ok { Ask::Blocks(n.value) } else { Ask::Bad }
-}
-
-// length N
-fn length_ask(line: &[u8], from: usize) -> Ask {
-    let n = setting(line, from, MOST_LENGTH as u64);
-    if n.ok { Ask::Length(n.value) } else { Ask::Bad }
-}
-
-// poke I HEX, pokestore I HEX
-fn poke_ask(line: &[u8], from: usize, in_store: bool) -> Ask {
-    let place = field(line, from, DECIMAL);
-    if !place.ok {
-        return Ask::Bad;
-    }
-    let word = last_field(line, place.next, HEX);
-    if !word.ok {
-        return Ask::Bad;
-    }
-    if in_store {
-        return Ask::PokeStore {
-            place: place.value,
-            word: word.value,
-        };
-    }
-    Ask::Poke {
-        place: place.value,
-        word: word.value,
+// The call of a line that begins with `word`.
+fn read_call(word: &str, fields: &mut Split<'_, char>, words: &mut [u64; 64]) -> Option<Call> {
+    match word {
+        "start" => start(fields, words),
+        "seed" => seed(fields),
+        "push" => push(fields, words),
+        "words" => raw_push(fields, words),
+        "close" => Some(Call::Close),
+        _ => None,
     }
 }
 
-// A line that changes what is lent or what it holds.
-fn change_ask(line: &[u8]) -> Ask {
-    let room = after_word(line, b"room");
-    if room > 0 {
-        return room_ask(line, room);
-    }
-    let blocks = after_word(line, b"blocks");
-    if blocks > 0 {
-        return blocks_ask(line, blocks);
-    }
-    let length = after_word(line, b"length");
-    if length > 0 {
-        return length_ask(line, length);
-    }
-    let poke = after_word(line, b"poke");
-    if poke > 0 {
-        return poke_ask(line, poke, false);
-    }
-    let pokestore = after_word(line, b"pokestore");
-    if pokestore > 0 {
-        return poke_ask(line, pokestore, true);
-    }
-    Ask::Bad
+// A number that is no more than `most`.
+fn at_most(most: usize, fields: &mut Split<'_, char>) -> Option<u64> {
+    let n = decimal(fields.next()?)?;
+    (n <= most as u64).then_some(n)
 }
 
-// A line that fills no words.
-fn short_ask(line: &[u8]) -> Ask {
-    let seed = after_word(line, b"seed");
-    if seed > 0 {
-        return seed_ask(line, seed);
-    }
-    if after_word(line, b"close") > line.len() {
-        return Ask::Close;
-    }
-    change_ask(line)
+// I HEX
+fn place_and_word(fields: &mut Split<'_, char>) -> Option<(u64, u64)> {
+    let place = decimal(fields.next()?)?;
+    let word = hex(fields.next()?)?;
+    Some((place, word))
 }
 
-fn is_comment(line: &[u8]) -> bool {
-    if line.len() == 0 {
-        return false;
+// The change of a line that begins with `word`.
+fn read_change(word: &str, fields: &mut Split<'_, char>) -> Option<Change> {
+    match word {
+        "room" => at_most(MOST_ROOM, fields).map(Change::Room),
+        "blocks" => at_most(MOST_BLOCKS, fields).map(Change::Blocks),
+        "length" => at_most(MOST_LENGTH, fields).map(Change::Length),
+        "poke" => place_and_word(fields).map(|(place, word)| Change::Poke { place, word }),
+        "pokestore" => {
+            place_and_word(fields).map(|(place, word)| Change::PokeStore { place, word })
+        }
+        _ => None,
     }
-    line[0] == b'#'
 }
 
-// What a line asks for, without its LF: the first word decides.
-pub fn read_ask(line: &[u8], words: &mut [u64; 64]) -> Ask {
-    if is_comment(line) {
-        return Ask::Nothing;
+// What a line that is no comment asks for: the first word decides, and no field is left behind the last.
+fn read_fields(line: &str, words: &mut [u64; 64]) -> Option<Ask> {
+    let mut fields = line.split(' ');
+    let word = fields.next()?;
+    let ask = match read_change(word, &mut fields) {
+        Some(change) => Ask::Change(change),
+        None => Ask::Call(read_call(word, &mut fields, words)?),
+    };
+    fields.next().is_none().then_some(ask)
+}
+
+// What a line asks for, without its LF; none where it is bad.
+pub fn read_ask(line: &[u8], words: &mut [u64; 64]) -> Option<Ask> {
+    if line.starts_with(b"#") {
+        return Some(Ask::Nothing);
     }
-    let push = after_word(line, b"push");
-    if push > 0 {
-        return push_ask(line, push, words);
-    }
-    let start = after_word(line, b"start");
-    if start > 0 {
-        return start_ask(line, start, words);
-    }
-    let raw = after_word(line, b"words");
-    if raw > 0 {
-        return words_ask(line, raw, words);
-    }
-    short_ask(line)
+    read_fields(from_utf8(line).ok()?, words)
 }

@@ -22,39 +22,17 @@ pub const OLD_WORDS: usize = MOST_LENGTH + STORE_WORDS;
 // The input and the output wait in so many bytes.
 pub const TEXT_ROOM: usize = 65536;
 
-// The lesser of a and b.
-pub fn least(a: usize, b: usize) -> usize
-    ensures { (result ≤ a) × (result ≤ b) }
-{
-    if a < b { a } else { b }
-}
-
 // As many words of `words` as n, or all.
 pub fn part(n: usize, words: &[u64]) -> usize
     ensures { (result ≤ length words.now) × (result ≡ length (take result words.now)) }
 {
-    least(n, words.len())
+    n.min(words.len())
 }
 
+// As many words as both have.
 pub fn copy(from: &[u64], to: &mut [u64]) {
-    let n = least(from.len(), to.len());
-    let mut i = 0;
-    while i < n {
-        to[i] = from[i];
-        i += 1;
-    }
-}
-
-pub fn same(a: &[u64], b: &[u64]) -> bool {
-    let n = least(a.len(), b.len());
-    let mut i = 0;
-    while i < n {
-        if a[i] != b[i] {
-            return false;
-        }
-        i += 1;
-    }
-    true
+    let n = from.len().min(to.len());
+    to[..n].copy_from_slice(&from[..n]);
 }
 
 // What word i of the row buffer holds between calls: no two words the same, so a stray write shows.
@@ -66,31 +44,19 @@ fn resting(i: usize) -> u64
 
 // The first n words of the row buffer as they are between calls.
 pub fn rest(rows: &mut [u64], n: usize) {
-    let most = least(n, ROOM_WORDS);
-    let m = least(most, rows.len());
-    let mut i = 0;
-    while i < m {
-        rows[i] = resting(i);
-        i += 1;
+    for (i, word) in rows.iter_mut().take(n.min(ROOM_WORDS)).enumerate() {
+        *word = resting(i);
     }
 }
 
 pub fn is_resting(rows: &[u64]) -> bool {
-    let n = least(rows.len(), ROOM_WORDS);
-    let mut i = 0;
-    while i < n {
-        if rows[i] != resting(i) {
-            return false;
-        }
-        i += 1;
-    }
-    true
+    rows.iter()
+        .take(ROOM_WORDS)
+        .enumerate()
+        .all(|(i, word)| *word == resting(i))
 }
 
 // The words of n rows, of as many as are ever lent.
 pub fn row_words(n: u64) -> usize {
-    if n < MOST_ROOM as u64 {
-        return n as usize * ROW_WORDS;
-    }
-    ROOM_WORDS
+    n.min(MOST_ROOM as u64) as usize * ROW_WORDS
 }

@@ -10,14 +10,14 @@ use std::io::Read;
 use text_lines::{Found, Turn, next_turn};
 
 // Where reading stands: the unread bytes of the buffer are from `at` up to `end`; `lines` were read, the last of
-// which asks for `ask`; `turns` are left.
+// which asks for `ask`, none where it is bad; `turns` are left.
 #[derive(Clone, Copy)]
 pub struct Window {
     pub at: usize,
     pub end: usize,
     pub lines: u64,
     pub turns: u64,
-    pub ask: Ask,
+    pub ask: Option<Ask>,
 }
 
 fn next(n: u64) -> u64 {
@@ -70,7 +70,7 @@ pub fn unasked(at: usize, end: usize, lines: u64, turns: u64) -> Window
         end,
         lines,
         turns,
-        ask: Ask::Nothing,
+        ask: Some(Ask::Nothing),
     }
 }
 
@@ -100,7 +100,7 @@ fn turn<R: Read>(input: &mut R, w: Window, buf: &mut [u8], words: &mut [u64; MOS
 fn turns_left(wanted: u64, left: u64) -> u64
     ensures { result ≤ left }
 {
-    if wanted < left { wanted } else { left }
+    wanted.min(left)
 }
 
 // A turn over an array, whose length needs no word in a loop.
@@ -113,14 +113,9 @@ pub fn turn_all<R: Read>(
     requires { (w.at ≤ w.end) × ((w.end ≤ 65536) × (0 < w.turns)) }
     ensures { (result.at ≤ result.end) × ((result.end ≤ 65536) × (result.turns < w.turns)) }
 {
-    let left = w.turns - 1;
     let r = turn(input, w, buf, words);
-    let ask = r.ask;
     Window {
-        at: r.at,
-        end: r.end,
-        lines: r.lines,
-        turns: turns_left(r.turns, left),
-        ask,
+        turns: turns_left(r.turns, w.turns - 1),
+        ..r
     }
 }

@@ -53,10 +53,8 @@ pub fn root_at_most(x: f64, y: f64) -> bool
 {
     let a = floats::bits(x);
     let b = floats::bits(y);
-    if is_normal(a) {
-        if is_normal(b) {
-            return normal_at_most(a, b);
-        }
+    if is_normal(a) && is_normal(b) {
+        return normal_at_most(a, b);
     }
     root(x) <= y
 }

@@ -17,8 +17,7 @@ pub fn by_digits(m: u64) -> u64
     let mut x = m << 10;
     let mut root: u64 = 0;
     let mut rest: u64 = 0;
-    let mut i: u64 = 0;
-    while i < 53 {
+    for _ in 0..53u64 {
         rest = rest * 4 + x / 0x4000_0000_0000_0000;
         x = x << 2;
         let t = root * 4 + 1;
@@ -28,7 +27,6 @@ pub fn by_digits(m: u64) -> u64
         } else {
             root = root * 2;
         }
-        i += 1;
     }
     if rest > root { root + 1 } else { root }
 }

@@ -23,10 +23,8 @@ pub fn axes_mask(codes: &[u64]) -> u64
     ensures { result ≡ mask_sum (λ (k : ℕ). member k codes.now) axis_codes }
 {
     let mut m: u64 = 0;
-    let mut i: usize = 0;
-    while i < codes.len() {
-        m = with_axis(m, codes[i]);
-        i += 1;
+    for code in codes {
+        m = with_axis(m, *code);
     }
     m
 }

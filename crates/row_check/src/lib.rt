@@ -4,13 +4,16 @@
 ghost use Rattle.std.specs.Prelude.{◌≡◌, length};
 ghost use Rattle.layout.specs.Layout.{row_words};
 ghost use Rattle.row_cells.specs.Codes.{plane_ok};
+ghost use Rattle.refusal.specs.Codes.{code_of};
 ghost use Rattle.row_check.specs.Check.{shape_ok, fields_ok, row_check};
 
 use layout::{CELL_MASKS, LINE_NUMBERS, R_LINE, R_MARK, R_MOTION, R_PLANE, R_PRESENT, ROW_WORDS};
 use motion::LAST_MOTION;
+use refusal::Refusal;
 use row_cells::{PLANE_XY, PLANE_YZ};
 use row_numbers::{numbers_ok, turn_ok};
 
+#[tactic(auto, unfolding(row_cells::specs::Codes::plane_ok))]
 pub fn plane_ok(p: u64) -> bool
     ensures { result ≡ plane_ok p }
 {
@@ -22,42 +25,32 @@ fn fields_ok(row: &[u64]) -> bool
     requires { length row.now ≡ row_words }
     ensures { result ≡ fields_ok row.now }
 {
-    if !plane_ok(row[R_PLANE]) {
-        return false;
-    }
-    if row[R_MARK] != 0 {
-        return false;
-    }
-    row[R_PRESENT] < CELL_MASKS
+    plane_ok(row[R_PLANE]) && row[R_MARK] == 0 && row[R_PRESENT] < CELL_MASKS
 }
 
+#[tactic(auto, unfolding(crate::specs::Check::shape_ok))]
 pub fn shape_ok(row: &[u64]) -> bool
     ensures { result ≡ shape_ok row.now }
 {
-    if row.len() != ROW_WORDS {
-        return false;
-    }
-    if row[R_LINE] >= LINE_NUMBERS {
-        return false;
-    }
-    if row[R_MOTION] > LAST_MOTION {
-        return false;
-    }
-    fields_ok(row)
+    row.len() == ROW_WORDS
+        && row[R_LINE] < LINE_NUMBERS
+        && row[R_MOTION] <= LAST_MOTION
+        && fields_ok(row)
 }
 
-// 0, or the number of the refusal that an incoming row is due.
-pub fn check_row(row: &[u64]) -> u64
-    ensures { result ≡ row_check row.now }
+// The refusal that an incoming row is due.
+#[tactic(auto, unfolding(crate::specs::Check::row_check, crate::specs::Check::shape_ok))]
+pub fn check_row(row: &[u64]) -> Result<(), Refusal>
+    ensures { code_of result ≡ row_check row.now }
 {
     if !shape_ok(row) {
-        return 4;
+        return Err(Refusal::BadRow);
     }
     if !numbers_ok(row) {
-        return 3;
+        return Err(Refusal::BadNumber);
     }
     if !turn_ok(row) {
-        return 5;
+        return Err(Refusal::TooManyTurns);
     }
-    0
+    Ok(())
 }

@@ -37,11 +37,7 @@ fn clear_cells(rows: &mut [u64], at: usize)
     requires { at + cells ≤ length rows.old }
     ensures { rows.new ≡ spliced rows.old at (upto zeros cells) }
 {
-    let mut k: usize = 0;
-    while k < CELLS {
-        rows[at + k] = 0;
-        k += 1;
-    }
+    rows[at..at + CELLS].fill(0);
 }
 
 // Lays over the cells from word `at` on the words that a mask has. No other word is read.
@@ -50,6 +46,7 @@ pub fn lay_cells(rows: &mut [u64], at: usize, mask: u64, words: &[u64])
     ensures { Laid rows.old at mask words.now rows.new }
 {
     let mut rest = mask;
+    // No `for`: the turns are the bits that are left, and the mask has few of them.
     while rest != 0 {
         let k = lowest_bit(rest);
         rows[at + k] = words[k];

@@ -39,6 +39,7 @@ fn cells_ok(row: &[u64], mask: u64) -> bool
     ensures { result ≡ mask_ok row.now mask }
 {
     let mut rest = mask;
+    // No `for`: the turns are the bits that are left, and the mask has few of them.
     while rest != 0 {
         if !within_range(row[R_CELLS + lowest_bit(rest)]) {
             return false;
@@ -51,13 +52,7 @@ fn cells_ok(row: &[u64], mask: u64) -> bool
 fn three_within(x: u64, y: u64, z: u64) -> bool
     ensures { result ≡ (within x && (within y && within z)) }
 {
-    if !within_range(x) {
-        return false;
-    }
-    if !within_range(y) {
-        return false;
-    }
-    within_range(z)
+    within_range(x) && within_range(y) && within_range(z)
 }
 
 // Whether the cells that are there are in range. An absent cell is not read. Most rows have X, Y and Z: they are tested
@@ -70,10 +65,7 @@ pub fn numbers_ok(row: &[u64]) -> bool
     if present % XYZ_MASKS != XYZ {
         return cells_ok(row, present);
     }
-    if !three_within(row[R_CELLS], row[R_CELLS + 1], row[R_CELLS + 2]) {
-        return false;
-    }
-    cells_ok(row, present - XYZ)
+    three_within(row[R_CELLS], row[R_CELLS + 1], row[R_CELLS + 2]) && cells_ok(row, present - XYZ)
 }
 
 pub fn turn_ok(row: &[u64]) -> bool

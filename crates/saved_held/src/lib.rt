@@ -8,17 +8,12 @@ ghost use Rattle.saved_state.specs.State.{held_ok, from_degree};
 use layout::{MOST_DEGREE, MOST_HELD, W_DEGREE, W_HELD, W_MOTION};
 use motion::{is_spline, kind_of};
 
+#[tactic(auto, unfolding(saved_state::specs::State::held_ok, motion::specs::Motion::is_spline))]
 fn held_ok(state: &[u64]) -> bool
     requires { length state.now ≡ state_words }
     ensures { result ≡ held_ok state.now }
 {
-    if state[W_HELD] > MOST_HELD {
-        return false;
-    }
-    if state[W_HELD] == 0 {
-        return true;
-    }
-    is_spline(kind_of(state[W_MOTION]))
+    state[W_HELD] <= MOST_HELD && (state[W_HELD] == 0 || is_spline(kind_of(state[W_MOTION])))
 }
 
 pub fn between(low: u64, x: u64, high: u64) -> bool
@@ -31,8 +26,5 @@ pub fn ok_from_degree(state: &[u64]) -> bool
     requires { length state.now ≡ state_words }
     ensures { result ≡ from_degree state.now }
 {
-    if !between(1, state[W_DEGREE], MOST_DEGREE) {
-        return false;
-    }
-    held_ok(state)
+    between(1, state[W_DEGREE], MOST_DEGREE) && held_ok(state)
 }

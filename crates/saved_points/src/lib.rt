@@ -18,10 +18,7 @@ fn point_at_ok(state: &[u64], w: usize, gs: u64, k: usize) -> bool
     requires { (PointOf state.now w gs) × ((has (get_or state.now w 0) k ≡ true) × (k < axis_codes)) }
     ensures { result ≡ point_at_ok state.now w k }
 {
-    if !has_bit(gs, k as u64) {
-        return false;
-    }
-    within_range(state[w + 1 + k])
+    has_bit(gs, k as u64) && within_range(state[w + 1 + k])
 }
 
 // Whether the axes that the point at word w has are in order. The other words are not read.
@@ -29,6 +26,7 @@ fn point_axes_ok(state: &[u64], w: usize, gs: u64) -> bool
     requires { (PointOf state.now w gs) × (get_or state.now w 0 < axis_masks) }
     ensures { result ≡ all axis_codes (point_at_ok state.now w) }
 {
+    // while: over the bits that are set, which no range counts
     let mut rest = state[w];
     while rest != 0 {
         if !point_at_ok(state, w, gs, lowest_bit(rest)) {
@@ -40,15 +38,10 @@ fn point_axes_ok(state: &[u64], w: usize, gs: u64) -> bool
 }
 
 // Whether the point at word w is in order: its mask, then each axis that it has.
+#[tactic(auto, unfolding(saved_state::specs::State::point_ok))]
 pub fn point_ok(state: &[u64], w: usize) -> bool
     requires { (Listed state.now) × (w ≤ w_start) }
     ensures { result ≡ point_ok state.now w }
 {
-    if state[w] == 0 {
-        return true;
-    }
-    if state[w] >= AXIS_MASKS {
-        return false;
-    }
-    point_axes_ok(state, w, geometric_mask(state))
+    state[w] == 0 || (state[w] < AXIS_MASKS && point_axes_ok(state, w, geometric_mask(state)))
 }

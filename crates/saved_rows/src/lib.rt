@@ -12,29 +12,18 @@ use row_check::shape_ok;
 use row_numbers::{numbers_ok, turn_ok};
 
 // Whether a row could be pushed. The checks one by one, as the compiler then joins them to the loop over the held rows.
+#[tactic(auto, unfolding(row_check::specs::Check::row_check, row_check::specs::Check::shape_ok))]
 fn row_ok(row: &[u64]) -> bool
     ensures { result ≡ eqb (row_check row.now) 0 }
 {
-    if !shape_ok(row) {
-        return false;
-    }
-    if !numbers_ok(row) {
-        return false;
-    }
-    turn_ok(row)
+    shape_ok(row) && numbers_ok(row) && turn_ok(row)
 }
 
 // Whether a row could be pushed, and has no motion or this one.
 fn row_fits(row: &[u64], motion: u64) -> bool
     ensures { result ≡ row_fits motion row.now }
 {
-    if !row_ok(row) {
-        return false;
-    }
-    if row[R_MOTION] == 0 {
-        return true;
-    }
-    row[R_MOTION] == motion
+    row_ok(row) && (row[R_MOTION] == 0 || row[R_MOTION] == motion)
 }
 
 fn held_row_ok(state: &[u64], store: &[u64], i: usize) -> bool
@@ -42,8 +31,7 @@ fn held_row_ok(state: &[u64], store: &[u64], i: usize) -> bool
     ensures { result ≡ held_row_ok state.now store.now i }
 {
     let at = i * ROW_WORDS;
-    let e = at + ROW_WORDS;
-    row_fits(&store[at..e], state[W_MOTION])
+    row_fits(&store[at..at + ROW_WORDS], state[W_MOTION])
 }
 
 // Whether the first n rows of the store fit the state.
@@ -51,12 +39,10 @@ pub fn held_rows_ok(state: &[u64], store: &[u64], n: usize) -> bool
     requires { (length state.now ≡ state_words) × (n * row_words ≤ length store.now) }
     ensures { result ≡ all n (held_row_ok state.now store.now) }
 {
-    let mut i: usize = 0;
-    while i < n {
+    for i in 0..n {
         if !held_row_ok(state, store, i) {
             return false;
         }
-        i += 1;
     }
     true
 }

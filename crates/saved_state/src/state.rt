@@ -15,6 +15,7 @@ pub const PLAIN_DEGREE: u64 = 3;
 // The bits of infinity: a number's below them are finite.
 const INFINITY: u64 = 0x7FF0_0000_0000_0000;
 
+#[tactic(auto, unfolding(crate::specs::State::tol_ok))]
 pub fn tol_ok(x: u64) -> bool
     ensures { result ≡ tol_ok x }
 {
@@ -25,10 +26,7 @@ pub fn tol_ok(x: u64) -> bool
 fn is_new(seen: u64, code: u64) -> bool
     ensures { result ≡ (leb code last_code && not (has seen code)) }
 {
-    if code > LAST_CODE as u64 {
-        return false;
-    }
-    !has_bit(seen, code)
+    code <= LAST_CODE as u64 && !has_bit(seen, code)
 }
 
 pub fn codes_ok(axes: &[u64]) -> bool
@@ -38,28 +36,22 @@ pub fn codes_ok(axes: &[u64]) -> bool
         return false;
     }
     let mut seen: u64 = 0;
-    let mut i: usize = 0;
-    while i < axes.len() {
-        let code = axes[i];
-        if !is_new(seen, code) {
+    for code in axes {
+        if !is_new(seen, *code) {
             return false;
         }
-        seen = set_bit(seen, code);
-        i += 1;
+        seen = set_bit(seen, *code);
     }
     true
 }
 
+#[tactic(auto, unfolding(crate::specs::State::axes_ok))]
 pub fn axes_ok(state: &[u64]) -> bool
     requires { length state.now ≡ state_words }
     ensures { result ≡ axes_ok state.now }
 {
     let n = state[W_AXIS_COUNT];
-    if n > LIST_CODES as u64 {
-        return false;
-    }
-    let e = W_AXES + n as usize;
-    codes_ok(&state[W_AXES..e])
+    n <= LIST_CODES as u64 && codes_ok(&state[W_AXES..W_AXES + n as usize])
 }
 
 // The mask of the geometric axes.
@@ -67,8 +59,7 @@ pub fn geometric_mask(state: &[u64]) -> u64
     requires { Listed state.now }
     ensures { result ≡ geometric_mask state.now }
 {
-    let e = W_AXES + state[W_AXIS_COUNT] as usize;
-    row_axes::axes_mask(&state[W_AXES..e])
+    row_axes::axes_mask(&state[W_AXES..W_AXES + state[W_AXIS_COUNT] as usize])
 }
 
 // Whether axis k is a geometric one.
@@ -76,13 +67,11 @@ pub fn is_geometric(state: &[u64], k: u64) -> bool
     requires { Listed state.now }
     ensures { result ≡ member k (geometric state.now) }
 {
-    if k >= AXIS_CODES as u64 {
-        return false;
-    }
-    has_bit(geometric_mask(state), k)
+    k < AXIS_CODES as u64 && has_bit(geometric_mask(state), k)
 }
 
 // Axis k is known at x from now on.
+#[tactic(auto, unfolding(crate::specs::State::placed))]
 pub fn place(state: &mut [u64], k: usize, x: u64)
     requires { (length state.old ≡ state_words) × (k < axis_codes) }
     ensures { state.new ≡ placed state.old k x }

@@ -16,39 +16,21 @@ fn ok_from_known(state: &[u64]) -> bool
     requires { Listed state.now }
     ensures { result ≡ from_known state.now }
 {
-    if !point_ok(state, W_KNOWN) {
-        return false;
-    }
-    if !point_ok(state, W_START) {
-        return false;
-    }
-    ok_from_degree(state)
+    point_ok(state, W_KNOWN) && point_ok(state, W_START) && ok_from_degree(state)
 }
 
 fn ok_from_motion(state: &[u64]) -> bool
     requires { Listed state.now }
     ensures { result ≡ from_motion state.now }
 {
-    if !between(1, state[W_MOTION], LAST_MOTION) {
-        return false;
-    }
-    if !between(PLANE_XY, state[W_PLANE], PLANE_YZ) {
-        return false;
-    }
-    ok_from_known(state)
+    between(1, state[W_MOTION], LAST_MOTION)
+        && between(PLANE_XY, state[W_PLANE], PLANE_YZ)
+        && ok_from_known(state)
 }
 
+#[tactic(auto, unfolding(saved_state::specs::State::state_ok))]
 pub fn state_ok(state: &[u64]) -> bool
     ensures { result ≡ state_ok state.now }
 {
-    if !is_state(state) {
-        return false;
-    }
-    if !tol_ok(state[W_TOLERANCE]) {
-        return false;
-    }
-    if !axes_ok(state) {
-        return false;
-    }
-    ok_from_motion(state)
+    is_state(state) && tol_ok(state[W_TOLERANCE]) && axes_ok(state) && ok_from_motion(state)
 }

@@ -13,10 +13,7 @@ use spline_channels::{is_listed, programs};
 fn is_new(present: u64, known: &[u64], k: u64) -> bool
     ensures { result ≡ is_new present known.now k }
 {
-    if !programs(present, k) {
-        return false;
-    }
-    !is_listed(known, k)
+    programs(present, k) && !is_listed(known, k)
 }
 
 // Writes code k behind the m channels, where it is new beside the first n.
@@ -37,10 +34,8 @@ fn add_channels(axes: &[u64], present: u64, chans: &mut [u64], n: usize) -> usiz
     ensures { Appended (keep (is_new present (take n chans.old)) axes.now) n chans.old chans.new result }
 {
     let mut m = n;
-    let mut i: usize = 0;
-    while i < axes.len() {
-        m = add_channel(present, chans, n, m, axes[i]);
-        i += 1;
+    for k in axes {
+        m = add_channel(present, chans, n, m, *k);
     }
     m
 }
@@ -51,10 +46,8 @@ pub fn channels_of(axes: &[u64], store: &[u64], held: usize, chans: &mut [u64]) 
     ensures { ChannelsPut axes.now store.now held chans.old chans.new result }
 {
     let mut n: usize = 0;
-    let mut i: usize = 0;
-    while i < held {
+    for i in 0..held {
         n = add_channels(axes, store[i * ROW_WORDS + R_PRESENT], chans, n);
-        i += 1;
     }
     n
 }

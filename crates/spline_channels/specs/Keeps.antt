@@ -1,14 +1,16 @@
--- LAWS. `keep`, `any_of`, `member` and `place_of` for code that goes by index. Assumes nothing.
+-- LAWS. `keep`, `any_of`, `member` and `place_of` for code that searches a list. Assumes nothing.
 use Prim.Native.Nat.{ℕ, zero, suc, ◌+◌, ◌≤◌, ◌<◌}
-use Rattle.std.specs.Prelude.{◌≡◌, Bool, ◌&&◌, ◌||◌, eqb, ltb, get_or, take, drop}
+use Rattle.std.specs.Prelude.{◌≡◌, ◌≢◌, ◌↔◌, Bool, ◌&&◌, ◌||◌, eqb, get_or, take, drop, IsTrue, EachIndex, Option, Some, None, MatchOption}
+use Rattle.std.specs.Option.{unwrap_or}
+use Rattle.std.specs.List.{list_any}
+use Rattle.std.proofs.lemmas.Bool.{false≢true}
 use Rattle.std.proofs.Math.Path.{refl, ap}
-use Rattle.std.proofs.Common.{sym, ◌∙◌, add-one, eq-eqb, ne_eqb, lt-ltb, le-ltb, ltb-true, ltb-false, length-append, take-append-drop}
-use Rattle.std.proofs.Common.{drop_of_length-le, take-suc}
+use Rattle.std.proofs.Common.{sym, ◌∙◌, add-one, eq-eqb, ne_eqb, length-append, take-append-drop}
+use Rattle.std.proofs.Common.{take-suc}
 use Rattle.std.proofs.Math.Bool.{true, false, cond, or-true}
 use mathlib.Core.List.{List, [], ◌∷◌, ◌++◌}
 use native.Mathlib.Omega.{arith}
 use Rattle.std.proofs.Math.ListN.{length}
-use Rattle.std.proofs.Math.Seq.{drop-cons}
 use Rattle.floats.specs.Fill.{length-upto}
 use Rattle.floats.specs.Joins.{keep_append}
 use Rattle.floats.specs.Lists.{upto, keep, member, any_of}
@@ -46,19 +48,26 @@ module _ {A : Type 0} (p : A → Bool) where
       sym (length-append (keep p a) (keep p b)) ∙ ap length (sym (keep_append p a b) ∙ ap (keep p) (take-append-drop (i + 1) xs)) in
       omega arith
 
-  any_here : (xs : List A) (i : ℕ) (d : A) → i < length xs → any_of p (drop i xs) ≡ (p (get_or xs i d) || any_of p (drop (i + 1) xs))
+  any-at : (xs : List A) (i : ℕ) (d : A) → i < length xs → p (get_or xs i d) ≡ true → any_of p xs ≡ true
   unfolding any_of
-  any_here xs i d h = rw (add-one, drop-cons xs i d)
+  any-at [] i d h e = absurd (omega arith)
+  any-at (x ∷ xs) zero d h e = rw e
+  any-at (x ∷ xs) (suc i) d h e = rw (any-at xs i d (omega arith) e) (or-true (p x))
 
-  pub any_hit : (xs : List A) (i : ℕ) (d : A) → i < length xs → p (get_or xs i d) ≡ true → any_of p (drop i xs) ≡ true
-  any_hit xs i d h e = any_here xs i d h ∙ rw e
-
-  pub any_miss : (xs : List A) (i : ℕ) (d : A) → i < length xs → p (get_or xs i d) ≡ false → any_of p (drop i xs) ≡ any_of p (drop (i + 1) xs)
-  any_miss xs i d h e = any_here xs i d h ∙ rw e
-
-  pub any_none : (xs : List A) (i : ℕ) → length xs ≤ i → any_of p (drop i xs) ≡ false
+  any-where : (xs : List A) (d : A) → any_of p xs ≡ true → (i : ℕ) × (i < length xs) × (p (get_or xs i d) ≡ true)
   unfolding any_of
-  any_none xs i h = rw (drop_of_length-le xs h)
+  any-where [] d e = absurd (false≢true e)
+  any-where (x ∷ xs) d e = one (p x) refl (any-where xs d)
+    where
+      one : (b : Bool) → p x ≡ b → (any_of p xs ≡ true → (i : ℕ) × (i < length xs) × (p (get_or xs i d) ≡ true))
+          → (i : ℕ) × (i < suc (length xs)) × (p (get_or (x ∷ xs) i d) ≡ true)
+      one true h more = (0, omega arith, h)
+      one false h more = let r = more (rw h at e) in (suc r.0, omega (arith, r.1), r.2)
+
+  -- a search says whether one passes
+  pub any-is : (xs : List A) (d : A) (b : Bool) → IsTrue b ↔ ((i : ℕ) × (i < length xs) × (p (get_or xs i d) ≡ true)) → b ≡ any_of p xs
+  any-is xs d true h = let r = h.0 refl in sym (any-at xs r.0 d r.1 r.2)
+  any-is xs d false h = by_bit (any_of p xs) (λ e. absurd (false≢true (h.1 (any-where xs d e)))) (λ e. sym e)
 
 module _ {A : Type 0} (p q : A → Bool) where
   pub any_keep : (xs : List A) → any_of p (keep q xs) ≡ any_of (λ (x : A). q x && p x) xs
@@ -102,30 +111,19 @@ member-at [] i h = absurd (omega arith)
 member-at (x ∷ xs) zero h = member-here x xs
 member-at (x ∷ xs) (suc i) h = rw (member-at xs i (omega arith)) (or-true (eqb x (get_or xs i 0)))
 
--- ---- the place of a code, searched from the first on
-pub place-hit : (k : ℕ) (cs : List ℕ) (i : ℕ) → i < length cs → get_or cs i 0 ≡ k → i ≡ i + place_of k (drop i cs)
+-- ---- the place of a code, found by a search
+pub place-found : (k : ℕ) (cs : List ℕ) (o : Option ℕ) → MatchOption o (EachIndex cs (λ i. get_or cs i 0 ≢ k))
+    (λ i. (i < length cs) × ((get_or cs i 0 ≡ k) × ((j : ℕ) → j < i → get_or cs j 0 ≢ k))) → unwrap_or o (length cs) ≡ place_of k cs
 unfolding place_of
-place-hit k cs i h e = rw (drop-cons cs i 0 h, eq-eqb (get_or cs i 0) k e) (omega arith)
+place-found k [] None h = refl
+place-found k [] (Some i) h = absurd (omega (arith, h.0))
+place-found k (c ∷ cs) None h = rw (ne_eqb c k (h 0 (omega arith)), ← place-found k cs None (λ i l. h (suc i) (omega arith))) (omega arith)
+place-found k (c ∷ cs) (Some zero) h = rw (eq-eqb c k h.1.0)
+place-found k (c ∷ cs) (Some (suc i)) h =
+    rw (ne_eqb c k (h.1.1 0 (omega arith)), ← place-found k cs (Some i) (omega (arith, h.0), (h.1.0, λ j l. h.1.1 (suc j) (omega arith)))) (omega arith)
 
-pub place-miss : (k : ℕ) (cs : List ℕ) (i : ℕ) → i < length cs → (get_or cs i 0 ≡ k → ⊥) → i + place_of k (drop i cs) ≡ i + 1 + place_of k (drop (i + 1) cs)
-unfolding place_of
-place-miss k cs i h e = rw (drop-cons cs i 0 h, ne_eqb (get_or cs i 0) k e, add-one i) (omega arith)
-
-pub place_end : (k : ℕ) (cs : List ℕ) (i : ℕ) → length cs ≤ i → i ≡ i + place_of k (drop i cs)
-unfolding place_of
-place_end k cs i h = rw (drop_of_length-le cs h) (omega arith)
-
--- a code is listed where its place is one of the list's
-pub member-placed : (k : ℕ) (xs : List ℕ) → ltb (place_of k xs) (length xs) ≡ member k xs
-unfolding member place_of
-member-placed k [] = le-ltb 0 0 (omega arith)
-member-placed k (x ∷ xs) = one (eqb x k) (member-placed k xs)
-  where
-    next : (m n : ℕ) → ltb (m + 1) (suc n) ≡ ltb m n
-    next m n = by_bit (ltb m n)
-        (λ b. lt-ltb (m + 1) (suc n) (omega (arith, ltb-true m n b)) ∙ sym b)
-        (λ b. le-ltb (m + 1) (suc n) (omega (arith, ltb-false m n b)) ∙ sym b)
-
-    one : (b : Bool) → ltb (place_of k xs) (length xs) ≡ member k xs → ltb (cond b 0 (place_of k xs + 1)) (suc (length xs)) ≡ (b || member k xs)
-    one true e = lt-ltb 0 (suc (length xs)) (omega arith)
-    one false e = next (place_of k xs) (length xs) ∙ e
+-- a code is listed where the list contains it
+pub member-listed : (k : ℕ) (xs : List ℕ) → list_any (λ y. eqb y k) xs ≡ member k xs
+unfolding member
+member-listed k [] = refl
+member-listed k (x ∷ xs) = rw (member-listed k xs)

@@ -1,5 +1,6 @@
 pub mod Channels
 pub mod Gathers
 pub mod Keeps
+pub mod ByIndex
 pub mod Append
 pub mod Flat

@@ -26,10 +26,7 @@ pub fn block(store: &[u64], i: usize) -> &[u64]
 pub fn programs(present: u64, k: u64) -> bool
     ensures { result ≡ ltb k axis_codes && has present k }
 {
-    if k >= AXIS_CODES as u64 {
-        return false;
-    }
-    has_bit(present, k)
+    k < AXIS_CODES as u64 && has_bit(present, k)
 }
 
 // Whether the row has a point: some geometric axis of the list is programmed.
@@ -38,32 +35,21 @@ pub fn has_point(axes: &[u64], row: &[u64]) -> bool
     ensures { result ≡ has_point (geometric_of axes.now) row.now }
 {
     let present = row[R_PRESENT];
-    let mut i: usize = 0;
-    while i < axes.len() {
-        if programs(present, axes[i]) {
-            return true;
-        }
-        i += 1;
-    }
-    false
+    axes.iter().any(|k| programs(present, *k))
 }
 
 // The place of code k in a list, the list's length where it is not there.
 pub fn place_of(codes: &[u64], k: u64) -> usize
     ensures { result ≡ place_of k codes.now }
 {
-    let mut i: usize = 0;
-    while i < codes.len() {
-        if codes[i] == k {
-            return i;
-        }
-        i += 1;
-    }
-    i
+    codes
+        .iter()
+        .position(|code| *code == k)
+        .unwrap_or(codes.len())
 }
 
 pub fn is_listed(codes: &[u64], k: u64) -> bool
     ensures { result ≡ member k codes.now }
 {
-    place_of(codes, k) < codes.len()
+    codes.contains(&k)
 }

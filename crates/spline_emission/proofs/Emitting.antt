@@ -1,7 +1,5 @@
--- LAWS. What is planned and written is emitted; work memory for so many numbers. Assumes nothing.
-use Prim.Native.Nat.{ℕ, ◌+◌, ◌*◌, ◌≤◌}
-use native.Mathlib.Omega.{arith}
-use lib.ListN.{length}
+-- LAWS. What is planned and written is emitted. Assumes nothing.
+use Prim.Native.Nat.{ℕ, ◌≤◌}
 use mathlib.Core.Path.{subst, ◌≡◌}
 use mathlib.Core.List.{List}
 use lib.Ieee.{Float}
@@ -9,7 +7,6 @@ use Rattle.spline_plan.specs.declared.Emission.{Emission}
 use Rattle.spline_job.specs.declared.Job.{Job}
 use Rattle.spline_write.specs.Emits.{most_own, Plans, Emitted, EmittedAs}
 use Rattle.spline_plan.specs.Plans.{Planned}
-use Rattle.spline_emission.specs.Sizes.{Numbers}
 
 -- ---- what is planned and written is emitted
 module _ {axes words store : List ℕ} {e : Emission} {pts ws ks cs : List Float} {counts lefts : List ℕ} (job : Job) (ej : e.job ≡ job)
@@ -21,10 +18,3 @@ module _ {axes words store : List ℕ} {e : Emission} {pts ws ks cs : List Float
   pub emitted_by : {rows out : List ℕ} {r : ℕ} → EmittedAs axes store e pts ws ks cs counts lefts rows r out → Emitted job axes words store rows r out
   unfolding plans_of
   emitted_by {rows} {out} {r} a = subst (λ (j : Job). Emitted j axes words store rows r out) ej (a.from plans_of)
-
--- ---- arrays for w numbers have room for no more, and for their points
-pub numbers_in : {pts cs : List Float} (held ch w : ℕ) → held + 1 ≤ w → (held + 1) * ch ≤ w → w ≤ length pts → 2 * w ≤ length cs → Numbers held ch pts cs
-numbers_in held ch w long cells lp lc = record {
-  points = omega arith;
-  controls = record { fit = omega arith; basis = omega arith };
-}

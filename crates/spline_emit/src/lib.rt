@@ -41,15 +41,11 @@ fn emit_for(
     ensures { Emitted job axes.now words.now store.now rows.old result rows.new }
 {
     let held = job.held;
-    if held < SMALL_POINTS {
-        if size <= SMALL_NUMBERS {
-            return emit_small(job, axes, words, store, rows);
-        }
+    if held < SMALL_POINTS && size <= SMALL_NUMBERS {
+        return emit_small(job, axes, words, store, rows);
     }
-    if held < MIDDLE_POINTS {
-        if size <= MIDDLE_NUMBERS {
-            return emit_middle(job, axes, words, store, rows);
-        }
+    if held < MIDDLE_POINTS && size <= MIDDLE_NUMBERS {
+        return emit_middle(job, axes, words, store, rows);
     }
     if size <= LARGE_NUMBERS {
         return emit_large(job, axes, words, store, rows);
@@ -69,7 +65,6 @@ pub fn emit_within(job: Job, axes: &[u64], words: &[u64], store: &[u64], rows: &
     requires { Holds axes.now words.now store.now job.held × (job.own ≤ most_own) }
     ensures { Emitted job axes.now words.now store.now rows.old result rows.new }
 {
-    let held = job.held;
-    let ch = count_channels(axes, store, held);
-    emit_for((held + 1) * ch, job, axes, words, store, rows)
+    let ch = count_channels(axes, store, job.held);
+    emit_for((job.held + 1) * ch, job, axes, words, store, rows)
 }

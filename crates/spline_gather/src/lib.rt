@@ -22,9 +22,7 @@ fn first_value(store: &[u64], held: usize, k: u64) -> f64
     ensures { result ≡ num (first_cell k (upto (block_at store.now) held)) }
 {
     let mut value: f64 = 0.0;
-    let mut i = held;
-    while i > 0 {
-        i -= 1;
+    for i in (0..held).rev() {
         value = next_value(block(store, i), k, value);
     }
     value
@@ -54,10 +52,8 @@ fn start_point(
     requires chans_in_bounds { length chans.now ≤ length pts.old }
     ensures { StartPut start words.now store.now held chans.now pts.old pts.new }
 {
-    let mut c: usize = 0;
-    while c < chans.len() {
-        pts[c] = start_value(start, words, store, held, chans[c]);
-        c += 1;
+    for (c, k) in chans.iter().enumerate() {
+        pts[c] = start_value(start, words, store, held, *k);
     }
 }
 
@@ -98,10 +94,8 @@ fn add_points(
     ensures weights_put { WeightsPut axes.now store.now held ws.old ws.new result }
 {
     let mut n: usize = 1;
-    let mut i: usize = 0;
-    while i < held {
+    for i in 0..held {
         n = add_point(axes, block(store, i), chans, pts, ws, n);
-        i += 1;
     }
     n
 }

@@ -31,9 +31,8 @@ pub struct Curve {
 pub fn drawing_of(job: Job, curve: Curve) -> Drawing
     ensures { result ≡ drawing_of job curve }
 {
-    let kind = kind_of(job.motion);
     Drawing {
-        kind: kind,
+        kind: kind_of(job.motion),
         degree: job.degree as usize,
         n: curve.n,
         ch: curve.ch,

@@ -9,6 +9,7 @@ use motion::G1;
 use spline_places::frame::Frame;
 
 // The first row's motion: G1 on the first point block, none on later ones.
+#[tactic(auto, unfolding(crate::specs::Marks::raw_motion))]
 pub fn motion_of(j: usize) -> u64
     ensures { result ≡ raw_motion j }
 {
@@ -16,15 +17,10 @@ pub fn motion_of(j: usize) -> u64
 }
 
 // Whether row t of c of point block j is a generated one.
+#[tactic(auto, unfolding(crate::specs::Marks::raw_mark))]
 pub fn is_marked(o: Frame, j: usize, c: usize, t: usize) -> bool
     requires { (t < c) × (j < most_held) }
     ensures { result ≡ raw_mark o j c t }
 {
-    if t + 1 != c {
-        return true;
-    }
-    if !o.basis {
-        return false;
-    }
-    j + 1 != o.points
+    t + 1 != c || (o.basis && j + 1 != o.points)
 }

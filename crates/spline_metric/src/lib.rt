@@ -28,10 +28,8 @@ fn xyz_places(chans: &[u64], places: &mut [usize]) -> usize
     ensures { Appended (xyz_of chans.now) 0 places.old places.new result }
 {
     let mut m: usize = 0;
-    let mut i: usize = 0;
-    while i < chans.len() {
+    for i in 0..chans.len() {
         m = add_place(chans, i, places, m);
-        i += 1;
     }
     m
 }
@@ -41,10 +39,8 @@ fn all_places(n: usize, places: &mut [usize]) -> usize
     requires { n ≤ length places.old }
     ensures { Appended (upto (λ (i : ℕ). i) n) 0 places.old places.new result }
 {
-    let mut i: usize = 0;
-    while i < n {
+    for i in 0..n {
         places[i] = i;
-        i += 1;
     }
     n
 }

@@ -24,9 +24,7 @@ pub fn places_of(chans: &[u64], places: &mut [usize])
     requires { axis_codes ≤ length places.old }
     ensures { places.new ≡ filled (λ (k : ℕ). place_of k chans.now) axis_codes places.old }
 {
-    let mut k: usize = 0;
-    while k < AXIS_CODES {
+    for k in 0..AXIS_CODES {
         places[k] = place_of(chans, k as u64);
-        k += 1;
     }
 }

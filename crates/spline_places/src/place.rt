@@ -76,10 +76,8 @@ pub fn total(axes: &[u64], store: &[u64], held: usize, counts: &[usize]) -> Plac
         samples: 0,
         points: 0,
     };
-    let mut i: usize = 0;
-    while i < held {
+    for i in 0..held {
         place = after_block(has_point(axes, block(store, i)), counts, place);
-        i += 1;
     }
     place
 }

@@ -72,17 +72,16 @@ pub fn plan_emission(
     let mut chans = [0u64; AXIS_CODES];
     let mut ms = [0usize; AXIS_CODES];
     let curve = gather_curve(job, axes, words, store, &mut chans, &mut ms, pts, ws);
-    let m = curve.metric;
     let drawing = drawing_of(job, curve);
-    let form = tabulate(drawing, &ms[..m], pts, ws, ks, cs, counts, lefts);
+    let form = tabulate(drawing, &ms[..curve.metric], pts, ws, ks, cs, counts, lefts);
     let place = total(axes, store, job.held, counts);
     Emission {
-        job: job,
-        curve: curve,
-        drawing: drawing,
-        form: form,
-        place: place,
-        chans: chans,
-        ms: ms,
+        job,
+        curve,
+        drawing,
+        form,
+        place,
+        chans,
+        ms,
     }
 }

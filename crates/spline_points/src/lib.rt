@@ -31,10 +31,8 @@ pub fn next_point(row: &[u64], chans: &[u64], pts: &mut [f64], at: usize)
     ensures { NextPut chans.now row.now at pts.old pts.new }
 {
     let before = at - chans.len();
-    let mut c: usize = 0;
-    while c < chans.len() {
-        pts[at + c] = next_value(row, chans[c], pts[before + c]);
-        c += 1;
+    for (c, k) in chans.iter().enumerate() {
+        pts[at + c] = next_value(row, *k, pts[before + c]);
     }
 }
 

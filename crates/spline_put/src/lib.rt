@@ -24,18 +24,13 @@ pub fn put_emission(state: &[u64], store: &[u64], rows: &mut [u64], own: usize) 
     ensures { Put own (emission state.now store.now) rows.old result rows.new }
 {
     let e = W_AXES + state[W_AXIS_COUNT] as usize;
-    let motion = state[W_MOTION];
-    let degree = state[W_DEGREE];
-    let tol = of_bits(state[W_TOLERANCE]);
-    let start = state[W_START];
-    let held = state[W_HELD] as usize;
     let job = Job {
-        motion: motion,
-        degree: degree,
-        tol: tol,
-        start: start,
-        held: held,
-        own: own,
+        motion: state[W_MOTION],
+        degree: state[W_DEGREE],
+        tol: of_bits(state[W_TOLERANCE]),
+        start: state[W_START],
+        held: state[W_HELD] as usize,
+        own,
     };
     emit_within(
         job,

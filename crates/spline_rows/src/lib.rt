@@ -22,9 +22,7 @@ fn put_run(o: Frame, places: &[usize], place: Place, c: usize, row: &[u64], rows
     requires { Puts o places.now place c row.now rows.old }
     ensures { RunPut o places.now place c row.now rows.old rows.new }
 {
-    let mut t = c;
-    while t > 0 {
-        t -= 1;
+    for t in (0..c).rev() {
         put_sample(o, places, place, c, row, t, rows);
     }
 }
@@ -106,9 +104,7 @@ pub fn spread(
     ensures { Laid o axes.now places.now counts.now store.now held rows.old rows.new }
 {
     let mut place = total;
-    let mut i = held;
-    while i > 0 {
-        i -= 1;
+    for i in (0..held).rev() {
         place = spread_block(o, axes, places, counts, block(store, i), place, rows);
     }
 }

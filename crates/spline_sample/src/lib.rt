@@ -21,9 +21,10 @@ fn sample_word(rows: &[u64], from: usize, mask: u64, places: &[usize], k: usize)
     ensures { result ≡ raw_word mask places.now rows.now from k }
 {
     if has_bit(mask, k as u64) {
-        return rows[from + places[k]];
+        rows[from + places[k]]
+    } else {
+        0
     }
-    0
 }
 
 // The words of that sample, each at its axis.
@@ -32,10 +33,8 @@ fn sample_words(rows: &[u64], from: usize, mask: u64, places: &[usize]) -> [u64;
     ensures { result ≡ filled (raw_word mask places.now rows.now from) axis_codes (replicate axis_codes 0) }
 {
     let mut words = [0u64; AXIS_CODES];
-    let mut k: usize = 0;
-    while k < AXIS_CODES {
-        words[k] = sample_word(rows, from, mask, places, k);
-        k += 1;
+    for (k, word) in words.iter_mut().enumerate() {
+        *word = sample_word(rows, from, mask, places, k);
     }
     words
 }
@@ -69,10 +68,7 @@ fn own_mask(o: Frame, row: &[u64]) -> u64
     requires { (o.axes < axis_masks) × (length row.now ≡ row_words) }
     ensures { OwnMask o row.now result }
 {
-    if o.basis {
-        return 0;
-    }
-    o.axes & row[R_PRESENT]
+    if o.basis { 0 } else { o.axes & row[R_PRESENT] }
 }
 
 // Writes the one row of a block without samples.

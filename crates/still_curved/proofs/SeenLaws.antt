@@ -37,6 +37,6 @@ module _ {now : ℕ} {there : Bool} (m : ℕ) (row : List ℕ) (e : now ≡ moti
   unfolding still_curved
   seen-there q t = seen-is (q ∙ ap is_curve e ∙ sym (and_t (is_curve (motion_after m row)) (sym s ∙ t)))
 
-  pub seen-bare : there ≡ false → seen now false ≡ seen_of m row
+  pub seen-bare : there ≡ false → seen now there ≡ seen_of m row
   unfolding still_curved
-  seen-bare f = seen-is (sym (and_f (is_curve (motion_after m row)) (sym s ∙ f)))
+  seen-bare f = seen-is (f ∙ sym (and_f (is_curve (motion_after m row)) (sym s ∙ f)))

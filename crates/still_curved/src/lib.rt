@@ -56,14 +56,8 @@ pub fn still_curved(row: &[u64], motion: u64) -> Seen
     ensures { result ≡ seen_of motion row.now }
 {
     let now = motion_after(row, motion);
-    if shows_path(row) {
-        return Seen {
-            motion: now,
-            curved: curves(now),
-        };
-    }
     Seen {
         motion: now,
-        curved: false,
+        curved: shows_path(row) && curves(now),
     }
 }

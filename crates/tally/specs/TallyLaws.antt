@@ -1,8 +1,7 @@
 -- LAWS. What the three calls come to, arm by arm. Assumes nothing.
-use Rattle.std.specs.Prelude.{ℕ, ◌<◌, ◌≤◌, ◌≡◌, refl, Bool, true, false, List, length}
+use Rattle.std.specs.Prelude.{ℕ, ◌<◌, ◌≤◌, ◌≡◌, refl, true, false, List, length, Some, None}
 use Rattle.std.proofs.Common.{sym, ◌∙◌}
 use Rattle.std.proofs.Math.Path.{ap}
-use Rattle.std.proofs.lemmas.Bool.{false≢true}
 use Rattle.floats.specs.Truth.{by_bit, cond-t, cond-f}
 use Rattle.call_reply.specs.Replies.{plain}
 use Rattle.tally_words.specs.Words.{most_jobs, tally_words, jobs_in, b_closed, b_first, b_final, tally_ok, jobs_with}
@@ -10,48 +9,27 @@ use Rattle.tally_words.specs.WordLaws.{good}
 use Rattle.tally_call.specs.Calls.{told_ok, call_of}
 use Rattle.tally_call.specs.Told.{told_call}
 use Rattle.tally_call.specs.declared.Call.{Call}
-use Rattle.tally_call.specs.declared.Told.{Told}
-use Rattle.tally_call.specs.declared.Told.TheVariants.{Bad, Is}
 use Rattle.tally_slot.specs.Slots.{counted}
 use Rattle.tally.specs.Tally.{note_spec, rates_spec}
 use Rattle.tally.specs.declared.Rates.{Rates}
 
 -- ---- a note: the answer by what the told numbers are
-abbrev is_call : Told → Bool
-is_call Bad = false
-is_call (Is c) = true
-
-abbrev is_bad : Told → Bool
-is_bad Bad = true
-is_bad (Is c) = false
-
--- the call, or another where there is none
-abbrev call_in : Call → Told → Call
-call_in d Bad = d
-call_in d (Is c) = c
-
 module _ (st : List ℕ) (job kind code count warning : ℕ) (rows : List ℕ) (ok : tally_ok st ≡ true) where
   -- where the told numbers are a call, it is that of the definition
-  told-true : {c : Call} → Is c ≡ told_call kind code count warning rows
+  told-true : {c : Call} → Some c ≡ told_call kind code count warning rows
       → (told_ok kind code count warning rows ≡ true) × (c ≡ call_of kind code count warning rows)
   unfolding told_call
-  told-true {c} =
-      by_bit (told_ok kind code count warning rows)
-      (λ b. rw b (λ e. (refl, ap (call_in c) e)))
-      (λ b. rw b (λ e. absurd (false≢true (ap is_bad e))))
+  told-true {c} = by_bit (told_ok kind code count warning rows) (λ b. rw b (λ e. (refl, cc))) (λ b. rw b (λ e. cc))
 
-  told-false : Bad ≡ told_call kind code count warning rows → told_ok kind code count warning rows ≡ false
+  told-false : None ≡ told_call kind code count warning rows → told_ok kind code count warning rows ≡ false
   unfolding told_call
-  told-false =
-      by_bit (told_ok kind code count warning rows)
-      (λ b. rw b (λ e. absurd (false≢true (ap is_call e))))
-      (λ b. rw b (λ e. refl))
+  told-false = by_bit (told_ok kind code count warning rows) (λ b. rw b (λ e. cc)) (λ b. rw b (λ e. refl))
 
-  pub note_bad : Bad ≡ told_call kind code count warning rows → note_spec st job kind code count warning rows ≡ record { reply = plain 4; state = st }
+  pub note_bad : None ≡ told_call kind code count warning rows → note_spec st job kind code count warning rows ≡ record { reply = plain 4; state = st }
   unfolding note_spec
   note_bad e = cond-t _ _ ok ∙ cond-f _ _ (told-false e)
 
-  pub note-told : {c : Call} → Is c ≡ told_call kind code count warning rows → note_spec st job kind code count warning rows ≡ counted st job c
+  pub note-told : {c : Call} → Some c ≡ told_call kind code count warning rows → note_spec st job kind code count warning rows ≡ counted st job c
   unfolding note_spec
   note-told e = cond-t _ _ ok ∙ cond-t _ _ (told-true e).0 ∙ ap (counted st job) (sym (told-true e).1)
 

@@ -6,7 +6,8 @@ ghost use Rattle.call_reply.specs.Replies.{StateIs};
 ghost use Rattle.tally.specs.Tally.{start_spec, note_spec, rates_spec};
 
 use call_reply::{Reply, plain_reply};
-use tally_call::{Told, told_call};
+use refusal::{Refusal, refusal_code};
+use tally_call::told_call;
 use tally_check::{jobs_with, tally_ok};
 use tally_noting::note;
 use tally_words::{B_CLOSED, B_FINAL, B_FIRST, TALLY_WORDS, clear};
@@ -29,7 +30,7 @@ pub extern "C" fn tally_start(tally: &mut [u64]) -> Reply
     ensures { StateIs (start_spec tally.old) result tally.new }
 {
     if tally.len() != TALLY_WORDS {
-        return plain_reply(9);
+        return Refusal::BadState.into();
     }
     clear(tally);
     plain_reply(0)
@@ -49,11 +50,11 @@ pub extern "C" fn tally_note(
     ensures { StateIs (note_spec tally.old job kind code count warning rows.now) result tally.new }
 {
     if !tally_ok(tally) {
-        return plain_reply(9);
+        return Refusal::BadState.into();
     }
     match told_call(kind, code, count, warning, rows) {
-        Told::Bad => plain_reply(4),
-        Told::Is(c) => note(tally, job, c),
+        None => Refusal::BadRow.into(),
+        Some(c) => note(tally, job, c),
     }
 }
 
@@ -64,7 +65,7 @@ pub extern "C" fn tally_rates(tally: &[u64]) -> Rates
 {
     if !tally_ok(tally) {
         return Rates {
-            code: 9,
+            code: refusal_code(Refusal::BadState),
             first_passed: 0,
             first_closed: 0,
             final_passed: 0,

@@ -1,4 +1,5 @@
 // The tally's three calls for programs in C, each the library's with its clause.
+// The C interface needs both: the archive for C is built of this crate, and programs in Rattle call the crate tally.
 #![tactic(auto)]
 
 ghost use Rattle.std.specs.Prelude.{◌≡◌};

@@ -1,5 +1,5 @@
 -- LAWS. One pass over the marks, a told call, and the try word, as the code comes to them. Assumes nothing.
-use Rattle.std.specs.Prelude.{ℕ, ◌+◌, ◌*◌, ◌/◌, ◌≤◌, ◌<◌, ◌≡◌, refl, Bool, true, false, cond, not, ◌||◌, List, leb, eqb, length, get_or}
+use Rattle.std.specs.Prelude.{ℕ, ◌+◌, ◌*◌, ◌/◌, ◌≤◌, ◌<◌, ◌≡◌, refl, Bool, true, false, cond, not, ◌||◌, List, leb, eqb, length, get_or, Option, Some, None}
 use Rattle.std.proofs.Math.Path.{sym}
 use Rattle.std.proofs.Common.{◌∙◌, ap, ⊎_elim, eq-or-lt_of_le, arith, get_or-drop}
 use borrow.Author.Tests.{le-leb, lt-leb, eq-eqb, ne_eqb}
@@ -12,10 +12,6 @@ use Rattle.tally_words.specs.Counting.{count-step, count_small}
 use Rattle.tally_call.specs.Calls.{k_close, mark_at, marks_in, rows_ok, told_ok, call_of, fails, closes, try_number, try_after}
 use Rattle.tally_call.specs.Told.{marks_of, lent_marks, told_call}
 use Rattle.tally_call.specs.declared.Call.{Call}
-use Rattle.tally_call.specs.declared.Marks.{Marks}
-use Rattle.tally_call.specs.declared.Marks.TheVariants.{Wrong, Counted}
-use Rattle.tally_call.specs.declared.Told.{Told}
-use Rattle.tally_call.specs.declared.Told.TheVariants as Told
 
 pub mark-word : (rows : List ℕ) (i : ℕ) → get_or rows (i * row_words + r_mark) 0 ≡ mark_at rows i
 mark-word rows i = sym (get_or-drop (i * row_words) rows r_mark 0)
@@ -45,42 +41,42 @@ marked_more {rows} {i} {r} {m} h e l = record {
 pub marked-small : {rows : List ℕ} {i r : ℕ} → Marked rows i r → r ≤ i
 marked-small {rows} {i} {r} h = count_small (λ (k : ℕ). eqb (mark_at rows k) 1) i r h.is
 
-pub marks-good : {rows : List ℕ} {i r n : ℕ} → Marked rows i r → i ≡ n → Counted r ≡ marks_of rows n
+pub marks-good : {rows : List ℕ} {i r n : ℕ} → Marked rows i r → i ≡ n → Some r ≡ marks_of rows n
 unfolding marks_of marks_in
-marks-good {rows} {i} {r} {n} h e = rw (← e) (ap Counted h.is ∙ sym (cond-t _ _ h.good))
+marks-good {rows} {i} {r} {n} h e = rw (← e) (ap Some h.is ∙ sym (cond-t _ _ h.good))
 
-pub marks_bad : (rows : List ℕ) {i n m : ℕ} → i < n → m ≡ mark_at rows i → 1 < m → Wrong ≡ marks_of rows n
+pub marks_bad : (rows : List ℕ) {i n m : ℕ} → i < n → m ≡ mark_at rows i → 1 < m → None ≡ marks_of rows n
 unfolding marks_of
 marks_bad rows {i} {n} {m} l e b =
     sym (cond-f _ _ (all-fails n (λ (k : ℕ). leb (mark_at rows k) 1) i l (lt-leb (mark_at rows i) 1 (rw (← e) b))))
 
 -- ---- the rows that an accepted call says it wrote
-pub lent-few : (rows : List ℕ) {count whole : ℕ} → whole ≡ length rows / row_words → whole < count → Wrong ≡ lent_marks count rows
+pub lent-few : (rows : List ℕ) {count whole : ℕ} → whole ≡ length rows / row_words → whole < count → None ≡ lent_marks count rows
 unfolding lent_marks rows_ok
 lent-few rows {count} {whole} e l = sym (cond-f _ _ (and_f _ (lt-leb count _ (rw (← e) l))))
 
-pub lent-some : (rows : List ℕ) {count whole : ℕ} {r : Marks} → whole ≡ length rows / row_words → count ≤ whole → r ≡ marks_of rows count
+pub lent-some : (rows : List ℕ) {count whole : ℕ} {r : Option ℕ} → whole ≡ length rows / row_words → count ≤ whole → r ≡ marks_of rows count
     → r ≡ lent_marks count rows
 unfolding lent_marks rows_ok marks_of
 lent-some rows {count} {whole} {r} e l h = h ∙ rw (le-leb count (length rows / row_words) (rw (← e) l))
 
 -- ---- the call that told numbers are
-abbrev accepted_by : ℕ → ℕ → ℕ → ℕ → Marks → Told
-accepted_by kind code count warning Wrong = Told.Bad
-accepted_by kind code count warning (Counted m) = Told.Is (record { kind = kind; code = code; count = count; warning = warning; marked = m })
+abbrev accepted_by : ℕ → ℕ → ℕ → ℕ → Option ℕ → Option Call
+accepted_by kind code count warning None = None
+accepted_by kind code count warning (Some m) = Some (record { kind = kind; code = code; count = count; warning = warning; marked = m })
 
 module _ (kind code count warning : ℕ) (rows : List ℕ) where
-  pub told-kind : k_close < kind → Told.Bad ≡ told_call kind code count warning rows
+  pub told-kind : k_close < kind → None ≡ told_call kind code count warning rows
   unfolding told_call told_ok
   told-kind a = sym (cond-f _ _ (and_f _ (lt-leb kind k_close a)))
 
   module _ (a : kind ≤ k_close) where
-    pub told-code : most_code < code → Told.Bad ≡ told_call kind code count warning rows
+    pub told-code : most_code < code → None ≡ told_call kind code count warning rows
     unfolding told_call told_ok
     told-code b = sym (cond-f _ _ (and_t _ (le-leb kind k_close a) ∙ and_f _ (lt-leb code most_code b)))
 
     module _ (b : code ≤ most_code) where
-      pub told-warning : most_warning < warning → Told.Bad ≡ told_call kind code count warning rows
+      pub told-warning : most_warning < warning → None ≡ told_call kind code count warning rows
       unfolding told_call told_ok
       told-warning d = sym (cond-f _ _ (and_t _ (le-leb kind k_close a) ∙ and_t _ (le-leb code most_code b) ∙ and_f _ (lt-leb warning most_warning d)))
 
@@ -90,7 +86,7 @@ module _ (kind code count warning : ℕ) (rows : List ℕ) where
         numbers = and_t _ (le-leb kind k_close a) ∙ and_t _ (le-leb code most_code b) ∙ and_t _ (le-leb warning most_warning d)
 
         pub told-turned : (code ≡ 0 → ⊥)
-            → Told.Is (record { kind = kind; code = code; count = count; warning = warning; marked = 0 }) ≡ told_call kind code count warning rows
+            → Some (record { kind = kind; code = code; count = count; warning = warning; marked = 0 }) ≡ told_call kind code count warning rows
         unfolding told_call call_of
         told-turned n = rw (numbers, ne_eqb code 0 n)
 
@@ -102,11 +98,11 @@ module _ (kind code count warning : ℕ) (rows : List ℕ) where
             (λ g. rw (g, numbers, eq-eqb code 0 z, g))
             (λ g. rw (g, numbers, eq-eqb code 0 z, g))
 
-        pub told_bad : code ≡ 0 → Wrong ≡ lent_marks count rows → Told.Bad ≡ told_call kind code count warning rows
+        pub told_bad : code ≡ 0 → None ≡ lent_marks count rows → None ≡ told_call kind code count warning rows
         told_bad z e = ap (accepted_by kind code count warning) e ∙ told-by z
 
-        pub told_is : code ≡ 0 → (m : ℕ) → Counted m ≡ lent_marks count rows
-            → Told.Is (record { kind = kind; code = code; count = count; warning = warning; marked = m }) ≡ told_call kind code count warning rows
+        pub told_is : code ≡ 0 → (m : ℕ) → Some m ≡ lent_marks count rows
+            → Some (record { kind = kind; code = code; count = count; warning = warning; marked = m }) ≡ told_call kind code count warning rows
         told_is z m e = ap (accepted_by kind code count warning) e ∙ told-by z
 
 -- ---- the try word

@@ -17,7 +17,8 @@ pub const K_CLOSE: u64 = 3;
 // The refusal after which the same call is made again with more places.
 pub const TOO_FEW_PLACES: u64 = 7;
 
-// What a tally takes of a call: its kind, what it replied, and how many of the rows that it wrote are marked.
+// What a tally takes of a call: its kind, what it replied, and how many of the rows that it wrote are marked. Kind, refusal
+// and warning are numbers, as the C interface tells them.
 #[derive(Clone, Copy)]
 pub struct Call {
     pub kind: u64,
@@ -27,20 +28,6 @@ pub struct Call {
     pub marked: u64,
 }
 
-// The marks of lent rows: one of them is no mark, or so many are set.
-#[derive(Clone, Copy)]
-pub enum Marks {
-    Wrong,
-    Counted(u64),
-}
-
-// Told numbers: no call, or this one.
-#[derive(Clone, Copy)]
-pub enum Told {
-    Bad,
-    Is(Call),
-}
-
 fn mark_at(rows: &[u64], i: usize) -> u64
     requires { i * row_words + row_words ≤ length rows.now }
     ensures { result ≡ mark_at rows.now i }
@@ -48,66 +35,51 @@ fn mark_at(rows: &[u64], i: usize) -> u64
     rows[i * ROW_WORDS + R_MARK]
 }
 
-// The marks of the first n rows.
-fn marks_of(rows: &[u64], n: usize) -> Marks
+// How many of the first n rows are marked, where the mark of each is one.
+fn marks_of(rows: &[u64], n: usize) -> Option<u64>
     requires { n * row_words ≤ length rows.now }
     ensures { result ≡ marks_of rows.now n }
 {
     let mut r: u64 = 0;
-    let mut i: usize = 0;
-    while i < n {
+    for i in 0..n {
         let mark = mark_at(rows, i);
         if mark > 1 {
-            return Marks::Wrong;
+            return None;
         }
         r += mark;
-        i += 1;
     }
-    Marks::Counted(r)
+    Some(r)
 }
 
-// The marks of the rows that an accepted call says it wrote.
-fn lent_marks(count: u64, rows: &[u64]) -> Marks
+// The same of the rows that an accepted call says it wrote, where so many are lent.
+fn lent_marks(count: u64, rows: &[u64]) -> Option<u64>
     ensures { result ≡ lent_marks count rows.now }
 {
     let n = count as usize;
     let whole = whole_rows(rows);
     if n > whole {
-        return Marks::Wrong;
+        return None;
     }
     marks_of(rows, n)
 }
 
-// The call that told numbers are (9.2, 9.3).
-pub fn told_call(kind: u64, code: u64, count: u64, warning: u64, rows: &[u64]) -> Told
+// The call that told numbers are, where they are one (9.2, 9.3).
+pub fn told_call(kind: u64, code: u64, count: u64, warning: u64, rows: &[u64]) -> Option<Call>
     ensures { result ≡ told_call kind code count warning rows.now }
 {
-    if kind > K_CLOSE {
-        return Told::Bad;
+    if kind > K_CLOSE || code > MOST_CODE as u64 || warning > MOST_WARNING as u64 {
+        return None;
     }
-    if code > MOST_CODE as u64 {
-        return Told::Bad;
-    }
-    if warning > MOST_WARNING as u64 {
-        return Told::Bad;
-    }
-    if code != 0 {
-        return Told::Is(Call {
-            kind,
-            code,
-            count,
-            warning,
-            marked: 0,
-        });
-    }
-    match lent_marks(count, rows) {
-        Marks::Wrong => Told::Bad,
-        Marks::Counted(marked) => Told::Is(Call {
-            kind,
-            code,
-            count,
-            warning,
-            marked,
-        }),
-    }
+    let marked = if code == 0 {
+        lent_marks(count, rows)?
+    } else {
+        0
+    };
+    Some(Call {
+        kind,
+        code,
+        count,
+        warning,
+        marked,
+    })
 }

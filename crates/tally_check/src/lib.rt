@@ -12,17 +12,16 @@ fn tries_ok(tally: &[u64], n: usize) -> bool
     requires { (length tally.now ≡ tally_words) × (n ≤ most_jobs) }
     ensures { result ≡ all n (λ (i : ℕ). try_ok (try_at tally.now i)) }
 {
-    let mut i: usize = 0;
-    while i < n {
+    for i in 0..n {
         if !try_ok(try_at(tally, i)) {
             return false;
         }
-        i += 1;
     }
     true
 }
 
 // Whether words are a tally (9.23).
+#[tactic(auto, unfolding(tally_words::specs::Words::tally_ok))]
 pub fn tally_ok(tally: &[u64]) -> bool
     ensures { result ≡ tally_ok tally.now }
 {
@@ -30,10 +29,7 @@ pub fn tally_ok(tally: &[u64]) -> bool
         return false;
     }
     let n = tally[W_JOBS] as usize;
-    if n > MOST_JOBS {
-        return false;
-    }
-    tries_ok(tally, n)
+    n <= MOST_JOBS && tries_ok(tally, n)
 }
 
 // How many slots have bit b in their try word.
@@ -43,10 +39,8 @@ pub fn jobs_with(tally: &[u64], b: u64) -> u64
 {
     let n = tally[W_JOBS] as usize;
     let mut r: u64 = 0;
-    let mut i: usize = 0;
-    while i < n {
+    for i in 0..n {
         r += number_of(has_bit(try_at(tally, i), b));
-        i += 1;
     }
     r
 }

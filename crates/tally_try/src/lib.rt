@@ -20,26 +20,19 @@ const FINAL: u64 = 1 << B_FINAL;
 const FAILING: u64 = 1 << B_FAILING;
 
 // Whether a call fails the try that it stands in (9.12).
+#[tactic(auto, unfolding(tally_call::specs::Calls::fails))]
 fn is_failing(c: Call) -> bool
     ensures { result ≡ fails c }
 {
-    if c.warning != 0 {
-        return true;
-    }
-    if c.code == 0 {
-        return false;
-    }
-    c.code != TOO_FEW_PLACES
+    c.warning != 0 || (c.code != 0 && c.code != TOO_FEW_PLACES)
 }
 
 // Whether a call closes the try that it stands in (9.13).
+#[tactic(auto, unfolding(tally_call::specs::Calls::closes))]
 fn is_closing(c: Call) -> bool
     ensures { result ≡ closes c }
 {
-    if c.kind != K_CLOSE {
-        return false;
-    }
-    c.code == 0
+    c.kind == K_CLOSE && c.code == 0
 }
 
 fn try_number(closed: bool, first: bool, last: bool, bad: bool) -> u64
@@ -55,10 +48,7 @@ fn try_number(closed: bool, first: bool, last: bool, bad: bool) -> u64
 fn is_bad(w: u64, c: Call) -> bool
     ensures { result ≡ (has w b_failing || fails c) }
 {
-    if has_bit(w, B_FAILING) {
-        return true;
-    }
-    is_failing(c)
+    has_bit(w, B_FAILING) || is_failing(c)
 }
 
 // Whether the first try passed, where one is closed now.
@@ -66,9 +56,10 @@ fn first_passed(w: u64, passed: bool) -> bool
     ensures { result ≡ cond (has w b_closed) (has w b_first) passed }
 {
     if has_bit(w, B_CLOSED) {
-        return has_bit(w, B_FIRST);
+        has_bit(w, B_FIRST)
+    } else {
+        passed
     }
-    passed
 }
 
 // The try word after one more call (9.22).

@@ -69,22 +69,14 @@ pub fn try_at(tally: &[u64], i: usize) -> u64
 fn has_passed(w: u64) -> bool
     ensures { result ≡ (has w b_first || has w b_final) }
 {
-    if has_bit(w, B_FIRST) {
-        return true;
-    }
-    has_bit(w, B_FINAL)
+    has_bit(w, B_FIRST) || has_bit(w, B_FINAL)
 }
 
+#[tactic(auto, unfolding(crate::specs::Words::try_ok))]
 pub fn try_ok(w: u64) -> bool
     ensures { result ≡ try_ok w }
 {
-    if w >= TRY_WORDS {
-        return false;
-    }
-    if has_bit(w, B_CLOSED) {
-        return true;
-    }
-    !has_passed(w)
+    w < TRY_WORDS && (has_bit(w, B_CLOSED) || !has_passed(w))
 }
 
 // Makes every word 0 (9.25).
@@ -92,18 +84,11 @@ pub fn clear(tally: &mut [u64])
     requires { length tally.old ≡ tally_words }
     ensures { tally.new ≡ empty_tally }
 {
-    let mut k: usize = 0;
-    while k < TALLY_WORDS {
-        tally[k] = 0;
-        k += 1;
-    }
+    tally.fill(0);
 }
 
 pub fn number_of(b: bool) -> u64
     ensures { result ≡ bit b }
 {
-    if b {
-        return 1;
-    }
-    0
+    b as u64
 }

@@ -1,10 +1,13 @@
 -- LAWS. The first line of an input and the others, an input that comes in pieces, the search for an LF. Assumes nothing.
-use Rattle.std.specs.Prelude.{ℕ, suc, ◌+◌, ◌-◌, ◌≤◌, ◌<◌, ◌≡◌, refl, Bool, true, false, cond, List, [], ◌∷◌, ◌++◌, eqb, length, take, drop, get_or, set}
+use Rattle.std.specs.Prelude.{ℕ, suc, ◌+◌, ◌-◌, ◌≤◌, ◌<◌, ◌≡◌, refl, Bool, true, false, cond, not, List, [], ◌∷◌, ◌++◌}
+use Rattle.std.specs.Prelude.{eqb, ltb, ◌==◌, length, take, drop, get_or, set}
 use Rattle.std.proofs.Common.{zero-le, sym, ap, ◌∙◌, subst, append-nil, append_assoc, arith, length-drop, drop-cons, length-take-le, get_or-append-add}
-use Rattle.std.proofs.Common.{get_or-drop, eq-eqb, ne_eqb}
+use Rattle.std.proofs.Common.{get_or-drop, eq-eqb, ne_eqb, ltb-false, Option, Some, None}
 use Rattle.std.proofs.Math.Seq.{paste, paste-suc}
 use Rattle.std.proofs.lemmas.List.Edits.{take-paste, length-paste}
 use Rattle.text_cut.specs.Cut.{lf, cut, lines_from, rest_from, between}
+use Rattle.std.specs.List.{position, position_or_len}
+use Rattle.std.proofs.lemmas.List.Sums.{prefix_len-le-length}
 use Rattle.text_cut.specs.Seek.{near, Free, Seeking}
 
 -- ---- an input in pieces: the lines of the one, and then those of the other behind what was left
@@ -97,6 +100,38 @@ cut_on (c ∷ t) h e = ap (λ (b : Bool). cond b 1 (suc (cut t))) (ne_eqb c lf e
 pub cut-end : cut [] ≡ 1
 unfolding cut
 cut-end = refl
+
+-- ---- the search by the library's `position`
+abbrev pub first_lf : List ℕ → ℕ
+first_lf l = position_or_len (λ (b : ℕ). b == lf) l
+
+abbrev value : Option ℕ → ℕ → ℕ
+value (Some k) d = k
+value None d = d
+
+cut-first : (l : List ℕ) → cut l ≡ first_lf l + 1
+unfolding cut
+cut-first [] = refl
+cut-first (c ∷ t) = go (eqb c lf) (cut-first t)
+  where
+    go : (x : Bool) → cut t ≡ first_lf t + 1 → cond x 1 (suc (cut t)) ≡ cond (not x) (1 + first_lf t) 0 + 1
+    go true r = refl
+    go false r = omega arith
+
+module _ (l : List ℕ) where
+  pub cut-found : {k : ℕ} → Some k ≡ position (λ (b : ℕ). b == lf) l → cut l ≡ k + 1
+  cut-found {k} e = go (ltb (first_lf l) (length l)) e
+    where
+      go : (x : Bool) → Some k ≡ cond x (Some (first_lf l)) None → cut l ≡ k + 1
+      go true e = let same : k ≡ first_lf l = ap (λ (o : Option ℕ). value o 0) e in omega (arith, cut-first l)
+      go false e = absurd (let same : k ≡ suc k = ap (λ (o : Option ℕ). value o (suc k)) e in omega arith)
+
+  pub cut-none : None ≡ position (λ (b : ℕ). b == lf) l → cut l ≡ length l + 1
+  cut-none e = go (ltb (first_lf l) (length l)) refl e
+    where
+      go : (x : Bool) → ltb (first_lf l) (length l) ≡ x → None ≡ cond x (Some (first_lf l)) None → cut l ≡ length l + 1
+      go true h e = absurd (let same : suc (first_lf l) ≡ first_lf l = ap (λ (o : Option ℕ). value o (suc (first_lf l))) e in omega arith)
+      go false h e = omega (arith, cut-first l, ltb-false _ _ h, prefix_len-le-length (λ (b : ℕ). not (b == lf)) l)
 
 -- ---- the bytes from a place on
 between_cons : (l : List ℕ) (i e : ℕ) → i < e → e ≤ length l → between l i e ≡ get_or l i 0 ∷ between l (i + 1) e

@@ -1,7 +1,7 @@
 // Where a line ends: the search for the first LF.
 #![tactic(auto)]
 
-ghost use Rattle.std.specs.Prelude.{◌+◌, ◌≤◌, length, ◌≡◌, false};
+ghost use Rattle.std.specs.Prelude.{◌+◌, ◌≤◌, length, ◌≡◌, false, position, ◌==◌};
 ghost use Rattle.text_cut.specs.Cut.{lf, cut, between};
 ghost use Rattle.text_cut.specs.Seek.{near, Free, Seeking};
 
@@ -25,10 +25,8 @@ fn lf_near(buf: &[u8], at: usize) -> bool
     ensures { result ≡ false → Free buf.now at near }
 {
     let mut seen = false;
-    let mut k = 0;
-    while k < NEAR {
-        seen = seen_with(seen, buf[at + k]);
-        k += 1;
+    for b in &buf[at..at + NEAR] {
+        seen = seen_with(seen, *b);
     }
     seen
 }
@@ -39,6 +37,7 @@ fn far(buf: &[u8], at: usize, end: usize) -> usize
     ensures { Seeking buf.now at end result }
 {
     let mut i = at;
+    // No `for`: a turn goes NEAR bytes further, as long as so many are left, and the place where it stops is the answer.
     while end - i >= NEAR {
         if lf_near(buf, i) {
             return i;
@@ -48,17 +47,21 @@ fn far(buf: &[u8], at: usize, end: usize) -> usize
     i
 }
 
+// The place of the first LF.
+fn first_lf(bytes: &[u8]) -> Option<usize>
+    ensures { result ≡ position (λ b. b == lf) bytes.now }
+{
+    bytes.iter().position(|b| *b == b'\n')
+}
+
 // The place behind the first LF of buf from `at` on and below `end`, or `end` + 1 where there is none.
 pub fn line_end(buf: &[u8], at: usize, end: usize) -> usize
     requires { (at ≤ end) × (end ≤ length buf.now) }
     ensures { result ≡ at + cut (between buf.now at end) }
 {
-    let mut i = far(buf, at, end);
-    while i < end {
-        if buf[i] == b'\n' {
-            return i + 1;
-        }
-        i += 1;
+    let i = far(buf, at, end);
+    match first_lf(&buf[i..end]) {
+        Some(k) => i + k + 1,
+        None => end + 1,
     }
-    end + 1
 }

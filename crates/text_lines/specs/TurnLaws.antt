@@ -2,9 +2,7 @@
 use Rattle.std.specs.Prelude.{ℕ, ◌+◌, ◌-◌, ◌≤◌, ◌<◌, ◌≡◌, refl, List, length, take, drop}
 use Rattle.std.proofs.Common.{zero-le, sym, ap, ◌∙◌, arith, length-drop, length-take-le, take-take, drop-drop, take-add, drop_at}
 use Rattle.std.proofs.Math.Nat.{sub-zero}
-use Rattle.text_front.specs.declared.Came.{Came}
 use Rattle.text_lines.specs.declared.Found.{Found}
-use Rattle.text_lines.specs.declared.Found.TheVariants as Found
 use Rattle.text_cut.specs.Cut.{cut, between}
 use Rattle.text_front.specs.Front.{AtFront, More}
 use Rattle.text_lines.specs.Turns.{FirstLine, NoLine, Told, Turned}
@@ -51,10 +49,9 @@ module _ (b : List ℕ) (at end : ℕ) (window : at ≤ end) (inside : end ≤ l
           told = (stays b' refl, between-length ∙ sym front.count ∙ e ∙ front.same);
         }
 
-    module _ (b'' : List ℕ) (came : Came) (more : More b' n b'' came) where
-      pub more-turned : n < came.n → Turned b at end b'' (record { from = 0; at = 0; end = came.n; found = Found.More })
+    module _ (b'' : List ℕ) (m : ℕ) (more : More b' n b'' m) where
+      pub more-turned : n < m → Turned b at end b'' (record { from = 0; at = 0; end = m; found = Found.More })
       more-turned h =
-          let m = came.n in
           let fits : m ≤ length b'' = omega (arith, more.most, more.same) in
           let long : length (take (m - 0) b'') ≡ m = ap (λ (j : ℕ). length (take j b'')) (sub-zero m) ∙ length-take-le m b'' fits in
           let short : length (between b at end) ≡ n = between-length ∙ sym front.count in

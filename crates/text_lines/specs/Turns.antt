@@ -2,7 +2,6 @@
 use Rattle.std.specs.Prelude.{ℕ, ◌≤◌, ◌<◌, ◌≡◌, List, length, take, drop}
 use Rattle.text_lines.specs.declared.Turn.{Turn}
 use Rattle.text_lines.specs.declared.Found.{Found}
-use Rattle.text_lines.specs.declared.Found.TheVariants as Found
 use Rattle.text_cut.specs.Cut.{cut, between}
 
 -- l is the first line of u, and v the bytes behind it

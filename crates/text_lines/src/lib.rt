@@ -50,14 +50,11 @@ fn read_on<R: Read>(input: &mut R, buf: &mut [u8], at: usize, end: usize) -> Tur
     if n == buf.len() {
         return at_front(n, Found::Full);
     }
-    let came = read_more(input, buf, n);
-    if came.n > n {
-        return at_front(came.n, Found::More);
+    match read_more(input, buf, n) {
+        Ok(m) if m > n => at_front(m, Found::More),
+        Ok(_) => at_front(n, Found::Ended),
+        Err(_) => at_front(n, Found::Failed),
     }
-    if came.ok {
-        return at_front(n, Found::Ended);
-    }
-    at_front(n, Found::Failed)
 }
 
 // One turn of the reading loop: a line that stands whole in the buffer, or a reading.

@@ -105,10 +105,8 @@ fn left_by_tau(digits: u64, n: u64) -> u64
     ensures { result ≡ left_by_tau digits n }
 {
     let mut left = digits % TAU_DIGITS;
-    let mut k: u64 = 0;
-    while k < n {
+    for _ in 0..n {
         left = left * 2 % TAU_DIGITS;
-        k += 1;
     }
     left
 }

@@ -1,4 +1,5 @@
-// Whole numbers from a float, for every float: rounded up, nearest with halves up, truncated.
+// Whole numbers from a float, for every float: rounded up, nearest with halves up, truncated. Three functions, and not one
+// with a closure: only the tests of the bounds are alike, and each has a bound and a step of its own.
 #![tactic(auto)]
 
 ghost use Rattle.std.specs.Prelude.{◌≡◌};

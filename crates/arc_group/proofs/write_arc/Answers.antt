@@ -3,10 +3,10 @@ use Rattle.arc_sample.specs.Rowing.{flatten-one}
 use Rattle.arc_rows.specs.Plan.{way_rows}
 use Rattle.arc_group.proofs.write_arc.Goals as goal
 
-pub returns-in-Pass : goal.returns-in-Pass
+pub returns-in-None : goal.returns-in-None
 unfolding way_rows
-returns-in-Pass c = rw (c.in-Pass.is, flatten-one) c.put_row.ensures
+returns-in-None c = rw (c.in-None.is, flatten-one) c.put_row.ensures
 
-pub returns-in-Along : goal.returns-in-Along
+pub returns-in-Some : goal.returns-in-Some
 unfolding way_rows
-returns-in-Along c = rw c.in-Along.is c.draw.ensures
+returns-in-Some c = rw c.in-Some.is c.draw.ensures

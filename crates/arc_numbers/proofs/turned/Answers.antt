@@ -5,13 +5,13 @@ use Rattle.arc_numbers.proofs.turned.Goals as goal
 pub returns-then-cw : goal.returns-then-cw
 unfolding turned
 returns-then-cw c =
-    rw (c.in-Number.is, c.if-cw.true, c.nearest_u64_to_f64-n.ensures, c.half_up_count.ensures)
+    rw (c.in-Some.is, c.if-cw.true, c.nearest_u64_to_f64-n.ensures, c.half_up_count.ensures)
 
 pub returns-else-cw : goal.returns-else-cw
 unfolding turned
 returns-else-cw c =
-    rw (c.in-Number.is, c.if-cw.false, c.nearest_u64_to_f64-n.ensures, c.half_up_count.ensures)
+    rw (c.in-Some.is, c.if-cw.false, c.nearest_u64_to_f64-n.ensures, c.half_up_count.ensures)
 
-pub returns-in-Absent : goal.returns-in-Absent
+pub returns-in-None : goal.returns-in-None
 unfolding turned
-returns-in-Absent c = rw c.in-Absent.is
+returns-in-None c = rw c.in-None.is

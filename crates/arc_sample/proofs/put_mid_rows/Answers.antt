@@ -5,7 +5,7 @@ use Rattle.arc_sample.specs.Draw.{mid-long}
 use Rattle.arc_sample.proofs.put_mid_rows.Goals as goal
 
 pub loop-j-init : goal.loop-j-init
-loop-j-init c = (omega arith, rowing_none)
+loop-j-init c = rowing_none
 
 pub put_mid_row-requires : goal.put_mid_row-requires
 put_mid_row-requires c =
@@ -17,13 +17,13 @@ loop-j-preserved c =
     let at-loop = c.loop-j in
     let nearest-u64-to-f64 = c.nearest_u64_to_f64-whole in
     let put = rw nearest-u64-to-f64.ensures at c.put_mid_row.ensures in
-    (omega arith, rowing_more (λ (i : ℕ). mid-long _ _ _ _ _ i) at-loop.invariant.1 (omega arith) put)
+    rowing_more (λ (i : ℕ). mid-long _ _ _ _ _ i) at-loop.invariant (omega arith) put
 
 pub shape_of-rows : goal.shape_of-rows
-shape_of-rows c = c.loop-j.invariant.1.same
+shape_of-rows c = c.loop-j.invariant.same
 
 pub returns : goal.returns
 returns c =
     let at-loop = c.loop-j in
     let args = c.args in
-    let e : at-loop.j ≡ args.n - 1 = omega arith in rw e at at-loop.invariant.1
+    let e : at-loop.j ≡ args.n - 1 = omega arith in rw e at at-loop.invariant

@@ -1,12 +1,8 @@
 -- `bspline_boor::raise_rows`: what holds at each turn of its loops. Assumes nothing.
-use mathlib.Core.Path.{◌≡◌}
-use Prim.Native.Nat.{◌≤◌, ◌-◌, ◌*◌}
+use Prim.Native.Nat.{◌-◌}
 use Rattle.bspline_tables.specs.Basis.{share}
 use Rattle.bspline_raise.specs.Climb.{Level}
 use Rattle.bspline_boor.proofs.raise_rows.Given as goal
 
 abbrev pub invariant-loop-h : goal.invariant-loop-h
-invariant-loop-h l = ((l.h ≤ l.m) × (l.i ≡ l.h * l.wide)) × Level l.initial.d l.d l.wide l.h (λ j. share l.ks l.u l.p l.k l.r (l.p - j))
-
-abbrev pub decreases-loop-h : goal.decreases-loop-h
-decreases-loop-h l = l.m - l.h
+invariant-loop-h l = Level l.initial.d l.d l.wide l.h (λ j. share l.ks l.u l.p l.k l.r (l.p - j))

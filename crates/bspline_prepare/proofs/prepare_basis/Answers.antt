@@ -17,11 +17,6 @@ fill_knots-requires c =
     let pre = c.requires in
     (omega arith, omega (arith, degree_in _ _ pre.le_n.0 c.degree_of-p.ensures))
 
-pub fill_controls-requires : goal.fill_controls-requires
-fill_controls-requires c =
-    let pre = c.requires in
-    record { ch_le_axis_codes = (pre.le_n.1.1, pre.le_n.1.0); ch_in_bounds = (pre.ch_in_bounds.0, (pre.ch_in_bounds.1, pre.n_in_bounds.1)) }
-
 pub returns : goal.returns
 returns c =
     let fill-controls = c.fill_controls in

@@ -3,18 +3,6 @@ use native.Mathlib.Omega.{arith}
 use Rattle.bspline_tables.specs.Basis.{degree_of}
 use Rattle.bspline_tables.proofs.degree_of.Goals as goal
 
-pub returns-then-degree-lt1 : goal.returns-then-degree-lt1
+pub returns : goal.returns
 unfolding degree_of
-returns-then-degree-lt1 c = omega arith
-
-pub returns-else-degree-lt1 : goal.returns-else-degree-lt1
-unfolding degree_of
-returns-else-degree-lt1 c = omega arith
-
-pub returns-then-n-lt1 : goal.returns-then-n-lt1
-unfolding degree_of
-returns-then-n-lt1 c = omega arith
-
-pub returns-else-n-lt1 : goal.returns-else-n-lt1
-unfolding degree_of
-returns-else-n-lt1 c = omega arith
+returns c = omega arith

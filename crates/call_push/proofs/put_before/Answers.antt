@@ -5,5 +5,5 @@ use Rattle.call_push.proofs.put_before.Goals as goal
 pub returns-then-emits : goal.returns-then-emits
 returns-then-emits c = put-before-some _ _ c.if-emits.true c.put_emission.ensures
 
-pub returns : goal.returns
-returns c = put-before-none _ _ _ _ c.if-emits.false
+pub returns-else-emits : goal.returns-else-emits
+returns-else-emits c = put-before-none _ _ _ _ c.if-emits.false

@@ -1,6 +1,5 @@
 -- `call_start::start`: the answers to its goals. Assumes nothing.
-use Rattle.std.proofs.Common.{sym}
-use mathlib.Core.Path.{refl, ◌∙◌}
+use Rattle.std.proofs.Common.{refl, sym, ◌∙◌}
 use borrow.Author.Tests.{eq-eqb, ne_eqb}
 use Rattle.floats.specs.Truth.{cond-t, cond-f}
 use Rattle.call_start.specs.Start.{start_spec}
@@ -9,31 +8,25 @@ use Rattle.call_start.proofs.start.Goals as goal
 
 pub returns-then-state-ne-STATE_WORDS : goal.returns-then-state-ne-STATE_WORDS
 unfolding start_spec
-returns-then-state-ne-STATE_WORDS c = state-is (cond-f _ _ (ne_eqb _ _ c.if-state-ne-STATE_WORDS.true)) c.plain_reply.ensures refl
+returns-then-state-ne-STATE_WORDS c = state-is (cond-f _ _ (ne_eqb _ _ c.if-state-ne-STATE_WORDS.true)) c.into.ensures refl
 
 pub returns-then-not-tol_ok : goal.returns-then-not-tol_ok
 unfolding start_spec
 returns-then-not-tol_ok c =
-    let two = c in
-    let long = cond-t _ _ (eq-eqb _ _ two.if-state-ne-STATE_WORDS.false) in
-    state-is (long ∙ cond-f _ _ (sym two.tol_ok.ensures ∙ two.if-not-tol_ok.true)) c.plain_reply-then-not-tol_ok.ensures refl
+    let long = cond-t _ _ (eq-eqb _ _ c.if-state-ne-STATE_WORDS.false) in
+    state-is (long ∙ cond-f _ _ (sym c.tol_ok.ensures ∙ c.if-not-tol_ok.true)) c.into-then-not-tol_ok.ensures refl
 
 pub returns-then-not-codes_ok : goal.returns-then-not-codes_ok
 unfolding start_spec
 returns-then-not-codes_ok c =
-    let three = c in
-    let two = three in
-    let long = cond-t _ _ (eq-eqb _ _ two.if-state-ne-STATE_WORDS.false) in
-    let tolerance = long ∙ cond-t _ _ (sym two.tol_ok.ensures ∙ two.if-not-tol_ok.false) in
-    state-is (tolerance ∙ cond-f _ _ (sym three.codes_ok.ensures ∙ three.if-not-codes_ok.true)) c.plain_reply-then-not-codes_ok.ensures refl
+    let long = cond-t _ _ (eq-eqb _ _ c.if-state-ne-STATE_WORDS.false) in
+    let tolerance = long ∙ cond-t _ _ (sym c.tol_ok.ensures ∙ c.if-not-tol_ok.false) in
+    state-is (tolerance ∙ cond-f _ _ (sym c.codes_ok.ensures ∙ c.if-not-codes_ok.true)) c.into-then-not-codes_ok.ensures refl
 
 pub returns : goal.returns
 unfolding start_spec
 returns c =
-    let fresh = c in
-    let three = fresh in
-    let two = three in
-    let long = cond-t _ _ (eq-eqb _ _ two.if-state-ne-STATE_WORDS.false) in
-    let tolerance = long ∙ cond-t _ _ (sym two.tol_ok.ensures ∙ two.if-not-tol_ok.false) in
-    let codes = tolerance ∙ cond-t _ _ (sym three.codes_ok.ensures ∙ three.if-not-codes_ok.false) in
-    state-is codes c.plain_reply-2.ensures fresh.write_fresh.ensures
+    let long = cond-t _ _ (eq-eqb _ _ c.if-state-ne-STATE_WORDS.false) in
+    let tolerance = long ∙ cond-t _ _ (sym c.tol_ok.ensures ∙ c.if-not-tol_ok.false) in
+    let codes = tolerance ∙ cond-t _ _ (sym c.codes_ok.ensures ∙ c.if-not-codes_ok.false) in
+    state-is codes c.plain_reply.ensures c.write_fresh.ensures

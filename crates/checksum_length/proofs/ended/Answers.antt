@@ -1,14 +1,15 @@
 -- `checksum_length::ended`: the answers to its goals. Assumes nothing.
-use Rattle.checksum_length.proofs.Lengths.{length-next, length-all, ended_is}
-use native.Mathlib.Omega.{arith}
+use Prim.Native.Nat.{◌-◌}
 use mathlib.Core.Path.{refl}
+use native.Mathlib.Omega.{arith}
+use Rattle.checksum_length.proofs.Lengths.{length-next, length-all, ended_is}
 use Rattle.checksum_length.proofs.ended.Goals as goal
 
-pub loop-k-init : goal.loop-k-init
-loop-k-init c = (omega arith, refl)
+pub loop-init : goal.loop-init
+loop-init c = refl
 
-pub loop-k-preserved : goal.loop-k-preserved
-loop-k-preserved c = (omega arith, length-next _ _ _ c.loop-k.invariant.1 c.loop-k-test.true c.length_byte-sum.ensures)
+pub loop-preserved : goal.loop-preserved
+loop-preserved c = length-next _ (8 - c.loop.counter) _ _ c.loop.invariant (omega arith) c.length_byte-sum.ensures
 
 pub returns : goal.returns
-returns c = ended_is _ _ (length-all _ _ _ c.loop-k.invariant.1 c.loop-k-test.false)
+returns c = ended_is _ _ (length-all (8 - c.loop.counter) _ _ c.loop.invariant (omega arith))

@@ -18,22 +18,16 @@ write_rows-requires c =
 
 pub returns-in_default : goal.returns-in_default
 returns-in_default c =
-    let told = c in
-    let tried = told in
-    let start = tried in
-    let wrote = tried.write_rows.ensures in
-    let zero : start.args.code ≡ 0 = omega arith in
-    let bad = answer_bad _ _ _ _ _ zero (tried_bad wrote told.in_default.is) in
-    say_noted bad (wrote.kept start.args.run.out (omega arith)) wrote.same c.refuse-in_default.ensures
+    let wrote = c.write_rows.ensures in
+    let zero : c.args.code ≡ 0 = omega arith in
+    let bad = answer_bad _ _ _ _ _ zero (tried_bad wrote c.in_default.is) in
+    say_noted bad (wrote.kept c.args.run.out (omega arith)) wrote.same c.refuse-in_default.ensures
 
 pub returns : goal.returns
 returns c =
-    let told = c in
-    let tried = told in
-    let start = tried in
-    let wrote = tried.write_rows.ensures in
-    let placed = told.in-Upto.is in
-    let zero : start.args.code ≡ 0 = omega arith in
-    let done = answer-done _ _ _ _ _ zero (tried-good wrote placed).0 in
-    let room = start.requires.outs (omega arith) in
-    say_rows _ _ _ _ done wrote placed room (record { err = refl; physical = refl; source = refl }) c.warned.ensures
+    let wrote = c.write_rows.ensures in
+    let placed = c.in-Some.is in
+    let zero : c.args.code ≡ 0 = omega arith in
+    let room = c.requires.outs (omega arith) in
+    say_rows _ _ _ _ (answer-done _ _ _ _ _ zero (tried-good wrote placed).0) wrote placed room
+    (record { err = refl; physical = refl; source = refl }) c.warned.ensures

@@ -1,10 +1,6 @@
--- `csv_cells::read_cells`: what holds at each turn of its loops. Assumes nothing.
-use Prim.Native.Nat.{◌-◌}
+-- `csv_cells::read_cells`: what holds at each turn of its loop. Assumes nothing.
 use Rattle.csv_cells.proofs.Reading.{Taking}
 use Rattle.csv_cells.proofs.read_cells.Given as goal
 
 abbrev pub invariant-loop-i : goal.invariant-loop-i
 invariant-loop-i l = Taking l.text l.initial.row l.at l.mask l.i l.row
-
-abbrev pub decreases-loop-i : goal.decreases-loop-i
-decreases-loop-i l = 11 - l.i

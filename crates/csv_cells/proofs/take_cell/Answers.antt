@@ -1,7 +1,8 @@
 -- `csv_cells::take_cell`: the answers to its goals. Assumes nothing.
-use Prim.Native.Nat.{◌-◌}
-use Rattle.csv_cells.proofs.Reading.{took, end-within, cell-bit}
-use borrow.Author.Rules.{rules}
+use Rattle.std.proofs.Common.{rules, ℕ, ◌*◌, ◌^◌, ap, sym, subst, ◌∙◌}
+use Rattle.std.specs.Int.{from_bool}
+use Rattle.csv_cells.specs.Taking.{TookOr}
+use Rattle.csv_cells.proofs.Reading.{took, took_not, end-within}
 use Rattle.csv_cells.proofs.take_cell.Goals as goal
 
 pub slice_bounds-read_cell-end : goal.slice_bounds-read_cell-end
@@ -10,11 +11,12 @@ slice_bounds-read_cell-end c = let h = end-within _ _ _ c.requires.0 c.field_end
 pub overflow_add-result : goal.overflow_add-result
 overflow_add-result c = let h = end-within _ _ _ c.requires.0 c.field_end-end.ensures in search rules
 
-pub at_code-requires : goal.at_code-requires
-at_code-requires c = (cell-bit c.read_cell-cell.ensures, c.code_at-code.ensures.1)
-
 pub returns : goal.returns
 returns c =
-    let b2 = c in
-    let b4 = b2 in
-    took _ _ _ _ _ _ _ _ _ b4.field_end-end.ensures b2.read_cell-cell.ensures c.code_at-code.ensures.0 c.at_code.ensures
+    took _ _ _ _ _ _ _ _ _ c.in_ok-cell.cell c.field_end-end.ensures c.in_ok-cell.ensures c.code_at-code.ensures.0 c.unwrap_or.ensures
+    (c.at_code.ensures ∙ ap (λ (n : ℕ). n * 2 ^ c.code_at-code.result) (c.from-bit.ensures ∙ ap from_bool c.is_some.ensures))
+
+pub returns-in_err-cell : goal.returns-in_err-cell
+returns-in_err-cell c =
+    subst (TookOr c.args.text.now c.args.at c.args.i c.args.mask c.args.row.now c.args.row.now) (sym c.from_residual.ensures)
+    (took_not _ _ _ c.field_end-end.ensures c.in_err-cell.ensures)

@@ -8,5 +8,4 @@ use Rattle.csv_decimal.proofs.in_millionths.Goals as goal
 
 pub returns : goal.returns
 returns c =
-    let b2 = c in
-    c.size_of_bits.ensures ∙ ap millionths (ap (of_bits binary64) c.bits.ensures ∙ of_bits-to_bits binary64 _ (subst T (sym b2.well_formed.0.1) tt))
+    c.size_of_bits.ensures ∙ ap millionths (ap (of_bits binary64) c.bits.ensures ∙ of_bits-to_bits binary64 _ (subst T (sym c.well_formed.0.1) tt))

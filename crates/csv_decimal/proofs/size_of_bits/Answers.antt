@@ -13,14 +13,8 @@ returns-then-e-ge1053 c = sym (ap millionths (by-fields c.args.b) ∙ high-field
 
 pub returns-then-r-lt-TOO_LARGE : goal.returns-then-r-lt-TOO_LARGE
 returns-then-r-lt-TOO_LARGE c =
-    let b2 = c in
-    let b3 = b2 in
-    let b4 = b3 in
-    let e = ap millionths (by-fields b4.args.b) ∙ mid-fields _ _ _ b3.if-e-le1000.false b2.if-e-ge1053.false in let f = c.scaled-r.ensures in omega arith
+    let e = ap millionths (by-fields c.args.b) ∙ mid-fields _ _ _ c.if-e-le1000.false c.if-e-ge1053.false in let f = c.scaled-r.ensures in omega arith
 
 pub returns : goal.returns
 returns c =
-    let b2 = c in
-    let b3 = b2 in
-    let b4 = b3 in
-    let e = ap millionths (by-fields b4.args.b) ∙ mid-fields _ _ _ b3.if-e-le1000.false b2.if-e-ge1053.false in let f = c.scaled-r.ensures in omega arith
+    let e = ap millionths (by-fields c.args.b) ∙ mid-fields _ _ _ c.if-e-le1000.false c.if-e-ge1053.false in let f = c.scaled-r.ensures in omega arith

@@ -1,22 +1,20 @@
 -- `csv_fields::read_line`: the answers to its goals. Assumes nothing.
-use Prim.Native.Nat.{◌-◌}
+use Rattle.std.proofs.Common.{◌≡◌, arith}
 use Rattle.csv_fields.specs.Readers.{line-none, line_at, line-high, line-more}
 use Rattle.csv_fields.proofs.read_line.Goals as goal
+use Rattle.csv_fields.proofs.read_line.Goals.{else-a-gt0-via-then-a-gt0+then-a-s+else-a-lt-LINE_NUMBERS, else-a-gt0-via-then-a-gt0+else-a-s}
+use Rattle.csv_fields.proofs.read_line.Goals.{else-a-gt0-via-else-a-gt0}
 
-pub returns-then-count-eq0 : goal.returns-then-count-eq0
-returns-then-count-eq0 c = line-none _ _ _ c.scan-a.ensures.0 c.scan-a.ensures.1 c.if-count-eq0.true
-
-pub returns-then-n-lt-LINE_NUMBERS : goal.returns-then-n-lt-LINE_NUMBERS
-returns-then-n-lt-LINE_NUMBERS c =
-    let b2 = c in
-    let b3 = b2 in
-    line_at _ _ _ b3.scan-a.ensures.0 b3.scan-a.ensures.1 b2.if-count-eq0.false c.if-count-s.true c.if-n-lt-LINE_NUMBERS.true
-
-pub returns-then-count-s : goal.returns-then-count-s
-returns-then-count-s c =
-    let b2 = c in
-    let b3 = b2 in
-    line-high _ _ _ b3.scan-a.ensures.0 b3.scan-a.ensures.1 b2.if-count-eq0.false c.if-count-s.true c.if-n-lt-LINE_NUMBERS.false
+pub returns-then-a-lt-LINE_NUMBERS : goal.returns-then-a-lt-LINE_NUMBERS
+returns-then-a-lt-LINE_NUMBERS c =
+    line_at _ _ _ c.scan-a.ensures.0 c.scan-a.ensures.1 (λ (z : c.scan-a.result.count ≡ 0). omega arith) c.if-a-s.true c.if-a-lt-LINE_NUMBERS.true
 
 pub returns : goal.returns
-returns c = line-more _ _ _ c.scan-a.ensures.0 c.scan-a.ensures.1 c.if-count-eq0.false c.if-count-s.false
+returns c =
+    elim c.else-a-gt0.branch [
+      | else-a-gt0-via-then-a-gt0+then-a-s+else-a-lt-LINE_NUMBERS w ↦
+          line-high _ _ _ c.scan-a.ensures.0 c.scan-a.ensures.1 (λ (z : c.scan-a.result.count ≡ 0). omega arith) w.if-a-s.true w.if-a-lt-LINE_NUMBERS.false
+      | else-a-gt0-via-then-a-gt0+else-a-s w ↦
+          line-more _ _ _ c.scan-a.ensures.0 c.scan-a.ensures.1 (λ (z : c.scan-a.result.count ≡ 0). omega arith) w.if-a-s.false
+      | else-a-gt0-via-else-a-gt0 w ↦ line-none _ _ _ c.scan-a.ensures.0 c.scan-a.ensures.1 (omega arith)
+    ]

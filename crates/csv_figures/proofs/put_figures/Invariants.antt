@@ -4,6 +4,3 @@ use Rattle.csv_figures.proofs.put_figures.Given as goal
 
 abbrev pub invariant-loop-j : goal.invariant-loop-j
 invariant-loop-j l = Storing l.initial.out l.n l.k l.v l.out l.rest l.j
-
-abbrev pub decreases-loop-j : goal.decreases-loop-j
-decreases-loop-j l = l.j

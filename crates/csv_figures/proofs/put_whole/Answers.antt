@@ -1,5 +1,4 @@
 -- `csv_figures::put_whole`: the answers to its goals. Assumes nothing.
-use Prim.Native.Nat.{◌-◌}
 use native.Mathlib.Omega.{arith}
 use Rattle.csv_decimal.specs.Widths.{width-ten}
 use Rattle.csv_figures.specs.Writers.{as_whole}

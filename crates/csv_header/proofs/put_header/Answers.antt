@@ -1,5 +1,4 @@
 -- `csv_header::put_header`: the answers to its goals. Assumes nothing.
-use Prim.Native.Nat.{◌-◌}
 use native.Mathlib.Omega.{arith}
 use Rattle.csv_figures.specs.OutLaws.{wrote_then, wrote-length}
 use Rattle.csv_header.proofs.put_header.Goals as goal

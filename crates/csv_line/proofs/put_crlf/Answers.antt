@@ -1,5 +1,4 @@
 -- `csv_line::put_crlf`: the answers to its goals. Assumes nothing.
-use Prim.Native.Nat.{◌-◌}
 use native.Mathlib.Omega.{arith}
 use Rattle.csv_figures.specs.OutLaws.{wrote_then, wrote-length}
 use Rattle.csv_line.proofs.put_crlf.Goals as goal

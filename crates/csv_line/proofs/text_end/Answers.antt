@@ -1,16 +1,10 @@
 -- `csv_line::text_end`: the answers to its goals. Assumes nothing.
-use Prim.Native.Nat.{◌-◌}
-use Rattle.csv_line.proofs.Lines.{end_short, end_no_cr, end-no-lf, end-found}
+use Rattle.std.proofs.Common.{◌∙◌}
+use Rattle.csv_line.proofs.Lines.{no_end, an_end}
 use Rattle.csv_line.proofs.text_end.Goals as goal
 
-pub returns-then-line-lt2 : goal.returns-then-line-lt2
-returns-then-line-lt2 c = end_short _ c.if-line-lt2.true
-
-pub returns-then-line-end-ne13 : goal.returns-then-line-end-ne13
-returns-then-line-end-ne13 c = end_no_cr _ c.if-line-lt2.false c.if-line-end-ne13.true
-
-pub returns-then-line-end-ne10 : goal.returns-then-line-end-ne10
-returns-then-line-end-ne10 c = end-no-lf _ c.if-line-lt2.false c.if-line-end-ne13.false c.if-line-end-ne10.true
+pub returns-in_err-text : goal.returns-in_err-text
+returns-in_err-text c = c.from_residual.ensures ∙ no_end _ c.in_err-text.ensures.cases
 
 pub returns : goal.returns
-returns c = end-found _ c.if-line-lt2.false c.if-line-end-ne13.false c.if-line-end-ne10.false
+returns c = an_end _ _ c.in_ok-text.ensures.cases.0 c.in_ok-text.ensures.cases.2

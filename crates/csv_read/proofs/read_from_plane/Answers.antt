@@ -1,6 +1,5 @@
 -- `csv_read::read_from_plane`: the answers to its goals. Assumes nothing.
 use mathlib.Core.Path.{sym, ◌∙◌}
-use Prim.Native.Nat.{◌-◌}
 use native.Mathlib.Omega.{arith}
 use lib.Seq.{length-take-le}
 use Rattle.csv_read.proofs.Answers.{inside, plane_nowhere, plane-last, plane-on, cells_read, cells-not}
@@ -12,16 +11,11 @@ slice_bounds-read_plane-end c = sym (length-take-le _ _ (inside _ _ c.field_end-
 
 pub returns-in_default : goal.returns-in_default
 returns-in_default c =
-    let b2 = c in
-    let b4 = b2 in
-    plane_nowhere _ _ b4.field_end-end.ensures _ _ _ (sym c.in_default.is ∙ b2.read_plane.ensures)
+    plane_nowhere _ _ c.field_end-end.ensures _ _ _ (sym c.in_default.is ∙ c.read_plane.ensures)
 
 pub returns-then-end-text : goal.returns-then-end-text
 returns-then-end-text c =
-    let b2 = c in
-    let b4 = b2 in
-    let b6 = b4 in
-    plane-last _ _ b6.field_end-end.ensures _ _ _ b2.in-Code.plane (sym b2.in-Code.is ∙ b4.read_plane.ensures) c.if-end-text.true
+    plane-last _ _ c.field_end-end.ensures _ _ _ c.in-Some.plane (sym c.in-Some.is ∙ c.read_plane.ensures) c.if-end-text.true
 
 pub overflow_add-from : goal.overflow_add-from
 overflow_add-from c = let h = inside _ _ c.field_end-end.ensures in search rules
@@ -34,22 +28,10 @@ slice_bounds-read_cells-start c = let h = inside _ _ c.field_end-end.ensures in 
 
 pub returns-then-read_cells : goal.returns-then-read_cells
 returns-then-read_cells c =
-    let b2 = c in
-    let b5 = b2 in
-    let b7 = b5 in
-    let b10 = b7 in
-    let b12 = b10 in
-    let b14 = b12 in
-    let b16 = b14 in
-    plane-on _ _ b16.field_end-end.ensures _ _ _ b12.in-Code.plane (sym b12.in-Code.is ∙ b14.read_plane.ensures) b10.if-end-text.false _ _
-    (cells_read _ _ _ _ _ _ _ b5.if-read_cells.true b7.read_cells.ensures _ b2.copy_row.ensures)
+    plane-on _ _ c.field_end-end.ensures _ _ _ c.in-Some.plane (sym c.in-Some.is ∙ c.read_plane.ensures) c.if-end-text.false _ _
+    (cells_read _ _ _ _ _ _ _ c.if-read_cells.true c.read_cells.ensures _ c.copy_from_slice.ensures.after)
 
 pub returns : goal.returns
 returns c =
-    let b2 = c in
-    let b5 = b2 in
-    let b7 = b5 in
-    let b9 = b7 in
-    let b11 = b9 in
-    plane-on _ _ b11.field_end-end.ensures _ _ _ b7.in-Code.plane (sym b7.in-Code.is ∙ b9.read_plane.ensures) b5.if-end-text.false _ _
-    (cells-not _ _ _ _ _ _ _ c.if-read_cells.false b2.read_cells.ensures)
+    plane-on _ _ c.field_end-end.ensures _ _ _ c.in-Some.plane (sym c.in-Some.is ∙ c.read_plane.ensures) c.if-end-text.false _ _
+    (cells-not _ _ _ _ _ _ _ c.if-read_cells.false c.read_cells.ensures)

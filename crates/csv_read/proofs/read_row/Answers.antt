@@ -1,6 +1,5 @@
 -- `csv_read::read_row`: the answers to its goals. Assumes nothing.
 use mathlib.Core.Path.{sym, ◌∙◌}
-use Prim.Native.Nat.{◌-◌}
 use native.Mathlib.Omega.{arith}
 use lib.Seq.{length-take-le}
 use Rattle.csv_read.proofs.Answers.{inside, line_bad, line-last, line_on}
@@ -15,10 +14,7 @@ returns-in_default c = line_bad _ _ c.field_end-end.ensures _ (sym c.in_default.
 
 pub returns-then-end-text : goal.returns-then-end-text
 returns-then-end-text c =
-    let b2 = c in
-    let b4 = b2 in
-    let b6 = b4 in
-    line-last _ _ b6.field_end-end.ensures _ b2.in-At.line (sym b2.in-At.is ∙ b4.read_line.ensures) c.if-end-text.true
+    line-last _ _ c.field_end-end.ensures _ c.in-Some.line (sym c.in-Some.is ∙ c.read_line.ensures) c.if-end-text.true
 
 pub overflow_add-from : goal.overflow_add-from
 overflow_add-from c = let h = inside _ _ c.field_end-end.ensures in search rules
@@ -28,15 +24,9 @@ slice_bounds-read_from_motion-count c = let h = inside _ _ c.field_end-end.ensur
 
 pub slice_bounds-read_from_motion-start : goal.slice_bounds-read_from_motion-start
 slice_bounds-read_from_motion-start c =
-    let b6 = c in
-    let h = inside _ _ b6.field_end-end.ensures in let n = c.if-end-text.false in search rules
+    let h = inside _ _ c.field_end-end.ensures in let n = c.if-end-text.false in search rules
 
 pub returns : goal.returns
 returns c =
-    let b2 = c in
-    let b5 = b2 in
-    let b7 = b5 in
-    let b9 = b7 in
-    let b11 = b9 in
-    line_on _ _ b11.field_end-end.ensures _ b7.in-At.line (sym b7.in-At.is ∙ b9.read_line.ensures) b5.if-end-text.false _ _
-    b2.read_from_motion.ensures
+    line_on _ _ c.field_end-end.ensures _ c.in-Some.line (sym c.in-Some.is ∙ c.read_line.ensures) c.if-end-text.false _ _
+    c.read_from_motion.ensures

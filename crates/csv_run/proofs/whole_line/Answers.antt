@@ -13,4 +13,4 @@ returns-in_default c =
 
 pub slice_bounds-text_line-end : goal.slice_bounds-text_line-end
 slice_bounds-text_line-end c =
-    sym (length-take-le _ _ (end_in _ (sym c.text_end.ensures ∙ c.in-Upto.is)))
+    sym (length-take-le _ _ (end_in _ (sym c.text_end.ensures ∙ c.in-Some.is)))

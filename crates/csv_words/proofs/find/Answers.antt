@@ -1,23 +1,24 @@
 -- `csv_words::find`: the answers to its goals. Assumes nothing.
-use Prim.Native.Nat.{ℕ, ◌-◌}
 use native.Mathlib.Omega.{arith}
-use Rattle.csv_words.specs.Seeks.{as_number, seeks_first, seeks_hit, seeks_miss, seeks_end}
+use Rattle.std.specs.Prelude.{ℕ}
+use Rattle.csv_words.specs.Seeks.{as_number, seeks_first, seeks_hit, seeks_miss, seeks_end, place-there, place-nowhere, place-long}
 use Rattle.csv_words.proofs.find.Goals as goal
 
-pub loop-i-init : goal.loop-i-init
-loop-i-init c = seeks_first _ _ _ _ c.requires.0 (as_number _ _ c.packed.ensures.0)
+pub returns-then-s-gt7 : goal.returns-then-s-gt7
+returns-then-s-gt7 c = place-long _ _ _ c.requires c.if-s-gt7.true
 
-pub returns-then-entry-p : goal.returns-then-entry-p
-returns-then-entry-p c =
-    let b2 = c in
-    let b3 = b2 in
-    let b5 = b3 in
-    let b6 = b5 in
-    seeks_hit _ _ _ _ _ _ b3.loop-i.invariant b2.loop-i-test.true (λ (k : ℕ). (b5.shared_slice_known-1.given k).fits) b6.requires.1 _
-    c.entry.ensures c.if-entry-p.true
+pub loop-i-init : goal.loop-i-init
+loop-i-init c = seeks_first _ _ _ _ c.requires (as_number _ _ c.packed.ensures.0)
+
+pub returns-then-entry-number : goal.returns-then-entry-number
+returns-then-entry-number c =
+    place-there _ _ _ _
+    (seeks_hit _ _ _ _ _ _ c.loop-i.invariant c.loop-i-test.true (λ (k : ℕ). (c.type_inv.s k).fits) c.if-s-gt7.false _ c.entry.ensures
+    c.if-entry-number.true)
+    c.loop-i-test.true
 
 pub loop-i-preserved : goal.loop-i-preserved
-loop-i-preserved c = seeks_miss _ _ _ _ _ _ c.loop-i.invariant c.loop-i-test.true _ c.entry.ensures c.if-entry-p.false
+loop-i-preserved c = seeks_miss _ _ _ _ _ _ c.loop-i.invariant c.loop-i-test.true _ c.entry.ensures c.if-entry-number.false
 
 pub returns : goal.returns
-returns c = seeks_end _ _ _ _ _ _ c.loop-i.invariant (omega arith)
+returns c = place-nowhere _ _ _ _ (seeks_end _ _ _ _ _ _ c.loop-i.invariant (omega arith)) (omega arith)

@@ -1,17 +1,20 @@
 -- `csv_words::put_chars`: the answers to its goals. Assumes nothing.
-use Prim.Native.Nat.{◌-◌}
+use native.Mathlib.Nat.{add-zero, sub-zero}
 use native.Mathlib.Omega.{arith}
+use Rattle.std.specs.Prelude.{◌≡◌, ◌+◌, ◌-◌}
 use Rattle.csv_words.specs.Chars.{starts, stores, ends}
 use Rattle.csv_words.proofs.put_chars.Goals as goal
 
-pub loop-j-init : goal.loop-j-init
-loop-j-init c = starts _ _ _ _
+pub loop-i-init : goal.loop-i-init
+loop-i-init c = rw (add-zero c.args.n, sub-zero c.args.k) (starts _ _ _ _)
 
-pub loop-j-preserved : goal.loop-j-preserved
-loop-j-preserved c = stores _ _ _ _ _ _ _ _ c.loop-j.invariant c.loop-j-test.true c.byte.ensures
-
-pub shape_of-out : goal.shape_of-out
-shape_of-out c = c.loop-j.invariant.same
+pub loop-i-preserved : goal.loop-i-preserved
+loop-i-preserved c =
+    let at : c.args.n + (c.loop-i.i + 1) ≡ c.args.n + c.loop-i.i + 1 = omega arith in
+    let left : c.args.k - (c.loop-i.i + 1) ≡ c.args.k - c.loop-i.i - 1 = omega arith in
+    let last : c.args.k - 1 - c.loop-i.i ≡ c.args.k - c.loop-i.i - 1 = omega arith in
+    rw (at, left) (stores _ _ _ _ _ _ _ _ c.loop-i.invariant (omega arith) (rw last at c.byte.ensures))
 
 pub returns : goal.returns
-returns c = ends _ _ _ _ _ _ _ c.loop-j.invariant (omega arith)
+returns c =
+    let all : c.args.n + c.loop-i.i ≡ c.args.n + c.args.k = omega arith in rw all at (ends _ _ _ _ _ _ _ c.loop-i.invariant (omega arith))

@@ -1,16 +1,18 @@
 -- `csv_words::read_plane`: the answers to its goals. Assumes nothing.
-use Prim.Native.Nat.{◌-◌}
-use Rattle.csv_words.specs.Seeks.{plane-empty, plane-long, plane-at, plane-none}
+use Rattle.std.proofs.Common.{◌∙◌, sym, arith}
+use Rattle.std.proofs.lemmas.Grind.{common_steps}
+use Rattle.csv_words.specs.Seeks.{plane-empty, plane-found, plane-lost}
 use Rattle.csv_words.proofs.read_plane.Goals as goal
 
-pub returns-then-s-eq0 : goal.returns-then-s-eq0
-returns-then-s-eq0 c = plane-empty _ c.if-s-eq0.true
+pub returns-then-is_empty : goal.returns-then-is_empty
+returns-then-is_empty c = plane-empty _ (grind (arith, common_steps))
 
-pub returns-then-s-gt7 : goal.returns-then-s-gt7
-returns-then-s-gt7 c = plane-long _ c.if-s-eq0.false c.if-s-gt7.true
+pub overflow_add-result : goal.overflow_add-result
+overflow_add-result c = omega (arith, (plane-found c.args.s.now c.in_ok-i.i (grind (arith, common_steps)) (sym c.in_ok-i.was ∙ c.find.ensures)).0)
 
-pub returns-then-i-lt19 : goal.returns-then-i-lt19
-returns-then-i-lt19 c = plane-at _ _ c.if-s-eq0.false c.find-i.ensures c.if-i-lt19.true
+pub returns-in_err-i : goal.returns-in_err-i
+returns-in_err-i c =
+    c.from_residual.ensures ∙ plane-lost c.args.s.now (grind (arith, common_steps)) (sym c.in_err-i.was ∙ c.find.ensures)
 
 pub returns : goal.returns
-returns c = plane-none _ _ c.if-s-eq0.false c.find-i.ensures c.if-i-lt19.false
+returns c = (plane-found c.args.s.now c.in_ok-i.i (grind (arith, common_steps)) (sym c.in_ok-i.was ∙ c.find.ensures)).1

@@ -32,12 +32,6 @@ overflow_add-counts c =
       ) at-owner-at.owner_at-owner.ensures).1,
     )
 
-pub offset_bounds-counts-i-2 : goal.offset_bounds-counts-i-2
-offset_bounds-counts-i-2 c =
-    let at-owner-at = c in
-    let start = at-owner-at in
-    omega (arith, owner_index start.args.t (start.requires.owners, start.requires.counts) at-owner-at.owner_at-owner.ensures, start.requires.counts.table)
-
 pub bounds-counts-i-2 : goal.bounds-counts-i-2
 bounds-counts-i-2 c =
     let at-owner-at = c in

@@ -4,8 +4,8 @@ use Rattle.curve_walk.specs.Walks.{own_in}
 use Rattle.curve_owner.proofs.Owners.{knotted}
 use Rattle.curve_owner.proofs.owner_at.Goals as goal
 
-pub overflow_sub-n : goal.overflow_sub-n
-overflow_sub-n c = omega (arith, (knotted c.in-Basis.is c.requires).one)
+pub overflow_sub-s : goal.overflow_sub-s
+overflow_sub-s c = omega (arith, (knotted c.in-Basis.is c.requires).one)
 
 pub advance-requires : goal.advance-requires
 advance-requires c =

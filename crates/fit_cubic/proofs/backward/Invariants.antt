@@ -1,9 +1,8 @@
 -- `fit_cubic::backward`: what holds at each turn of its loops. Assumes nothing.
 use mathlib.Core.Path.{◌≡◌}
 use mathlib.Core.List.{List}
-use Prim.Native.Nat.{ℕ, ◌≤◌, ◌-◌, ◌<◌, ◌+◌}
+use Prim.Native.Nat.{ℕ, ◌-◌, ◌<◌, ◌+◌}
 use lib.Ieee.{Float, nan}
-use lib.ListN.{length}
 use Rattle.fit_slopes.specs.Slopes.{bend_back, bend}
 use Rattle.floats.specs.Fill.{Backing}
 use Rattle.fit_cubic.proofs.Cubics.{Unspent}
@@ -12,13 +11,9 @@ use Rattle.fit_cubic.proofs.backward.Given as goal
 -- at knot i
 pub record Bends (ts ys : List Float) (m : ℕ) (r₀ r : List Float) (b : Float) (i : ℕ) : Type 0 where
   pub low : 0 < i
-  pub high : (i ≤ m) × (m < length r₀)
   pub last : b ≡ bend_back ts ys m (m - i)
   pub done : Backing nan (bend ts ys m) i (m + 1) r₀ r
   pub unspent : Unspent ts ys r i
 
-abbrev pub invariant-loop-i : goal.invariant-loop-i
-invariant-loop-i l = Bends l.ts l.ys l.m l.initial.r l.r l.b l.i
-
-abbrev pub decreases-loop-i : goal.decreases-loop-i
-decreases-loop-i l = l.i
+abbrev pub invariant-loop-j : goal.invariant-loop-j
+invariant-loop-j l = Bends l.ts l.ys l.m l.initial.r l.r l.b l.j

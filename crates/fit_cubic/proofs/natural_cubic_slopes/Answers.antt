@@ -8,13 +8,7 @@ pub returns-then-n-eq2 : goal.returns-then-n-eq2
 returns-then-n-eq2 c = c.straight_slopes.ensures ∙ cubic-straight _ _ _ _ c.if-n-eq2.true
 
 pub returns-then-n-le-SMALL_POINTS : goal.returns-then-n-le-SMALL_POINTS
-returns-then-n-le-SMALL_POINTS c =
-    let if1 = c.if-n-eq2 in
-    let pre = c.requires in
-    c.bent_small.ensures ∙ cubic-many _ _ _ _ if1.false (omega (arith, pre))
+returns-then-n-le-SMALL_POINTS c = c.bent_in.ensures ∙ cubic-many _ _ _ _ c.if-n-eq2.false (omega arith)
 
 pub returns-else-n-le-SMALL_POINTS : goal.returns-else-n-le-SMALL_POINTS
-returns-else-n-le-SMALL_POINTS c =
-    let if1 = c.if-n-eq2 in
-    let pre = c.requires in
-    c.bent_large.ensures ∙ cubic-many _ _ _ _ if1.false (omega (arith, pre))
+returns-else-n-le-SMALL_POINTS c = c.bent_in-else-n-le-SMALL_POINTS.ensures ∙ cubic-many _ _ _ _ c.if-n-eq2.false (omega arith)

@@ -1,17 +1,14 @@
 -- `fit_piece::piece`: the answers to its goals. Assumes nothing.
-use Prim.Native.Nat.{◌-◌}
-use native.Mathlib.Omega.{arith}
-use Rattle.fit_piece.proofs.Pieces.{narrowed_start, narrowed_low, narrowed_high, narrowed_end}
+use borrow.Author.Rules.{rules}
+use Rattle.std.proofs.lemmas.List.Sorted.{IsPartitionPoint-from_clause}
+use Rattle.fit_piece.proofs.Pieces.{ends, passes, parted, halved}
 use Rattle.fit_piece.proofs.piece.Goals as goal
 
-pub loop-lo-init : goal.loop-lo-init
-loop-lo-init c = narrowed_start _ _ _ (omega arith)
-
-pub loop-lo-preserved-then-t-ts : goal.loop-lo-preserved-then-t-ts
-loop-lo-preserved-then-t-ts c = narrowed_low _ _ _ _ c.loop-lo.invariant (omega arith) (omega arith) c.if-t-ts.true
-
-pub loop-lo-preserved : goal.loop-lo-preserved
-loop-lo-preserved c = narrowed_high _ _ _ c.requires.rising _ c.loop-lo.invariant (omega arith) c.if-t-ts.false
-
 pub returns : goal.returns
-returns c = (narrowed_end _ _ _ c.loop-lo.invariant (omega arith), omega (arith, c.loop-lo.invariant.order, c.loop-lo.invariant.inside))
+returns c =
+    let args = c.args in
+    let pre = c.requires in
+    let found = c.partition_point in
+    let at = IsPartitionPoint-from_clause (passes args.ts.now args.n args.t) (ends args.ts.now args.n args.t) found.result found.ensures.partitioned
+    (parted args.ts.now args.n args.t pre.rising pre.le_n.1) (λ a r f' k. search rules) in
+    halved args.ts.now args.n args.t found.result pre.le_n.0 pre.le_n.1 found.ensures.bound at

@@ -1,12 +1,15 @@
 -- `fit_point::eval_fit`: the answers to its goals. Assumes nothing.
-use Rattle.fit_point.proofs.Blends.{fit_is}
+use mathlib.Core.Path.{◌≡◌, ◌∙◌}
+use borrow.Author.Rules.{rules}
+use Rattle.fit_point.specs.Channels.{channel_of}
+use Rattle.fit_point.proofs.Blends.{blended_is}
 use Rattle.fit_point.proofs.eval_fit.Goals as goal
 
 pub returns : goal.returns
 returns c =
-    let step-at = c.step_at-h in
-    let piece-near = c.piece_near-w in
-    let pre = c.requires in
-    let held_in = c.held_in in
-    let blend-at = c.blend_at in
-    fit_is _ _ _ _ _ _ piece-near.ensures.0 step-at.ensures held_in.ensures blend-at.ensures pre.narrow c.channels.ensures
+    let a = c.args in
+    let w = c.piece_near-w in
+    let b = c.blend_at-b in
+    c.each_channel.ensures _ (λ i x h called.
+    let e : x ≡ channel_of b.result a.fps.now a.slopes.now a.m a.ch w.result i = search rules in
+    e ∙ blended_is a.fts.now a.fps.now a.slopes.now a.m a.ch a.t w.ensures.0 c.step_at-h.ensures c.held_in.ensures b.ensures i h)

@@ -28,7 +28,7 @@ put_listed-named-requires c =
     let b8 = b4 in
     let b15 = b8 in
     let z : b15.args.reply.code ≡ 0 = omega arith in list_fits 0 b15.args.reply b15.args.rows.now b15.args.run z b15.requires
-    b8.write_rows.ensures b4.in-Upto.is
+    b8.write_rows.ensures b4.in-Some.is
 
 pub done_by-course-requires : goal.done_by-course-requires
 done_by-course-requires c =
@@ -44,4 +44,4 @@ returns c =
     let b12 = b8 in
     let b19 = b12 in
     let z : b19.args.reply.code ≡ 0 = omega arith in all_done _ b19.args.reply b19.args.rows.now b19.args.run z b19.requires
-    b12.write_rows.ensures b8.in-Upto.is b3.put_listed-named.ensures c.done_by-course.ensures
+    b12.write_rows.ensures b8.in-Some.is b3.put_listed-named.ensures c.done_by-course.ensures

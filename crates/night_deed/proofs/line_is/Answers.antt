@@ -8,4 +8,4 @@ pub slice_bounds-text_is-end : goal.slice_bounds-text_is-end
 slice_bounds-text_is-end c =
     let at_n = c in
     let at-text-end = at_n in
-    sym (length-take-le _ _ (end_in _ (sym at-text-end.text_end.ensures ∙ at_n.in-Upto.is)))
+    sym (length-take-le _ _ (end_in _ (sym at-text-end.text_end.ensures ∙ at_n.in-Some.is)))

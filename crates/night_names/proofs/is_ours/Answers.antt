@@ -7,7 +7,4 @@ pub returns-then-ends_in : goal.returns-then-ends_in
 returns-then-ends_in c = is-part _ (sym c.ends_in.ensures ∙ c.if-ends_in.true)
 
 pub returns : goal.returns
-returns c =
-    let b2 = c in
-    let b3 = b2 in
-    is-named _ _ _ (sym b3.ends_in.ensures ∙ b3.if-ends_in.false) b2.name_of-name.ensures.0 c.is_our_name.ensures
+returns c = is-named _ _ _ (sym c.ends_in.ensures ∙ c.if-ends_in.false) c.name_of-from.ensures.0 c.is_our_name.ensures

@@ -1,24 +1,17 @@
 -- `night_path::ends_csv`: the answers to its goals. Assumes nothing.
-use mathlib.Core.Path.{sym, ◌∙◌, ap}
-use mathlib.Core.List.{List}
-use Prim.Native.Nat.{ℕ, ◌-◌}
-use lib.ListN.{length}
-use borrow.Author.Tests.{le-leb, lt-leb}
-use Rattle.floats.specs.Truth.{and_t, and_f}
+use Rattle.std.proofs.Common.{ℕ, ◌-◌, ap, ◌∙◌, ◌&&◌, List, length, leb, drop}
 use Rattle.csv_fields.specs.Readers.{tail-is}
 use Rattle.csv_words.specs.Text.{bytes}
 use Rattle.csv_words.specs.Words.{same}
-use Rattle.night_path.specs.Names.{ends_csv, ending}
-use Rattle.night_path.specs.Comparing.{is_same}
+use Rattle.night_path.specs.Names.{ending}
+use Rattle.night_path.specs.Comparing.{ends_same}
+use Rattle.night_path.proofs.Naming.{tail-ends}
 use Rattle.night_path.proofs.ends_csv.Goals as goal
 
-pub returns-then-path-from-lt-ENDING : goal.returns-then-path-from-lt-ENDING
-unfolding ends_csv
-returns-then-path-from-lt-ENDING c = sym (and_f _ (lt-leb _ _ c.if-path-from-lt-ENDING.true))
-
 pub returns : goal.returns
-unfolding ends_csv
-returns c = let t = c.args.path.now in
-    is_same _ _ _ c.same.ensures.0 c.same.ensures.1
-    ∙ ap (λ (z : List ℕ). same z (bytes ".csv")) (tail-is t (length t - ending))
-    ∙ sym (and_t _ (le-leb _ _ c.if-path-from-lt-ENDING.false))
+returns c =
+    let t = c.args.path.now in
+    let k = c.args.from in
+    ends_same _ (bytes ".csv") _ c.ends_with.ensures.value c.ends_with.ensures.bound
+    ∙ ap (λ (z : List ℕ). leb ending (length z) && same (drop (length z - ending) z) (bytes ".csv")) (tail-is t k)
+    ∙ tail-ends t k

@@ -1,6 +1,5 @@
 -- `night_path::name_of`: the answers to its goals. Assumes nothing.
 use mathlib.Core.Path.{sym, ◌∙◌}
-use Prim.Native.Nat.{◌-◌}
 use native.Mathlib.Omega.{arith}
 use Rattle.night_path.proofs.Naming.{ends-long, named, named-whole}
 use Rattle.night_path.proofs.name_of.Goals as goal

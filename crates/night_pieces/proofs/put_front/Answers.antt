@@ -1,5 +1,4 @@
 -- `night_pieces::put_front`: the answers to its goals. Assumes nothing.
-use Prim.Native.Nat.{◌-◌}
 use mathlib.Core.Path.{◌∙◌}
 use native.Mathlib.Omega.{arith}
 use Rattle.csv_figures.specs.OutLaws.{wrote_then, wrote-length}

@@ -1,24 +1,18 @@
 -- `night_pieces::put_numbers`: the answers to its goals. Assumes nothing.
-use Prim.Native.Nat.{◌-◌}
+use mathlib.Core.Path.{◌∙◌}
 use native.Mathlib.Omega.{arith}
-use Rattle.csv_figures.specs.OutLaws.{wrote-length}
-use Rattle.night_pieces.proofs.Writing.{numbers-none, numbers_more, numbers-done}
+use Rattle.std.proofs.Common.{◌+◌, ◌-◌, drop}
+use Rattle.std.proofs.lemmas.List.{get_or-drop, get_or-take}
+use Rattle.night_pieces.proofs.Writing.{numbers-none, numbers_more}
 use Rattle.night_pieces.proofs.put_numbers.Goals as goal
 
-pub loop-k-init : goal.loop-k-init
-loop-k-init c = (numbers-none _ _ _ _, (omega arith, (omega arith, omega arith)))
+pub loop-v-init : goal.loop-v-init
+loop-v-init c = numbers-none _ _ _ _
 
-pub put_next-at-requires : goal.put_next-at-requires
-put_next-at-requires c = omega (arith, c.loop-k.invariant.0.near, wrote-length c.loop-k.invariant.0.text)
-
-pub loop-k-preserved : goal.loop-k-preserved
-loop-k-preserved c =
-    let b2 = c in
-    let b6 = b2 in
-    (numbers_more b6.loop-k.invariant.0 b2.put_next-at.ensures.0 b2.put_next-at.ensures.1, (omega arith, (omega arith, omega arith)))
-
-pub shape_of-out : goal.shape_of-out
-shape_of-out c = wrote-length c.loop-k.invariant.0.text
-
-pub returns : goal.returns
-returns c = numbers-done c.loop-k.invariant.0 (omega arith)
+pub loop-v-preserved : goal.loop-v-preserved
+loop-v-preserved c =
+    let ns = c.args.numbers.now in
+    let from = c.args.from in
+    let k = c.loop-v.v-index in
+    numbers_more c.loop-v.invariant (get_or-take (from + c.args.count - from) (drop from ns) k 0 (omega arith) ∙ get_or-drop from ns k 0)
+    c.put_next-at.ensures.0 c.put_next-at.ensures.1

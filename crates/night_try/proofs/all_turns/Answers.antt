@@ -1,26 +1,19 @@
 -- `night_try::all_turns`: the answers to its goals. Assumes nothing.
-use native.Mathlib.Omega.{arith}
+use Rattle.std.proofs.Common.{refl, inl, inr, lit<}
 use Rattle.night_turns.specs.TurnLaws.{first-stands, stands_on_lem}
 use Rattle.night_try.proofs.all_turns.Goals as goal
 
-pub loop-turns-init : goal.loop-turns-init
-loop-turns-init c = first-stands _ _ _ _ c.requires
+pub loop-init : goal.loop-init
+loop-init c = first-stands _ _ _ _ c.requires
 
 pub step-s-requires : goal.step-s-requires
-step-s-requires c =
-    let at-loop = c in
-    (at-loop.loop-turns.invariant.all.within, at-loop.loop-turns.invariant.going (omega arith))
+step-s-requires c = (c.loop.invariant.all.within, c.loop.invariant.going (lit< tt))
 
-pub loop-turns-smaller : goal.loop-turns-smaller
-loop-turns-smaller c = c.turns_left-turns.ensures.0
+pub returns-then-s-ne-GOES_ON : goal.returns-then-s-ne-GOES_ON
+returns-then-s-ne-GOES_ON c = (stands_on_lem {left = 0} c.loop.invariant (lit< tt) c.step-s.ensures (inr refl)).all
 
-pub loop-turns-preserved : goal.loop-turns-preserved
-loop-turns-preserved c =
-    let at-step = c in
-    let at-loop = at-step in
-    stands_on_lem at-loop.loop-turns.invariant (omega arith) at-step.step-s.ensures c.turns_left-turns.ensures.1
+pub loop-preserved : goal.loop-preserved
+loop-preserved c = stands_on_lem {left = 1} c.loop.invariant (lit< tt) c.step-s.ensures (inl c.if-s-ne-GOES_ON.false)
 
 pub returns : goal.returns
-returns c =
-    let at-loop = c in
-    at-loop.loop-turns.invariant.all
+returns c = c.loop.invariant.all

@@ -9,6 +9,6 @@ pub returns-then-path-eq0 : goal.returns-then-path-eq0
 unfolding end_text
 returns-then-path-eq0 c = rw (eq-eqb _ _ c.if-path-eq0.true) (record { next = omega arith; text = refl })
 
-pub returns : goal.returns
+pub returns-else-path-eq0 : goal.returns-else-path-eq0
 unfolding end_text
-returns c = rw (ne_eqb _ _ c.if-path-eq0.false) c.put_bytes.ensures
+returns-else-path-eq0 c = rw (ne_eqb _ _ c.if-path-eq0.false) c.put_bytes.ensures

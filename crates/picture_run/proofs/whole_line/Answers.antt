@@ -6,4 +6,4 @@ use Rattle.picture_run.proofs.whole_line.Goals as goal
 
 pub slice_bounds-text_line-end : goal.slice_bounds-text_line-end
 slice_bounds-text_line-end c =
-    sym (length-take-le _ _ (text-within _ _ (sym c.text_end.ensures ∙ c.in-Upto.is)))
+    sym (length-take-le _ _ (text-within _ _ (sym c.text_end.ensures ∙ c.in-Some.is)))

@@ -1,19 +1,8 @@
--- `push_forget::zero_start`: the answers to its goals. Assumes nothing.
-use mathlib.Core.Path.{◌≡◌, refl}
-use native.Mathlib.Omega.{arith}
-use Prim.Native.Nat.{◌+◌, ◌-◌}
-use Rattle.floats.specs.Splice.{splicing_none, splicing_more}
-use Rattle.layout.specs.Layout.{axis_codes}
+-- `push_forget::zero_start`: the answer to a goal. Assumes nothing.
+use Rattle.std.proofs.Common.{◌+◌, arith}
+use Rattle.layout.specs.Layout.{axis_codes, w_start}
+use Rattle.push_forget.proofs.Zeros.{zeroed}
 use Rattle.push_forget.proofs.zero_start.Goals as goal
 
-pub loop-k-init : goal.loop-k-init
-loop-k-init c = (omega arith, splicing_none)
-
-pub loop-k-preserved : goal.loop-k-preserved
-loop-k-preserved c = (omega arith, splicing_more c.loop-k.invariant.1 (omega arith) refl)
-
-pub shape_of-state : goal.shape_of-state
-shape_of-state c = c.loop-k.invariant.1.same
-
 pub returns : goal.returns
-returns c = let e : c.loop-k.k ≡ axis_codes + 1 = omega arith in rw e at c.loop-k.invariant.1.is
+returns c = zeroed c.args.state.now w_start (axis_codes + 1) (omega arith) (c.fill.ensures.after (λ y e. e))

@@ -15,28 +15,19 @@ offset_bounds-row-k c = omega (arith, tracked-axis _ _ c.loop-rest.invariant.0 (
 
 pub bounds-row-k : goal.bounds-row-k
 bounds-row-k c =
-    let b2 = c in
-    let b4 = b2 in
-    omega (arith, tracked-axis _ _ b4.loop-rest.invariant.0 (omega arith) b2.lowest_bit-k.ensures, b4.loop-rest.invariant.1.wide)
+    omega (arith, tracked-axis _ _ c.loop-rest.invariant.0 (omega arith) c.lowest_bit-k.ensures, c.loop-rest.invariant.1.wide)
 
 pub place-requires : goal.place-requires
 place-requires c =
-    let b2 = c in
-    let b4 = b2 in
-    (tracked-long _ _ b4.loop-rest.invariant.0 ∙ b4.loop-rest.invariant.1.long, tracked-axis _ _ b4.loop-rest.invariant.0 (omega arith) b2.lowest_bit-k.ensures)
+    (tracked-long _ _ c.loop-rest.invariant.0 ∙ c.loop-rest.invariant.1.long, tracked-axis _ _ c.loop-rest.invariant.0 (omega arith) c.lowest_bit-k.ensures)
 
 pub loop-rest-smaller : goal.loop-rest-smaller
 loop-rest-smaller c =
-    let b6 = c in
-    let b8 = b6 in
-    omega (arith, tracked-fewer _ _ b8.loop-rest.invariant.0 (omega arith) b6.lowest_bit-k.ensures)
+    omega (arith, tracked-fewer _ _ c.loop-rest.invariant.0 (omega arith) c.lowest_bit-k.ensures)
 
 pub loop-rest-preserved : goal.loop-rest-preserved
 loop-rest-preserved c =
-    let b3 = c in
-    let b6 = b3 in
-    let b8 = b6 in
-    (tracked-more _ _ b8.loop-rest.invariant.0 (omega arith) b6.lowest_bit-k.ensures c.other_bits-rest.ensures b3.place.ensures, b8.loop-rest.invariant.1)
+    (tracked-more _ _ c.loop-rest.invariant.0 (omega arith) c.lowest_bit-k.ensures c.other_bits-rest.ensures c.place.ensures, c.loop-rest.invariant.1)
 
 pub shape_of-state : goal.shape_of-state
 shape_of-state c = tracked-long _ _ c.loop-rest.invariant.0

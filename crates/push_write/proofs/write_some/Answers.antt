@@ -8,5 +8,5 @@ put_row-requires c =
     let b6 = c in
     (b6.requires.0.ready.block.wide, omega (arith, b6.requires.0.room))
 
-pub returns-in-Pass : goal.returns-in-Pass
-returns-in-Pass c = passed_on _ _ _ _ _ _ (omega arith) c.in-Pass.is c.put_row.ensures
+pub returns-in-None : goal.returns-in-None
+returns-in-None c = passed_on _ _ _ _ _ _ (omega arith) c.in-None.is c.put_row.ensures

@@ -2,8 +2,8 @@
 use Prim.Native.Nat.{◌≤◌}
 use Rattle.replay.proofs.all_turns.Given as goal
 
-abbrev pub invariant-loop-s : goal.invariant-loop-s
-invariant-loop-s g l = (l.s.window.at ≤ l.s.window.end) × (l.s.window.end ≤ 65536)
+abbrev pub invariant-loop-window : goal.invariant-loop-window
+invariant-loop-window g l = (l.window.at ≤ l.window.end) × (l.window.end ≤ 65536)
 
-abbrev pub decreases-loop-s : goal.decreases-loop-s
-decreases-loop-s g l = l.s.window.turns
+abbrev pub decreases-loop-window : goal.decreases-loop-window
+decreases-loop-window g l = l.window.turns

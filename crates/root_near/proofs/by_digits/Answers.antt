@@ -22,7 +22,6 @@ next-four x i = ap (λ (y : ℕ). x * y) (pow-add 4 i 1) ∙ sym (mul_assoc x (4
 one : (x₀ x root rest i : ℕ) → Digits x₀ x root rest i → i < 53 → root * 4 + 1 ≤ rest * 4 + x / 0x4000_0000_0000_0000
     → Digits x₀ (x * 4 % 2 ^ 64) (root * 2 + 1) (rest * 4 + x / 0x4000_0000_0000_0000 - (root * 4 + 1)) (i + 1)
 one x₀ x root rest i v h t = record {
-  turns = omega arith;
   small = omega (arith, next-pow i);
   word = omega arith;
   whole = omega arith;
@@ -32,7 +31,6 @@ one x₀ x root rest i v h t = record {
 none : (x₀ x root rest i : ℕ) → Digits x₀ x root rest i → i < 53 → rest * 4 + x / 0x4000_0000_0000_0000 < root * 4 + 1
     → Digits x₀ (x * 4 % 2 ^ 64) (root * 2) (rest * 4 + x / 0x4000_0000_0000_0000) (i + 1)
 none x₀ x root rest i v h t = record {
-  turns = omega arith;
   small = omega (arith, next-pow i);
   word = omega arith;
   whole = omega arith;
@@ -40,23 +38,23 @@ none x₀ x root rest i v h t = record {
 }
 
 pub overflow_mul-rest : goal.overflow_mul-rest
-overflow_mul-rest c = omega (arith, root-lt c.loop-i.invariant c.loop-i-test.true)
+overflow_mul-rest c = omega (arith, root-lt c.loop.invariant c.loop-test.true)
 
 pub overflow_add-rest : goal.overflow_add-rest
-overflow_add-rest c = omega (arith, root-lt c.loop-i.invariant c.loop-i-test.true)
+overflow_add-rest c = omega (arith, root-lt c.loop.invariant c.loop-test.true)
 
 pub overflow_mul-t : goal.overflow_mul-t
-overflow_mul-t c = omega (arith, root-lt c.loop-i.invariant c.loop-i-test.true)
+overflow_mul-t c = omega (arith, root-lt c.loop.invariant c.loop-test.true)
 
 pub overflow_add-t : goal.overflow_add-t
-overflow_add-t c = omega (arith, root-lt c.loop-i.invariant c.loop-i-test.true)
+overflow_add-t c = omega (arith, root-lt c.loop.invariant c.loop-test.true)
 
-pub loop-i-preserved : goal.loop-i-preserved
-loop-i-preserved c =
-    let at = c.loop-i in
+pub loop-preserved : goal.loop-preserved
+loop-preserved c =
+    let at = c.loop in
     let x₀ = c.args.m * 2 ^ 10 % 2 ^ 64 in
-    let turn = c.loop-i-test.true in
+    let turn = c.loop-test.true in
     elim c.if-t-rest.branch [
-      | then-t-rest w ↦ rw (w.root-is, w.rest-is) (one x₀ at.x at.root at.rest at.i at.invariant turn w.if-t-rest.true)
-      | else-t-rest w ↦ rw (w.root-is, w.rest-is) (none x₀ at.x at.root at.rest at.i at.invariant turn w.if-t-rest.false)
+      | then-t-rest w ↦ rw (w.root-is, w.rest-is) (one x₀ at.x at.root at.rest at.counter at.invariant turn w.if-t-rest.true)
+      | else-t-rest w ↦ rw (w.root-is, w.rest-is) (none x₀ at.x at.root at.rest at.counter at.invariant turn w.if-t-rest.false)
     ]

@@ -1,6 +1,5 @@
 -- `row_numbers::cells_ok`: the answers to its goals. Assumes nothing.
 use mathlib.Core.Path.{sym, ◌∙◌}
-use mathlib.Core.Bool.{true}
 use native.Mathlib.Omega.{arith}
 use Rattle.layout.specs.Layout.{cells}
 use Rattle.floats.specs.Truth.{all_intro, all-fails}

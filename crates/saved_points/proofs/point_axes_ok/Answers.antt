@@ -1,7 +1,6 @@
 -- `saved_points::point_axes_ok`: the answers to its goals. Assumes nothing.
 use Rattle.std.proofs.Common.{◌∙◌}
 use mathlib.Core.Path.{sym}
-use mathlib.Core.Bool.{true}
 use native.Mathlib.Omega.{arith}
 use Rattle.layout.specs.Layout.{axis_codes}
 use Rattle.floats.specs.Truth.{all_intro, all-fails}

@@ -1,6 +1,7 @@
 -- `spline_channels::is_listed`: the answers to its goals. Assumes nothing.
-use Rattle.spline_channels.specs.Keeps.{member-placed}
+use mathlib.Core.Path.{◌∙◌}
+use Rattle.spline_channels.specs.Keeps.{member-listed}
 use Rattle.spline_channels.proofs.is_listed.Goals as goal
 
 pub returns : goal.returns
-returns c = rw c.place_of.ensures (member-placed _ _)
+returns c = c.contains.ensures.value ∙ member-listed _ _

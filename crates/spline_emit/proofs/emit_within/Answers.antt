@@ -3,8 +3,8 @@ use native.Mathlib.Omega.{arith}
 use Rattle.spline_emission.specs.SizeLaws.{numbers-few}
 use Rattle.spline_emit.proofs.emit_within.Goals as goal
 
-pub overflow_mul-held : goal.overflow_mul-held
-overflow_mul-held c =
+pub overflow_mul-job : goal.overflow_mul-job
+overflow_mul-job c =
     let few = numbers-few c.requires.0 in
     rw c.count_channels-ch.ensures (omega (arith, few))
 

@@ -1,6 +1,5 @@
 -- `spline_gather::add_points`: the answers to its goals. Assumes nothing.
 use mathlib.Core.Path.{ap, ◌∙◌}
-use Prim.Native.Nat.{◌-◌}
 use native.Mathlib.Omega.{arith}
 use lib.ListN.{length}
 use Rattle.spline_channels.proofs.ChannelLaws.{block-length}
@@ -8,7 +7,7 @@ use Rattle.spline_points.specs.Curve.{points_none, weights-none, points-room, po
 use Rattle.spline_gather.proofs.add_points.Goals as goal
 
 pub loop-i-init : goal.loop-i-init
-loop-i-init c = (omega arith, (points_none _ _ _ _, weights-none _ _ _))
+loop-i-init c = (points_none _ _ _ _, weights-none _ _ _)
 
 pub add_point-n-requires : goal.add_point-n-requires
 add_point-n-requires c =
@@ -18,7 +17,7 @@ add_point-n-requires c =
     record {
       row_len = (long, pre.row_words_in_bounds.1.1);
       le_n = points-room _ _ _ _ _ _ pre.chans_len_bound.1.0 pre.chans_len_bound.1.1 _ _ _ _
-          (omega arith) inv.1.0 inv.1.1;
+          (omega arith) inv.0 inv.1;
     }
 
 pub loop-i-preserved : goal.loop-i-preserved
@@ -28,11 +27,11 @@ loop-i-preserved c =
     let pre = d.requires in
     let put = c.add_point-n.ensures in
     let row = d.block.ensures in
-    let step = points-step _ _ _ _ _ _ pre.chans_len_bound.1.0 pre.chans_len_bound.1.1 _ _ _ _ _ _ _ (omega arith) row inv.1.0 inv.1.1 put.point_put in
-    (omega arith, (step, weights-step _ _ _ _ _ _ _ _ _ row inv.1.1 put.weight_put))
+    let step = points-step _ _ _ _ _ _ pre.chans_len_bound.1.0 pre.chans_len_bound.1.1 _ _ _ _ _ _ _ (omega arith) row inv.0 inv.1 put.point_put in
+    (step, weights-step _ _ _ _ _ _ _ _ _ row inv.1 put.weight_put)
 
 pub shape_of-pts : goal.shape_of-pts
-shape_of-pts c = c.loop-i.invariant.1.0.same
+shape_of-pts c = c.loop-i.invariant.0.same
 
 pub shape_of-ws : goal.shape_of-ws
-shape_of-ws c = c.loop-i.invariant.1.1.same
+shape_of-ws c = c.loop-i.invariant.1.same

@@ -1,7 +1,7 @@
 -- `spline_gather::start_point`: what holds at each turn of its loops. Assumes nothing.
 use mathlib.Core.List.{map}
-use Prim.Native.Nat.{ℕ, ◌≤◌, ◌-◌}
-use lib.ListN.{length, take}
+use Prim.Native.Nat.{ℕ}
+use lib.ListN.{take}
 use lib.Ieee.{Float}
 use Rattle.floats.specs.Lists.{upto}
 use Rattle.row_cells.specs.Row.{shown}
@@ -12,7 +12,4 @@ use Rattle.spline_gather.proofs.start_point.Given as goal
 
 abbrev pub invariant-loop-c : goal.invariant-loop-c
 invariant-loop-c l = let f : ℕ → Float = start_value (shown l.start l.words) (upto (block_at l.store) l.held) in
-    (l.c ≤ length l.chans) × Appended (map f (take l.c l.chans)) 0 l.initial.pts l.pts l.c
-
-abbrev pub decreases-loop-c : goal.decreases-loop-c
-decreases-loop-c l = length l.chans - l.c
+    Appended (map f (take l.c l.chans)) 0 l.initial.pts l.pts l.c

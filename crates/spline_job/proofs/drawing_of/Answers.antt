@@ -2,4 +2,4 @@
 use Rattle.spline_job.proofs.drawing_of.Goals as goal
 
 pub returns : goal.returns
-returns c = rw c.kind_of-kind.ensures
+returns c = rw c.kind_of.ensures

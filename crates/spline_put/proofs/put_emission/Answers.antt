@@ -109,7 +109,7 @@ emit_within-requires c =
     let st = start.args.state.now in
     let store = start.args.store.now in
     let saved = start.requires.0 in
-    (holds_at st store saved _ _ (part-codes st) at-of-bits.of_bits-tol.ensures, start.requires.1)
+    (holds_at st store saved _ _ (part-codes st) at-of-bits.of_bits.ensures, start.requires.1)
 
 pub returns : goal.returns
 returns c =
@@ -120,4 +120,4 @@ returns c =
     let store = start.args.store.now in
     let saved = start.requires.0 in
     let emitted = at-emit-within.emit_within.ensures in
-    put-at st store saved _ _ (part-codes st) at-of-bits.of_bits-tol.ensures _ _ _ _ emitted.count emitted.written
+    put-at st store saved _ _ (part-codes st) at-of-bits.of_bits.ensures _ _ _ _ emitted.count emitted.written

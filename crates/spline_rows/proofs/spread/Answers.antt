@@ -8,7 +8,7 @@ use Rattle.spline_rows.proofs.Spreading.{held-again, spread-again, spread_end}
 use Rattle.spline_rows.proofs.spread.Goals as goal
 
 pub loop-i-init : goal.loop-i-init
-loop-i-init c = (omega arith, (c.requires.spreads.place, backward_none _ _ _ _ _ refl))
+loop-i-init c = (c.requires.spreads.place, backward_none _ _ _ _ _ refl)
 
 pub spread_block-place-requires : goal.spread_block-place-requires
 spread_block-place-requires c =
@@ -17,7 +17,7 @@ spread_block-place-requires c =
     let pre = d.requires in
     let row = c.block.ensures in
     let long = ap length row ∙ block-length _ _ (omega arith) in
-    held-again _ _ _ _ _ _ _ _ pre.spreads _ _ _ _ d.loop-i-test.true inv.0 row long inv.1.0 inv.1.1.same
+    held-again _ _ _ _ _ _ _ _ pre.spreads _ _ _ _ d.loop-i-test.true (omega arith) row long inv.0 inv.1.same
 
 pub loop-i-preserved : goal.loop-i-preserved
 loop-i-preserved c =
@@ -29,12 +29,12 @@ loop-i-preserved c =
     let put = c.spread_block-place in
     let kept = put.auto.rows in
     let came = put.ensures.value in
-    (omega arith, spread-again _ _ _ _ _ _ _ _ pre.spreads _ _ _ _ _ _ d.loop-i-test.true inv.0 row long inv.1.0 kept inv.1.1 came put.ensures.held_put)
+    spread-again _ _ _ _ _ _ _ _ pre.spreads _ _ _ _ _ _ d.loop-i-test.true (omega arith) row long inv.0 kept inv.1 came put.ensures.held_put
 
 pub shape_of-rows : goal.shape_of-rows
-shape_of-rows c = c.loop-i.invariant.1.1.same
+shape_of-rows c = c.loop-i.invariant.1.same
 
 pub returns : goal.returns
 returns c =
     let inv = c.loop-i.invariant in
-    spread_end _ _ _ _ _ _ _ _ c.requires.spreads _ _ _ (omega arith) inv.1.0 inv.1.1
+    spread_end _ _ _ _ _ _ _ _ c.requires.spreads _ _ _ (omega arith) inv.0 inv.1

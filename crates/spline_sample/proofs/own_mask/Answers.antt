@@ -5,5 +5,5 @@ use Rattle.spline_sample.proofs.own_mask.Goals as goal
 pub returns-then-o : goal.returns-then-o
 returns-then-o c = own-none _ _ c.if-o.true
 
-pub returns : goal.returns
-returns c = own-both _ _ c.requires.0 c.if-o.false
+pub returns-else-o : goal.returns-else-o
+returns-else-o c = own-both _ _ c.requires.0 c.if-o.false

@@ -22,5 +22,5 @@ bounds-rows-from c =
 pub returns-then-has_bit : goal.returns-then-has_bit
 returns-then-has_bit c = word-yes _ _ _ _ _ (sym c.has_bit.ensures ∙ c.if-has_bit.true)
 
-pub returns : goal.returns
-returns c = word-no _ _ _ _ _ (sym c.has_bit.ensures ∙ c.if-has_bit.false)
+pub returns-else-has_bit : goal.returns-else-has_bit
+returns-else-has_bit c = word-no _ _ _ _ _ (sym c.has_bit.ensures ∙ c.if-has_bit.false)

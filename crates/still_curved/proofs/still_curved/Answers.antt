@@ -3,9 +3,7 @@ use Rattle.still_curved.proofs.SeenLaws.{seen-there, seen-bare}
 use Rattle.still_curved.proofs.still_curved.Goals as goal
 
 pub returns-then-shows_path : goal.returns-then-shows_path
-returns-then-shows_path c =
-    let two = c in
-    seen-there _ _ two.motion_after-now.ensures two.shows_path.ensures c.curves.ensures c.if-shows_path.true
+returns-then-shows_path c = seen-there _ _ c.motion_after-now.ensures c.shows_path.ensures c.curves.ensures c.if-shows_path.true
 
-pub returns : goal.returns
-returns c = seen-bare _ _ c.motion_after-now.ensures c.shows_path.ensures c.if-shows_path.false
+pub returns-else-shows_path : goal.returns-else-shows_path
+returns-else-shows_path c = seen-bare _ _ c.motion_after-now.ensures c.shows_path.ensures c.if-shows_path.false

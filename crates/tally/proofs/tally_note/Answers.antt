@@ -9,26 +9,22 @@ use Rattle.tally.proofs.tally_note.Goals as goal
 
 pub returns-then-not-tally_ok : goal.returns-then-not-tally_ok
 unfolding note_spec
-returns-then-not-tally_ok c = state-is (cond-f _ _ (sym c.tally_ok.ensures ∙ c.if-not-tally_ok.true)) c.plain_reply.ensures refl
+returns-then-not-tally_ok c = state-is (cond-f _ _ (sym c.tally_ok.ensures ∙ c.if-not-tally_ok.true)) c.into.ensures refl
 
 pub note-requires : goal.note-requires
 note-requires c =
-    let b5 = c in
-    sym b5.tally_ok.ensures ∙ b5.if-not-tally_ok.false
+    sym c.tally_ok.ensures ∙ c.if-not-tally_ok.false
 
-pub returns-in-Bad : goal.returns-in-Bad
-returns-in-Bad c =
-    let b3 = c in
+pub returns-in-None : goal.returns-in-None
+returns-in-None c =
     state-is
-    (note_bad _ _ _ _ _ _ _ (sym b3.tally_ok.ensures ∙ b3.if-not-tally_ok.false)
-    (cc (c.in-Bad.is, b3.told_call.ensures)))
-    c.plain_reply-in-Bad.ensures refl
+    (note_bad _ _ _ _ _ _ _ (sym c.tally_ok.ensures ∙ c.if-not-tally_ok.false)
+    (cc (c.in-None.is, c.told_call.ensures)))
+    c.into-in-None.ensures refl
 
-pub returns-in-Is : goal.returns-in-Is
-returns-in-Is c =
-    let b5 = c in
-    let b7 = b5 in
+pub returns-in-Some : goal.returns-in-Some
+returns-in-Some c =
     state-is
-    (note-told _ _ _ _ _ _ _ (sym b7.tally_ok.ensures ∙ b7.if-not-tally_ok.false)
-    (cc (b5.in-Is.is, b7.told_call.ensures)))
+    (note-told _ _ _ _ _ _ _ (sym c.tally_ok.ensures ∙ c.if-not-tally_ok.false)
+    (cc (c.in-Some.is, c.told_call.ensures)))
     c.note.ensures.reply c.note.ensures.state

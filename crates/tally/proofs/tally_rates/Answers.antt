@@ -9,25 +9,21 @@ use Rattle.tally.proofs.tally_rates.Goals as goal
 
 pub returns-then-not-tally_ok : goal.returns-then-not-tally_ok
 unfolding rates_spec
-returns-then-not-tally_ok c = sym (cond-f _ _ (sym c.tally_ok.ensures ∙ c.if-not-tally_ok.true))
+returns-then-not-tally_ok c = rw c.refusal_code.ensures (sym (cond-f _ _ (sym c.tally_ok.ensures ∙ c.if-not-tally_ok.true)))
 
 pub jobs_with-closed-requires : goal.jobs_with-closed-requires
 jobs_with-closed-requires c =
-    let b1 = c in
-    counting _ (sym b1.tally_ok.ensures ∙ c.if-not-tally_ok.false) (omega arith)
+    counting _ (sym c.tally_ok.ensures ∙ c.if-not-tally_ok.false) (omega arith)
 
 pub jobs_with-first_passed-requires : goal.jobs_with-first_passed-requires
 jobs_with-first_passed-requires c =
-    let b2 = c in
-    counting _ (sym b2.tally_ok.ensures ∙ c.if-not-tally_ok.false) (omega arith)
+    counting _ (sym c.tally_ok.ensures ∙ c.if-not-tally_ok.false) (omega arith)
 
 pub jobs_with-final_passed-requires : goal.jobs_with-final_passed-requires
 jobs_with-final_passed-requires c =
-    let b3 = c in
-    counting _ (sym b3.tally_ok.ensures ∙ c.if-not-tally_ok.false) (omega arith)
+    counting _ (sym c.tally_ok.ensures ∙ c.if-not-tally_ok.false) (omega arith)
 
 pub returns : goal.returns
 returns c =
-    let b4 = c in
-    rates_is _ _ _ _ (sym b4.tally_ok.ensures ∙ c.if-not-tally_ok.false)
+    rates_is _ _ _ _ (sym c.tally_ok.ensures ∙ c.if-not-tally_ok.false)
     c.jobs_with-first_passed.ensures c.jobs_with-closed.ensures c.jobs_with-final_passed.ensures

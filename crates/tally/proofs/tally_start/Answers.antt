@@ -8,11 +8,9 @@ use Rattle.tally.proofs.tally_start.Goals as goal
 
 pub returns-then-tally-ne-TALLY_WORDS : goal.returns-then-tally-ne-TALLY_WORDS
 unfolding start_spec
-returns-then-tally-ne-TALLY_WORDS c = state-is (cond-f _ _ (ne_eqb _ _ c.if-tally-ne-TALLY_WORDS.true)) c.plain_reply.ensures refl
+returns-then-tally-ne-TALLY_WORDS c = state-is (cond-f _ _ (ne_eqb _ _ c.if-tally-ne-TALLY_WORDS.true)) c.into.ensures refl
 
 pub returns : goal.returns
 unfolding start_spec
 returns c =
-    let b3 = c in
-    let b5 = b3 in
-    state-is (cond-t _ _ (eq-eqb _ _ b5.if-tally-ne-TALLY_WORDS.false)) c.plain_reply-2.ensures b3.clear.ensures
+    state-is (cond-t _ _ (eq-eqb _ _ c.if-tally-ne-TALLY_WORDS.false)) c.plain_reply.ensures c.clear.ensures

@@ -17,7 +17,7 @@ find-i-requires c = ((good _ c.requires).long, (good _ c.requires).few)
 
 pub returns-then-i-ge-MOST_JOBS : goal.returns-then-i-ge-MOST_JOBS
 unfolding counted slot_of
-returns-then-i-ge-MOST_JOBS c = state-is (cond-f _ _ (room-few _ _ _ _ _ c.find-i.ensures refl c.if-i-ge-MOST_JOBS.true)) c.plain_reply.ensures refl
+returns-then-i-ge-MOST_JOBS c = state-is (cond-f _ _ (room-few _ _ _ _ _ c.find-i.ensures refl c.if-i-ge-MOST_JOBS.true)) c.into.ensures refl
 
 pub figures_fit-requires : goal.figures_fit-requires
 figures_fit-requires c = omega (arith, (good _ c.requires).long, c.slot_at-start.ensures)
@@ -25,45 +25,22 @@ figures_fit-requires c = omega (arith, (good _ c.requires).long, c.slot_at-start
 pub returns-then-not-figures_fit : goal.returns-then-not-figures_fit
 unfolding counted slot_of
 returns-then-not-figures_fit c =
-    let b2 = c in
-    let b4 = b2 in
-    let b5 = b4 in
-    let b6 = b5 in
     state-is (cond-f _ _
-    (room_when _ _ _ _ _ b6.find-i.ensures b4.slot_at-start.ensures _ b5.if-i-ge-MOST_JOBS.false
-    (sym b2.figures_fit.ensures ∙ c.if-not-figures_fit.true))) c.plain_reply-then-not-figures_fit.ensures refl
+    (room_when _ _ _ _ _ c.find-i.ensures c.slot_at-start.ensures _ c.if-i-ge-MOST_JOBS.false
+    (sym c.figures_fit.ensures ∙ c.if-not-figures_fit.true))) c.into-then-not-figures_fit.ensures refl
 
 pub write_slot-requires : goal.write_slot-requires
-write_slot-requires c =
-    let b2 = c in
-    let b4 = b2 in
-    let b10 = b4 in (
-      omega (arith, (good _ b10.requires).long, b4.slot_at-start.ensures),
-      sym b2.figures_fit.ensures ∙ c.if-not-figures_fit.false,
-    )
+write_slot-requires c = (omega (arith, (good _ c.requires).long, c.slot_at-start.ensures), sym c.figures_fit.ensures ∙ c.if-not-figures_fit.false)
 
 pub bounds-tally-0-2 : goal.bounds-tally-0-2
 bounds-tally-0-2 c =
-    let b3 = c in
-    let b8 = b3 in
-    let b14 = b8 in
-    omega (
-      arith,
-      (good _ b14.requires).long,
-      slot_long _ _ _ _ b3.write_slot.ensures
-          (omega (arith, (good _ b14.requires).long, b8.slot_at-start.ensures)),
-    )
+    let long = (good _ c.requires).long in
+    omega (arith, long, slot_long _ _ _ _ c.write_slot.ensures (omega (arith, long, c.slot_at-start.ensures)))
 
 pub returns : goal.returns
 unfolding counted slot_of
 returns c =
-    let b4 = c in
-    let b6 = b4 in
-    let b7 = b6 in
-    let b9 = b7 in
-    let b10 = b9 in
-    let b11 = b10 in
     state-is (cond-t _ _
-    (room_when _ _ _ _ _ b11.find-i.ensures b9.slot_at-start.ensures _ b10.if-i-ge-MOST_JOBS.false
-    (sym b7.figures_fit.ensures ∙ b6.if-not-figures_fit.false))) c.plain_reply-2.ensures (noted-is _ _ _ _ _
-    b11.find-i.ensures b9.slot_at-start.ensures _ _ b4.write_slot.ensures c.jobs_after.ensures)
+    (room_when _ _ _ _ _ c.find-i.ensures c.slot_at-start.ensures _ c.if-i-ge-MOST_JOBS.false
+    (sym c.figures_fit.ensures ∙ c.if-not-figures_fit.false))) c.plain_reply.ensures (noted-is _ _ _ _ _
+    c.find-i.ensures c.slot_at-start.ensures _ _ c.write_slot.ensures c.jobs_after.ensures)

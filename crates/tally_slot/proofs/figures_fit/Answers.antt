@@ -1,8 +1,5 @@
 -- `tally_slot::figures_fit`: the answers to its goals. Assumes nothing.
-use mathlib.Core.Path.{◌≡◌, refl, sym, ◌∙◌, subst}
-use mathlib.Core.Bool.{true}
-use native.Mathlib.Omega.{arith}
-use Prim.Native.Nat.{ℕ, ◌-◌}
+use Rattle.std.proofs.Common.{◌≡◌, ℕ, true, refl, sym, ◌∙◌, subst, arith}
 use Rattle.floats.specs.Truth.{all_more, all-fails}
 use Rattle.floats.specs.Lists.{all}
 use Rattle.tally_words.specs.Words.{figures}
@@ -12,35 +9,19 @@ use Rattle.tally_slot.proofs.figures_fit.Goals as goal
 
 pub loop-k-init : goal.loop-k-init
 unfolding all
-loop-k-init c = (omega arith, (omega arith, refl))
+loop-k-init c = refl
 
 pub returns-then-not-sum_fits : goal.returns-then-not-sum_fits
 returns-then-not-sum_fits c =
-    let b2 = c in
-    let b3 = b2 in
-    let b4 = b3 in
-    let b5 = b4 in
-    sym (all-fails _ (figure_fits _ _ _ _) b5.loop-k.k b4.loop-k-test.true
-    (fits-is _ _ _ _ _ _ _ _ c.sum_fits.ensures b3.old_word.ensures b2.figure_of.ensures
-    ∙ c.if-not-sum_fits.true))
+    sym (all-fails _ (figure_fits _ _ _ _) c.loop-k.k c.loop-k-test.true
+    (fits-is _ _ _ _ _ _ _ _ c.sum_fits.ensures c.old_word.ensures c.figure_of.ensures ∙ c.if-not-sum_fits.true))
 
 pub loop-k-preserved : goal.loop-k-preserved
 loop-k-preserved c =
-    let b2 = c in
-    let b3 = b2 in
-    let b5 = b3 in (
-      omega arith,
-      (
-        omega arith,
-        all_more b5.loop-k.k _ b5.loop-k.invariant.1.1
-            (fits-is _ _ _ _ _ _ _ _ c.sum_fits.ensures b3.old_word.ensures b2.figure_of.ensures
-            ∙ c.if-not-sum_fits.false),
-      ),
-    )
+    all_more c.loop-k.k _ c.loop-k.invariant
+    (fits-is _ _ _ _ _ _ _ _ c.sum_fits.ensures c.old_word.ensures c.figure_of.ensures ∙ c.if-not-sum_fits.false)
 
 pub returns : goal.returns
 returns c =
-    let b3 = c in
     let e : c.loop-k.k ≡ figures = omega arith in
-    sym (subst (λ (k : ℕ). all k (figure_fits b3.args.tally.now b3.args.start b3.args.known b3.args.c) ≡ true) e
-    c.loop-k.invariant.1.1)
+    sym (subst (λ (k : ℕ). all k (figure_fits c.args.tally.now c.args.start c.args.known c.args.c) ≡ true) e c.loop-k.invariant)

@@ -1,28 +1,18 @@
 -- `text_cut::line_end`: the answers to its goals. Assumes nothing.
-use Prim.Native.Nat.{ℕ, ◌-◌}
-use mathlib.Core.Path.{◌≡◌, ap}
+use Prim.Native.Nat.{◌-◌}
 use native.Mathlib.Omega.{arith}
-use Rattle.text_cut.specs.Cut.{cut, between}
-use Rattle.text_cut.specs.CutLaws.{find-hit, find-on, find-end}
+use lib.ListN.{drop, length-drop}
+use lib.Seq.{length-take-le}
+use Rattle.text_cut.specs.Cut.{between}
+use Rattle.text_cut.specs.CutLaws.{cut-found, cut-none}
 use Rattle.text_cut.proofs.line_end.Goals as goal
 
-pub returns-then-buf-i-eq10 : goal.returns-then-buf-i-eq10
-returns-then-buf-i-eq10 c =
-    let s = c.loop-i in
-    let a = c.args in
-    omega (arith, s.invariant.1.1, find-hit a.buf.now s.i a.end (omega arith) (omega arith) c.if-buf-i-eq10.true)
+pub returns-in-Some : goal.returns-in-Some
+returns-in-Some c = omega (arith, c.far-i.ensures.left, cut-found (between c.args.buf.now c.far-i.result c.args.end) c.in-Some.ensures)
 
-pub loop-i-preserved : goal.loop-i-preserved
-loop-i-preserved c =
-    let s = c.loop-i in
+pub returns-in-None : goal.returns-in-None
+returns-in-None c =
+    let s = c.far-i.result in
     let a = c.args in
-    let on = find-on a.buf.now s.i a.end (omega arith) (omega arith) c.if-buf-i-eq10.false in
-    (omega arith, (omega arith, omega (arith, s.invariant.1.1, on)))
-
-pub returns : goal.returns
-returns c =
-    let s = c.loop-i in
-    let a = c.args in
-    let e : s.i ≡ a.end = omega arith in
-    let none = find-end a.buf.now a.end in
-    omega (arith, s.invariant.1.1, ap (λ (j : ℕ). cut (between a.buf.now j a.end)) e, none)
+    let long = length-take-le (a.end - s) (drop s a.buf.now) (omega (arith, c.far-i.ensures.within, length-drop s a.buf.now)) in
+    omega (arith, c.far-i.ensures.left, c.far-i.ensures.within, cut-none (between a.buf.now s a.end) c.in-None.ensures, long)

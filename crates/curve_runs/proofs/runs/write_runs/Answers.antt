@@ -26,11 +26,11 @@ write_spline-requires c =
     let room = subst (λ (z : List (List Float)). length (encode z) ≤ length a.out.now) (sym (spline-points ready es)) start.requires.ws_in_bounds in
     record { spans = (spline_spans ready es, rw wide ready.metric); recalls = memory; cs_in_bounds = room }
 
-pub returns-then-points-lt2 : goal.returns-then-points-lt2
-returns-then-points-lt2 c =
+pub returns-then-k-lt2 : goal.returns-then-k-lt2
+returns-then-k-lt2 c =
     let at-form2 = c in
     let start = at-form2 in
-    empty-written (ready_as at-form2.in-Fit.is start.requires.ready) c.if-points-lt2.true start.args.out.now
+    empty-written (ready_as at-form2.in-Fit.is start.requires.ready) c.if-k-lt2.true start.args.out.now
 
 pub write_segments-requires : goal.write_segments-requires
 write_segments-requires c =
@@ -42,7 +42,7 @@ write_segments-requires c =
     let e = at-form2.in-Fit.is in
     let ready = ready_as e start.requires.ready in
     let es = at-shape-of.shape_of-s.ensures ∙ ap (shape_of start.args.d) e in
-    let some = at-if1.if-points-lt2.false in
+    let some = at-if1.if-k-lt2.false in
     let memory = fit_recalls (shape_of a.d a.form) a.ms.now a.pts.now a.ks.now a.cs.now at-shape-of.shape_of-s.ensures e some start.requires.remembers in
     let room = subst (λ (z : List (List Float)). length (encode z) ≤ length a.out.now) (sym (fit-points ready some es)) start.requires.ws_in_bounds in
     record { segments = fit_segments ready some es; recalls = memory; n_in_bounds = room }
@@ -58,8 +58,8 @@ returns-in-Basis c =
     let es = at-shape-of.shape_of-s.ensures ∙ ap (shape_of start.args.d) e in
     at-write-spline.write_spline.ensures ∙ ap (λ (z : List (List Float)). spliced start.args.out.now 0 (encode z)) (spline-points ready es)
 
-pub returns-else-points-lt2 : goal.returns-else-points-lt2
-returns-else-points-lt2 c =
+pub returns-else-k-lt2 : goal.returns-else-k-lt2
+returns-else-k-lt2 c =
     let at-write-segments = c in
     let at-if1 = at-write-segments in
     let at-form2 = at-if1 in
@@ -69,4 +69,4 @@ returns-else-points-lt2 c =
     let ready = ready_as e start.requires.ready in
     let es = at-shape-of.shape_of-s.ensures ∙ ap (shape_of start.args.d) e in
     let written = at-write-segments.write_segments.ensures in
-    written ∙ ap (λ (z : List (List Float)). spliced start.args.out.now 0 (encode z)) (fit-points ready at-if1.if-points-lt2.false es)
+    written ∙ ap (λ (z : List (List Float)). spliced start.args.out.now 0 (encode z)) (fit-points ready at-if1.if-k-lt2.false es)

@@ -1,5 +1,5 @@
 -- `curve_segments::count::count_segments`: the answers to its goals. Assumes nothing.
-use mathlib.Core.Path.{◌≡◌, refl, sym, ap, ◌∙◌}
+use mathlib.Core.Path.{◌≡◌, sym, ap, ◌∙◌}
 use mathlib.Core.List.{List}
 use Prim.Native.Nat.{ℕ, ◌≤◌, ◌-◌}
 use native.Mathlib.Omega.{arith}
@@ -18,16 +18,10 @@ use Rattle.curve_segments.proofs.Hinting.{pieces_of, segments_as, fresh_as, run_
 use Rattle.curve_walk.proofs.Joining.{stored_start, stored_more, cursor_part}
 use Rattle.curve_segments.proofs.count.count_segments.Goals as goal
 
-pub overflow_sub-last : goal.overflow_sub-last
-overflow_sub-last c = omega (arith, c.requires.segments.0.two)
-
 pub loop-i-init : goal.loop-i-init
 loop-i-init c =
     let a = c.args in
-    ((omega arith, refl), (filling-none, stored_start (fit_lefts a.s a.ms.now a.pts.now a.ks.now a.cs.now)))
-
-pub overflow_add-next : goal.overflow_add-next
-overflow_add-next c = omega (arith, c.loop-i-test.true, c.requires.segments.0.tables.few)
+    (filling-none, stored_start (fit_lefts a.s a.ms.now a.pts.now a.ks.now a.cs.now))
 
 pub at_stretch-here-requires : goal.at_stretch-here-requires
 at_stretch-here-requires c =
@@ -41,7 +35,7 @@ count_segment-c-requires c =
     let at-loop = at-loop-test in
     let start = at-loop in
     let a = start.args in
-    let inv = at-loop.loop-i.invariant.1 in
+    let inv = at-loop.loop-i.invariant in
     let here = at-at-stretch.at_stretch-here.ensures in
     let few_runs = run-few a.s a.ms.now a.pts.now a.ks.now a.cs.now in
     let lengths : ℕ → ℕ = λ j. length (fit_run_at a.s a.ms.now a.pts.now a.ks.now a.cs.now j) in
@@ -58,9 +52,6 @@ count_segment-c-requires c =
       );
     }
 
-pub loop-i-smaller : goal.loop-i-smaller
-loop-i-smaller c = omega (arith, c.loop-i-test.true)
-
 pub loop-i-preserved : goal.loop-i-preserved
 loop-i-preserved c =
     let at-count-segment = c in
@@ -69,7 +60,7 @@ loop-i-preserved c =
     let at-loop = at-loop-test in
     let start = at-loop in
     let a = start.args in
-    let inv = at-loop.loop-i.invariant.1 in
+    let inv = at-loop.loop-i.invariant in
     let i = at-loop.loop-i.i in
     let here = at-at-stretch.at_stretch-here.ensures in
     let run = run_as a.s start.requires.segments.1 here a.ms.now a.pts.now a.ks.now a.cs.now i in
@@ -78,13 +69,10 @@ loop-i-preserved c =
     let f = filling-set inv.0 (omega (arith, start.requires.fresh.table, at-loop-test.loop-i-test.true)) set_here in
     let stored = stored_more (fit_lefts a.s a.ms.now a.pts.now a.ks.now a.cs.now) i inv.1 (stored_as (sym lefts)
     at-count-segment.count_segment-c.ensures.stored) in
-    ((omega (arith, at-loop-test.loop-i-test.true), f.same), (f, stored))
-
-pub shape_of-counts : goal.shape_of-counts
-shape_of-counts c = c.loop-i.invariant.1.0.same
+    (f, stored)
 
 pub shape_of-lefts : goal.shape_of-lefts
-shape_of-lefts c = stored_length c.loop-i.invariant.1.1
+shape_of-lefts c = stored_length c.loop-i.invariant.1
 
 pub returns : goal.returns
 returns c =
@@ -92,9 +80,9 @@ returns c =
     let start = at-loop in
     let a = start.args in
     let inv = at-loop.loop-i.invariant in
-    let e : at-loop.loop-i.i ≡ start.args.s.n - 1 = omega (arith, c.loop-i-test.false, inv.0.0) in
+    let e : at-loop.loop-i.i ≡ start.args.s.n - 1 = omega (arith, c.loop-i-test.false) in
     record {
-      counts_after = inv.1.0.is ∙ ap (λ (z : ℕ). filled (λ (j : ℕ). length (fit_run_at a.s a.ms.now a.pts.now a.ks.now a.cs.now j)) z
+      counts_after = inv.0.is ∙ ap (λ (z : ℕ). filled (λ (j : ℕ). length (fit_run_at a.s a.ms.now a.pts.now a.ks.now a.cs.now j)) z
           a.counts.now) e;
-      lefts_after = inv.1.1.is ∙ ap (λ (z : ℕ). sets a.lefts.now 0 (joined (fit_lefts a.s a.ms.now a.pts.now a.ks.now a.cs.now) z)) e;
+      lefts_after = inv.1.is ∙ ap (λ (z : ℕ). sets a.lefts.now 0 (joined (fit_lefts a.s a.ms.now a.pts.now a.ks.now a.cs.now) z)) e;
     }

@@ -1,6 +1,5 @@
 -- `curve_segments::count::count_segments`: what holds at each turn of its loops. Assumes nothing.
-use mathlib.Core.Path.{◌≡◌}
-use Prim.Native.Nat.{ℕ, ◌≤◌, ◌-◌}
+use Prim.Native.Nat.{ℕ}
 use lib.ListN.{length}
 use Rattle.floats.specs.Fill.{Filling}
 use Rattle.curve_walk.specs.Asks.{Stored}
@@ -10,9 +9,5 @@ use Rattle.curve_walk.specs.Lefts.{joined}
 use Rattle.curve_segments.proofs.count.count_segments.Given as goal
 
 abbrev pub invariant-loop-i : goal.invariant-loop-i
-invariant-loop-i l = ((l.i ≤ l.s.n - 1) × (length l.counts ≡ length l.initial.counts))
-    × (Filling (λ (j : ℕ). length (fit_run_at l.s l.ms l.pts l.ks l.cs j)) l.i l.initial.counts l.counts × Stored l.initial.lefts 0 (joined
-    (fit_lefts l.s l.ms l.pts l.ks l.cs) l.i) l.c l.lefts)
-
-abbrev pub decreases-loop-i : goal.decreases-loop-i
-decreases-loop-i l = l.s.n - 1 - l.i
+invariant-loop-i l = Filling (λ (j : ℕ). length (fit_run_at l.s l.ms l.pts l.ks l.cs j)) l.i l.initial.counts l.counts × Stored l.initial.lefts 0 (joined
+    (fit_lefts l.s l.ms l.pts l.ks l.cs) l.i) l.c l.lefts

@@ -1,5 +1,5 @@
 -- `curve_segments::write::write_segments`: the answers to its goals. Assumes nothing.
-use mathlib.Core.Path.{◌≡◌, refl, sym, ap, ◌∙◌, subst}
+use mathlib.Core.Path.{◌≡◌, sym, ap, ◌∙◌, subst}
 use mathlib.Core.List.{List}
 use Prim.Native.Nat.{ℕ, ◌≤◌, ◌-◌, ◌+◌}
 use native.Mathlib.Omega.{arith}
@@ -17,17 +17,11 @@ use Rattle.curve_segments.proofs.Hinting.{pieces_of, count_as, segments_as, run_
 use Rattle.curve_walk.proofs.Joining.{passed_none, passed-more, recalls_part, cursor_part}
 use Rattle.curve_segments.proofs.write.write_segments.Goals as goal
 
-pub overflow_sub-last : goal.overflow_sub-last
-overflow_sub-last c = omega (arith, c.requires.segments.0.two)
-
 pub loop-i-init : goal.loop-i-init
 loop-i-init c =
     let a = c.args in
     let none = runs_none (fit_run_at a.s a.ms.now a.pts.now a.ks.now a.cs.now) _ in
-    ((omega arith, refl), (none, passed_none (fit_lefts a.s a.ms.now a.pts.now a.ks.now a.cs.now)))
-
-pub overflow_add-next : goal.overflow_add-next
-overflow_add-next c = omega (arith, c.loop-i-test.true, c.requires.segments.0.tables.few)
+    (none, passed_none (fit_lefts a.s a.ms.now a.pts.now a.ks.now a.cs.now))
 
 pub at_stretch-here-requires : goal.at_stretch-here-requires
 at_stretch-here-requires c =
@@ -41,7 +35,7 @@ write_segment-at-requires c =
     let at-loop = at-loop-test in
     let start = at-loop in
     let a = start.args in
-    let inv = at-loop.loop-i.invariant.1 in
+    let inv = at-loop.loop-i.invariant in
     let i = at-loop.loop-i.i in
     let more = at-loop-test.loop-i-test.true in
     let here = at-at-stretch.at_stretch-here.ensures in
@@ -66,9 +60,6 @@ write_segment-at-requires c =
       );
     }
 
-pub loop-i-smaller : goal.loop-i-smaller
-loop-i-smaller c = omega (arith, c.loop-i-test.true)
-
 pub loop-i-preserved : goal.loop-i-preserved
 loop-i-preserved c =
     let at-write-segment = c in
@@ -84,14 +75,9 @@ loop-i-preserved c =
     let run = run_as a.s start.requires.segments.1 here a.ms.now a.pts.now a.ks.now a.cs.now i in
     let lefts = lefts_as a.s start.requires.segments.1 here a.ms.now a.pts.now a.ks.now a.cs.now i in
     let next = written_as (sym run) at-write-segment.write_segment-at.ensures.written in
-    let written = run-written (fit_run_at a.s a.ms.now a.pts.now a.ks.now a.cs.now) i _ more start.requires.n_in_bounds inv.1.0 next in
-    let passed = at-write-segment.write_segment-at.ensures.sample_value ∙ ap (λ (z : List ℕ). at-loop.loop-i.at.sample + length z) lefts in (
-      (omega (arith, more), at-write-segment.write_segment-at.auto.out ∙ inv.0.1),
-      (written, passed-more (fit_lefts a.s a.ms.now a.pts.now a.ks.now a.cs.now) i inv.1.1 passed),
-    )
-
-pub shape_of-out : goal.shape_of-out
-shape_of-out c = c.loop-i.invariant.0.1
+    let written = run-written (fit_run_at a.s a.ms.now a.pts.now a.ks.now a.cs.now) i _ more start.requires.n_in_bounds inv.0 next in
+    let passed = at-write-segment.write_segment-at.ensures.sample_value ∙ ap (λ (z : List ℕ). at-loop.loop-i.at.sample + length z) lefts in
+    (written, passed-more (fit_lefts a.s a.ms.now a.pts.now a.ks.now a.cs.now) i inv.1 passed)
 
 pub returns : goal.returns
 returns c =
@@ -99,5 +85,5 @@ returns c =
     let start = at-loop in
     let a = start.args in
     let inv = at-loop.loop-i.invariant in
-    let e : at-loop.loop-i.i ≡ start.args.s.n - 1 = omega (arith, c.loop-i-test.false, inv.0.0) in
-    inv.1.0.is ∙ ap (λ (z : ℕ). spliced a.out.now 0 (encode (flatten (upto (fit_run_at a.s a.ms.now a.pts.now a.ks.now a.cs.now) z)))) e
+    let e : at-loop.loop-i.i ≡ start.args.s.n - 1 = omega (arith, c.loop-i-test.false) in
+    inv.0.is ∙ ap (λ (z : ℕ). spliced a.out.now 0 (encode (flatten (upto (fit_run_at a.s a.ms.now a.pts.now a.ks.now a.cs.now) z)))) e

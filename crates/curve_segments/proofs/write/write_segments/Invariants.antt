@@ -1,6 +1,6 @@
 -- `curve_segments::write::write_segments`: what holds at each turn of its loops. Assumes nothing.
 use mathlib.Core.Path.{◌≡◌}
-use Prim.Native.Nat.{◌≤◌, ◌-◌, ◌+◌}
+use Prim.Native.Nat.{◌+◌}
 use lib.ListN.{length}
 use Rattle.floats.specs.Lists.{upto, flatten}
 use Rattle.curve_walk.specs.Asks.{Written}
@@ -10,9 +10,5 @@ use Rattle.curve_walk.specs.Lefts.{joined}
 use Rattle.curve_segments.proofs.write.write_segments.Given as goal
 
 abbrev pub invariant-loop-i : goal.invariant-loop-i
-invariant-loop-i l = ((l.i ≤ l.s.n - 1) × (length l.out ≡ length l.initial.out))
-    × (Written l.initial.out 0 (flatten (upto (fit_run_at l.s l.ms l.pts l.ks l.cs) l.i)) l.at.word l.out × (l.at.sample ≡ 0 + length (joined
-    (fit_lefts l.s l.ms l.pts l.ks l.cs) l.i)))
-
-abbrev pub decreases-loop-i : goal.decreases-loop-i
-decreases-loop-i l = l.s.n - 1 - l.i
+invariant-loop-i l = Written l.initial.out 0 (flatten (upto (fit_run_at l.s l.ms l.pts l.ks l.cs) l.i)) l.at.word l.out × (l.at.sample ≡ 0 + length (joined
+    (fit_lefts l.s l.ms l.pts l.ks l.cs) l.i))

@@ -30,7 +30,7 @@ loop-j-init c =
     let ev = eval_of a.s a.ks.now a.cs.now in
     let lefts = span_lefts (eval_of a.s a.ks.now a.cs.now) a.ms.now a.s.tol in
     let first = first-point a.s _ _ _ c.point_at-prev.ensures in
-    ((omega arith, refl), (zero-time, (first, (count_none ev _ _ _ _, stored_start lefts))))
+    (zero-time, (first, (count_none ev _ _ _ _, stored_start lefts)))
 
 pub overflow_add-u : goal.overflow_add-u
 overflow_add-u c =
@@ -52,10 +52,10 @@ slice_bounds-prev-end c =
     let at-loop = c in
     let start = at-loop in
     let narrow = start.requires.0.tables.narrow in
-    omega (arith, narrow, point-room _ _ at-loop.loop-j.invariant.1.1.0 narrow)
+    omega (arith, narrow, point-room _ _ at-loop.loop-j.invariant.1.0 narrow)
 
 pub slice_bounds-count_walk-end : goal.slice_bounds-count_walk-end
-slice_bounds-count_walk-end c = sym (point-length _ _ c.loop-j.invariant.1.1.0)
+slice_bounds-count_walk-end c = sym (point-length _ _ c.loop-j.invariant.1.0)
 
 pub slice_bounds-next-end : goal.slice_bounds-next-end
 slice_bounds-next-end c =
@@ -73,7 +73,7 @@ count_walk-at-requires c =
     let start = at-loop in
     let a = start.args in
     let pre = start.requires in
-    let inv = at-loop.loop-j.invariant.1.1 in
+    let inv = at-loop.loop-j.invariant.1 in
     let ev = eval_of a.s a.ks.now a.cs.now in
     let spline = basis-tables start.args.s start.requires.0.form start.requires.0.tables in
     let stretch = stretch_of pre.0.tables pre.1.0 (point-length _ _ inv.0) (point-length _ _ at-point-at2.point_at-next.ensures) in
@@ -81,17 +81,6 @@ count_walk-at-requires c =
     let counts = count_room_lem ev _ _ _ _ (omega (arith, spline.some, spline.under)) few pre.1.1 inv.1.0 in
     let lefts = span_lefts (eval_of a.s a.ks.now a.cs.now) a.ms.now a.s.tol in
     record { stretch = stretch; counts = (counts, cursor_part lefts (span_few ev a.ms.now a.s.tol) at-loop.loop-j.j few inv.1.1.end) }
-
-pub overflow_add-j : goal.overflow_add-j
-overflow_add-j c =
-    let at-loop-test = c in
-    let start = at-loop-test in
-    omega (arith, (basis-tables start.args.s start.requires.0.form start.requires.0.tables).few, at-loop-test.loop-j-test.true)
-
-pub loop-j-smaller : goal.loop-j-smaller
-loop-j-smaller c =
-    let at-loop-test = c in
-    omega (arith, at-loop-test.loop-j-test.true)
 
 pub loop-j-preserved : goal.loop-j-preserved
 loop-j-preserved c =
@@ -104,20 +93,16 @@ loop-j-preserved c =
     let inv = at-loop.loop-j.invariant in
     let ev = eval_of a.s a.ks.now a.cs.now in
     let lefts = span_lefts (eval_of a.s a.ks.now a.cs.now) a.ms.now a.s.tol in
-    let et = inv.1.0 in
-    let prev = point-is _ _ inv.1.1.0 in
+    let et = inv.0 in
+    let prev = point-is _ _ inv.1.0 in
     let next = at-point-at2.point_at-next.ensures in
-    let same = at-count-walk.count_walk-at.auto.counts ∙ inv.0.1 in
-    let counted = count-more ev _ _ _ _ _ et refl prev (point-is _ _ next) inv.1.1.1.0 at-count-walk.count_walk-at.ensures.counted in
+    let counted = count-more ev _ _ _ _ _ et refl prev (point-is _ _ next) inv.1.1.0 at-count-walk.count_walk-at.ensures.counted in
     let walked = span-lefts ev _ _ at-loop.loop-j.j _ _ et refl prev (point-is _ _ next) in
-    let stored = stored_more lefts at-loop.loop-j.j inv.1.1.1.1 (stored_as walked at-count-walk.count_walk-at.ensures.stored) in
-    ((omega (arith, at-loop-test.loop-j-test.true), same), (refl, (next, (counted, stored))))
-
-pub shape_of-counts : goal.shape_of-counts
-shape_of-counts c = c.loop-j.invariant.0.1
+    let stored = stored_more lefts at-loop.loop-j.j inv.1.1.1 (stored_as walked at-count-walk.count_walk-at.ensures.stored) in
+    (refl, (next, (counted, stored)))
 
 pub shape_of-lefts : goal.shape_of-lefts
-shape_of-lefts c = stored_length c.loop-j.invariant.1.1.1.1
+shape_of-lefts c = stored_length c.loop-j.invariant.1.1.1
 
 pub returns : goal.returns
 returns c =
@@ -126,8 +111,8 @@ returns c =
     let a = start.args in
     let inv = at-loop.loop-j.invariant in
     let ev = eval_of a.s a.ks.now a.cs.now in
-    let e : at-loop.loop-j.j ≡ start.args.s.n - start.args.degree = omega (arith, c.loop-j-test.false, inv.0.0) in
+    let e : at-loop.loop-j.j ≡ start.args.s.n - start.args.degree = omega (arith, c.loop-j-test.false) in
     record {
-      counts_after = inv.1.1.1.0.is ∙ ap (λ (z : ℕ). counted (own_of a.s a.ks.now) 1 (span_samples ev a.ms.now a.s.tol z) a.counts.now) e;
-      lefts_after = inv.1.1.1.1.is ∙ ap (λ (z : ℕ). sets a.lefts.now 0 (joined (span_lefts ev a.ms.now a.s.tol) z)) e;
+      counts_after = inv.1.1.0.is ∙ ap (λ (z : ℕ). counted (own_of a.s a.ks.now) 1 (span_samples ev a.ms.now a.s.tol z) a.counts.now) e;
+      lefts_after = inv.1.1.1.is ∙ ap (λ (z : ℕ). sets a.lefts.now 0 (joined (span_lefts ev a.ms.now a.s.tol) z)) e;
     }

@@ -1,7 +1,6 @@
 -- `curve_spans::count::count_spline`: what holds at each turn of its loops. Assumes nothing.
 use mathlib.Core.Path.{◌≡◌}
-use Prim.Native.Nat.{◌≤◌, ◌-◌}
-use lib.ListN.{length, replicate}
+use lib.ListN.{replicate}
 use Rattle.floats.specs.Numbers.{of_nat, f0}
 use Rattle.floats.specs.Lists.{filled}
 use Rattle.curve_metric.specs.Widest.{widest}
@@ -13,11 +12,7 @@ use Rattle.curve_walk.specs.Lefts.{joined}
 use Rattle.curve_spans.proofs.count.count_spline.Given as goal
 
 abbrev pub invariant-loop-j : goal.invariant-loop-j
-invariant-loop-j l = ((l.j ≤ l.s.n - l.degree) × (length l.counts ≡ length l.initial.counts))
-    × ((l.t ≡ of_nat l.j)
+invariant-loop-j l = (l.t ≡ of_nat l.j)
     × ((l.prev ≡ filled (point_at l.s l.ks l.cs (of_nat l.j)) l.s.ch (replicate widest f0))
     × (Counted (own_of l.s l.ks) 1 (span_samples (eval_of l.s l.ks l.cs) l.ms l.s.tol l.j) l.initial.counts l.at.owner l.counts
-    × Stored l.initial.lefts 0 (joined (span_lefts (eval_of l.s l.ks l.cs) l.ms l.s.tol) l.j) l.at.sample l.lefts)))
-
-abbrev pub decreases-loop-j : goal.decreases-loop-j
-decreases-loop-j l = l.s.n - l.degree - l.j
+    × Stored l.initial.lefts 0 (joined (span_lefts (eval_of l.s l.ks l.cs) l.ms l.s.tol) l.j) l.at.sample l.lefts))

@@ -32,7 +32,7 @@ loop-j-init c =
     let ev = eval_of a.s a.ks.now a.cs.now in
     let lefts = span_lefts (eval_of a.s a.ks.now a.cs.now) a.ms.now a.s.tol in
     let first = first-point a.s _ _ _ c.point_at-prev.ensures in
-    ((omega arith, refl), (zero-time, (first, (write_none ev _ _ _, passed_none lefts))))
+    (zero-time, (first, (write_none ev _ _ _, passed_none lefts)))
 
 pub overflow_add-u : goal.overflow_add-u
 overflow_add-u c =
@@ -54,10 +54,10 @@ slice_bounds-prev-end c =
     let at-loop = c in
     let start = at-loop in
     let narrow = start.requires.spans.0.tables.narrow in
-    omega (arith, narrow, point-room _ _ at-loop.loop-j.invariant.1.1.0 narrow)
+    omega (arith, narrow, point-room _ _ at-loop.loop-j.invariant.1.0 narrow)
 
 pub slice_bounds-write_walk-end : goal.slice_bounds-write_walk-end
-slice_bounds-write_walk-end c = sym (point-length _ _ c.loop-j.invariant.1.1.0)
+slice_bounds-write_walk-end c = sym (point-length _ _ c.loop-j.invariant.1.0)
 
 pub slice_bounds-next-end : goal.slice_bounds-next-end
 slice_bounds-next-end c =
@@ -74,7 +74,7 @@ write_walk-at-requires c =
     let at-loop = at-loop-test in
     let start = at-loop in
     let a = start.args in
-    let inv = at-loop.loop-j.invariant.1 in
+    let inv = at-loop.loop-j.invariant in
     let more = at-loop-test.loop-j-test.true in
     let ev = eval_of a.s a.ks.now a.cs.now in
     let lefts = span_lefts (eval_of a.s a.ks.now a.cs.now) a.ms.now a.s.tol in
@@ -90,15 +90,6 @@ write_walk-at-requires c =
     let fits = room-more ev _ _ a.out.now at-loop.loop-j.j _ more start.requires.cs_in_bounds in
     record { stretch = stretch; recalls = (memory, cursor); p1_in_bounds = write_room ev _ _ _ _ _ inv.0 refl prev next fits inv.1.1.0 }
 
-pub overflow_add-j : goal.overflow_add-j
-overflow_add-j c =
-    let at-loop-test = c in
-    let start = at-loop-test in
-    omega (arith, (basis-tables start.args.s start.requires.spans.0.form start.requires.spans.0.tables).few, at-loop-test.loop-j-test.true)
-
-pub loop-j-smaller : goal.loop-j-smaller
-loop-j-smaller c = omega (arith, c.loop-j-test.true)
-
 pub loop-j-preserved : goal.loop-j-preserved
 loop-j-preserved c =
     let at-write-walk = c in
@@ -111,18 +102,14 @@ loop-j-preserved c =
     let more = at-loop-test.loop-j-test.true in
     let ev = eval_of a.s a.ks.now a.cs.now in
     let lefts = span_lefts (eval_of a.s a.ks.now a.cs.now) a.ms.now a.s.tol in
-    let et = inv.1.0 in
-    let prev = point-is _ _ inv.1.1.0 in
+    let et = inv.0 in
+    let prev = point-is _ _ inv.1.0 in
     let next = at-point-at2.point_at-next.ensures in
-    let same = at-write-walk.write_walk-at.auto.out ∙ inv.0.1 in
     let fits = room-more ev _ _ a.out.now at-loop.loop-j.j _ more start.requires.cs_in_bounds in
-    let written = write_more ev _ _ _ _ _ et refl prev (point-is _ _ next) fits inv.1.1.1.0 at-write-walk.write_walk-at.ensures.written in
+    let written = write_more ev _ _ _ _ _ et refl prev (point-is _ _ next) fits inv.1.1.0 at-write-walk.write_walk-at.ensures.written in
     let walked = span-lefts ev _ _ at-loop.loop-j.j _ _ et refl prev (point-is _ _ next) in
     let passed = at-write-walk.write_walk-at.ensures.sample_value ∙ ap (λ (z : List ℕ). at-loop.loop-j.at.sample + length z) (sym walked) in
-    ((omega (arith, more), same), (refl, (next, (written, passed-more lefts at-loop.loop-j.j inv.1.1.1.1 passed))))
-
-pub shape_of-out : goal.shape_of-out
-shape_of-out c = c.loop-j.invariant.0.1
+    (refl, (next, (written, passed-more lefts at-loop.loop-j.j inv.1.1.1 passed)))
 
 pub returns : goal.returns
 returns c =
@@ -131,5 +118,5 @@ returns c =
     let a = start.args in
     let inv = at-loop.loop-j.invariant in
     let ev = eval_of a.s a.ks.now a.cs.now in
-    let e : at-loop.loop-j.j ≡ start.args.s.n - start.args.degree = omega (arith, c.loop-j-test.false, inv.0.0) in
-    inv.1.1.1.0.is ∙ ap (λ (z : ℕ). spliced a.out.now 0 (encode (points_of (span_samples ev a.ms.now a.s.tol z)))) e
+    let e : at-loop.loop-j.j ≡ start.args.s.n - start.args.degree = omega (arith, c.loop-j-test.false) in
+    inv.1.1.0.is ∙ ap (λ (z : ℕ). spliced a.out.now 0 (encode (points_of (span_samples ev a.ms.now a.s.tol z)))) e

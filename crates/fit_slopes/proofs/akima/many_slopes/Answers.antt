@@ -1,6 +1,5 @@
 -- `fit_slopes::akima::many_slopes`: the answers to its goals. Assumes nothing.
 use mathlib.Core.Path.{◌∙◌}
-use Prim.Native.Nat.{◌-◌}
 use native.Mathlib.Omega.{arith}
 use Rattle.floats.specs.Fill.{filling-none, filling-more}
 use Rattle.fit_slopes.specs.AkimaLaws.{window_more, akima-of}
@@ -8,12 +7,11 @@ use Rattle.fit_slopes.proofs.akima.many_slopes.Goals as goal
 
 pub loop-i-init : goal.loop-i-init
 loop-i-init c =
-    let first = c.widened_at-m1.ensures in
-    let second = c.widened_at-m2.ensures in
-    ((omega arith, omega arith), (record { first = first; second = second; third = c.widened_at-m3.ensures }, filling-none))
+    (record { first = c.widened_at-m1.ensures; second = c.widened_at-m2.ensures; third = c.widened_at-m3.ensures }, filling-none)
 
 pub loop-i-preserved : goal.loop-i-preserved
-loop-i-preserved c = let w = c.loop-i.invariant.1.0 in
+loop-i-preserved c =
+    let w = c.loop-i.invariant.0 in
     let m4 = c.widened_at-m4.ensures in
     let a = c.akima_of.ensures ∙ akima-of _ _ w.first w.second w.third m4 in
-    ((omega arith, omega arith), (window_more w m4, filling-more c.loop-i.invariant.1.1 (omega arith) a))
+    (window_more w m4, filling-more c.loop-i.invariant.1 (omega arith) a)

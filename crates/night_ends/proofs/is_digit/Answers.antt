@@ -1,9 +1,0 @@
--- `night_ends::is_digit`: the answers to its goals. Assumes nothing.
-use borrow.Author.Tests.{lt-ltb, le-ltb}
-use Rattle.night_ends.proofs.is_digit.Goals as goal
-
-pub returns-then-b-lt48 : goal.returns-then-b-lt48
-returns-then-b-lt48 c = rw (lt-ltb _ 48 c.if-b-lt48.true)
-
-pub returns : goal.returns
-returns c = rw (le-ltb _ 48 c.if-b-lt48.false)

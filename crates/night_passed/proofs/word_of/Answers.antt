@@ -1,7 +1,0 @@
--- `night_passed::word_of`: the answers to its goals. Assumes nothing.
-use mathlib.Core.Path.{sym}
-use lib.ListN.{get_or-eq_default}
-use Rattle.night_passed.proofs.word_of.Goals as goal
-
-pub returns : goal.returns
-returns c = sym (get_or-eq_default c.args.tally.now 0 c.if-at-tally.false)
