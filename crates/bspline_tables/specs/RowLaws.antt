@@ -7,14 +7,11 @@ use Rattle.std.specs.Float.{nan}
 use borrow.Rule.Slice.PartMut.{put_mid, post_of, Post-is}
 use Rattle.floats.specs.Numbers.{at}
 use Rattle.floats.specs.Lists.{filled, row}
-use Rattle.floats.specs.Fill.{length-filled, at-filled}
 use Rattle.floats.specs.Parts.{part, length_part}
 use Rattle.bspline_tables.specs.Tables.{Rows}
 
 pub copied : (src dst : List Float) {i : ℕ} {xs : List Float} → length src ≡ length dst → i ≡ length dst → xs ≡ filled (at src) i dst → xs ≡ src
-copied src dst {i} {xs} h ei e = e ∙ ext_get_or nan (filled (at src) i dst) src
-    (length-filled (at src) dst i (omega arith) ∙ sym h)
-    (λ k g. at-filled (at src) dst i k nan (omega (arith, length-filled (at src) dst i (omega arith))))
+copied src dst h ei e = Rattle.number_copy.specs.Copies.copied src dst h ei e
 
 pub within : (c m w a len : ℕ) → c < m → m * w ≤ len → a ≡ c * w → a + w ≤ len
 within c m w a len h hl e = rw (e, ← suc-mul c w) (le_trans (mul-le-mul_right w h) hl)

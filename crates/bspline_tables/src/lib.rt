@@ -8,6 +8,8 @@ ghost use Rattle.layout.specs.Layout.{axis_codes, most_points};
 ghost use Rattle.bspline_tables.specs.Basis.{degree_of};
 ghost use Rattle.bspline_tables.specs.Tables.{control_at, Rows};
 
+use number_copy::copy;
+
 // The degree that n points support.
 pub fn degree_of(degree: usize, n: usize) -> usize
     requires { 1 ≤ n }
@@ -56,5 +58,5 @@ pub fn fill_controls(pts: &[f64], ws: &[f64], ch: usize, n: usize, cw: &mut [f64
         a = e;
     }
     let e = a + n;
-    cw[a..e].copy_from_slice(&ws[..n]);
+    copy(&ws[..n], &mut cw[a..e]);
 }

@@ -22,7 +22,7 @@ use csv_next::next_found;
 use csv_out::{LENT_ROWS, Run, headed, next_line, refuse};
 use csv_reading::{Reading, behind, ends, fails, first, going, left_of, reads_on};
 use csv_replied::{call_answered, source_of};
-use csv_status::{GOES_ON, may_end};
+use csv_status::{GOES_ON, is_over, may_end};
 use layout::{MOST_HELD, ROW_WORDS, STATE_WORDS};
 use std::io::{Read, Write};
 use text_lines::{Found, Turn};
@@ -274,7 +274,7 @@ fn all_turns<R: Read, W: Write, E: Write>(
     let mut s = first();
     for _ in 0..u64::MAX {
         s = step(s, buf, state, store, rows, out, err, input, output, errors);
-        if s.over != GOES_ON {
+        if is_over(s.over) {
             return s;
         }
     }

@@ -2,7 +2,7 @@
 #![tactic(auto)]
 
 ghost use Rattle.std.specs.Prelude.{◌⊎◌, ◌≡◌, ◌≤◌, ◌<◌};
-ghost use Rattle.csv_status.specs.Status.{goes_on, may_end, status_of};
+ghost use Rattle.csv_status.specs.Status.{goes_on, is_over, may_end, status_of};
 
 use std::fs::{Files, OpenOptions};
 use std::io::Write;
@@ -32,12 +32,21 @@ pub fn may_end(left: usize, physical: u64) -> bool
     if physical == 1 { false } else { true }
 }
 
+// Whether a run is over: no turn is made behind that.
+#[tactic(auto, unfolding(crate::specs::Status::is_over))]
+pub fn is_over(over: u64) -> bool
+    ensures { result ≡ is_over over }
+{
+    over != GOES_ON
+}
+
 // The turns that are left: none once the run is over.
+#[tactic(auto, unfolding(crate::specs::Status::is_over))]
 pub fn turns_left(turns: u64, over: u64) -> u64
     requires { 0 < turns }
     ensures { (result < turns) × ((over ≡ goes_on) ⊎ (result ≡ 0)) }
 {
-    if over == GOES_ON { turns - 1 } else { 0 }
+    if is_over(over) { 0 } else { turns - 1 }
 }
 
 // Whether all of the bytes could be written.

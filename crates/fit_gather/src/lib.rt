@@ -13,6 +13,7 @@ use fit_cubic::natural_cubic_slopes;
 use fit_slopes::akima::akima_slopes;
 use fit_slopes::sizes::SMALL_POINTS;
 use layout::MOST_POINTS;
+use number_copy::copy;
 
 // The times of the points ks.
 fn gather_times(ts: &[f64], ks: &[usize], out: &mut [f64])
@@ -34,7 +35,8 @@ fn gather_points(pts: &[f64], ch: usize, ks: &[usize], n: usize, out: &mut [f64]
     for (w, i) in ks.iter().enumerate() {
         let from = *i * ch;
         let to = w * ch;
-        out[to..to + ch].copy_from_slice(&pts[from..from + ch]);
+        let numbers = &pts[from..from + ch];
+        copy(numbers, &mut out[to..to + ch]);
     }
 }
 

@@ -8,6 +8,7 @@ ghost use Rattle.fit_tables.specs.Asks.{Fitted};
 
 use fit_slopes::sizes::SMALL_POINTS;
 use layout::{AXIS_CODES, MOST_POINTS};
+use number_copy::copy;
 
 // Work memory goes by the numbers of a spline, its points times its channels. Its sizes are those of a short spline with the usual
 // channels, and of a long one with few (three axes, and one that turns), with the usual and with all.
@@ -45,7 +46,7 @@ fn lay_in(
     let w = n * ch;
     let end = w + w;
     curve_chords::chord_parameters(pts, ch, ms, n, ts);
-    ks[..n].copy_from_slice(&ts[..n]);
+    copy(&ts[..n], &mut ks[..n]);
     let m = fit_prepare::prepare_fit(
         cubic,
         pts,
@@ -56,7 +57,7 @@ fn lay_in(
         &mut cs[..w],
         &mut slopes[..w],
     );
-    cs[w..end].copy_from_slice(&slopes[..w]);
+    copy(&slopes[..w], &mut cs[w..end]);
     m
 }
 

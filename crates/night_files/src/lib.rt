@@ -37,10 +37,10 @@ pub fn within(n: usize, buf: &[u8]) -> usize
 }
 
 // DIR, a slash, and a name; nothing where one of them has more than 4,096 bytes.
-fn put_path(out: &mut [u8; PATH_ROOM], dir: &[u8], name: &[u8]) -> Option<usize>
-    ensures { IfSome result (λ n. n ≤ 8704) }
+pub fn put_path(out: &mut [u8], dir: &[u8], name: &[u8]) -> Option<usize>
+    ensures { IfSome result (λ n. IsPrefixLen n out.new) }
 {
-    if dir.len() > MOST_PATH || name.len() > MOST_PATH {
+    if out.len() < PATH_ROOM || dir.len() > MOST_PATH || name.len() > MOST_PATH {
         return None;
     }
     let a = put_bytes(out, 0, dir);
@@ -136,7 +136,7 @@ pub fn put_part_name(out: &mut [u8], path: &[u8], number: u64) -> Option<usize>
 // Places in a file are kept below this one.
 const MOST_PLACE: u64 = 0x4000_0000_0000_0000;
 
-fn place_of(at: u64) -> u64 {
+pub fn place_of(at: u64) -> u64 {
     if at < MOST_PLACE { at } else { 0 }
 }
 
@@ -211,7 +211,7 @@ fn head_of(there: &[u8], header: &[u8]) -> Head {
 }
 
 // What a file begins with.
-fn head_at(file: &File, header: &[u8]) -> Head {
+pub fn head_at(file: &File, header: &[u8]) -> Head {
     let mut there = [0u8; 512];
     let n = read_from(file, 0, &mut there);
     head_of(&there[..n], header)
@@ -238,9 +238,9 @@ pub fn line_at(file: &File, at: u64, buf: &mut [u8]) -> Option<usize>
 
 // Where lines end in bytes: the place behind so many of them, and how many are left where there are not so many.
 #[derive(Clone, Copy)]
-struct Skipped {
-    at: usize,
-    left: u64,
+pub struct Skipped {
+    pub at: usize,
+    pub left: u64,
 }
 
 fn behind_lines(part: &[u8], lines: u64) -> Skipped

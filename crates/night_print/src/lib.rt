@@ -101,6 +101,22 @@ pub enum Verdict {
     NotAll,
 }
 
+// The counts over the jobs: of all, of those with a closed try, and of these whose first and whose last one passed.
+#[derive(Clone, Copy)]
+pub struct Counts {
+    pub jobs: u64,
+    pub closed: u64,
+    pub first: u64,
+    pub last: u64,
+}
+
+fn print_head(rt: &HostRuntime, c: Counts) -> bool {
+    print_count(rt, b"jobs ", c.jobs)
+        && print_count(rt, b"closed ", c.closed)
+        && print_rate(rt, b"first tries passed ", c.first, c.closed)
+        && print_rate(rt, b"final tries passed ", c.last, c.closed)
+}
+
 // A night at its end: its table of tries with the place behind its header, what was asked for, and what is known of its jobs.
 #[derive(Clone, Copy)]
 pub struct Report<'a> {
@@ -232,17 +248,20 @@ impl Report<'_> {
         std::num::wrapping_sub_u64(self.command.files as u64, left) as usize
     }
 
+    fn counts(&self) -> Counts {
+        Counts {
+            jobs: self.files() as u64,
+            closed: self.with_bit(B_CLOSED),
+            first: self.with_bit(B_FIRST),
+            last: self.with_bit(B_FINAL),
+        }
+    }
+
     // Prints it, and answers what it says of the first tries; nothing where not all could be printed.
     pub fn print(&self, rt: &HostRuntime) -> Option<Verdict> {
-        let jobs = self.files() as u64;
-        let closed = self.with_bit(B_CLOSED);
-        let first = self.with_bit(B_FIRST);
-        let printed = print_count(rt, b"jobs ", jobs)
-            && print_count(rt, b"closed ", closed)
-            && print_rate(rt, b"first tries passed ", first, closed)
-            && print_rate(rt, b"final tries passed ", self.with_bit(B_FINAL), closed)
-            && self.print_lots(rt);
-        let verdict = if first == jobs {
+        let counts = self.counts();
+        let printed = print_head(rt, counts) && self.print_lots(rt);
+        let verdict = if counts.first == counts.jobs {
             Verdict::AllPassed
         } else {
             Verdict::NotAll

@@ -12,7 +12,7 @@ use call_close::close;
 use call_push::push;
 use call_reply::{Reply, plain_reply};
 use csv_out::{CALL_ROOM, LENT_ROWS};
-use csv_status::GOES_ON;
+use csv_status::{GOES_ON, is_over};
 use layout::{MOST_HELD, ROW_WORDS, STATE_WORDS};
 use night_begin::start_told;
 use night_course::{Ticket, TryRun};
@@ -141,7 +141,7 @@ fn all_turns(
     let mut s = begun;
     for _ in 0..u64::MAX {
         s = step(files, s, buf, state, store, rows, tally, out, listed);
-        if s.over != GOES_ON {
+        if is_over(s.over) {
             return s;
         }
     }

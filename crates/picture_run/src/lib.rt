@@ -2,6 +2,7 @@
 #![tactic(auto)]
 
 ghost use Rattle.std.specs.Prelude.{◌≡◌, ◌≤◌, length};
+ghost use Rattle.csv_status.specs.Status.{goes_on};
 ghost use Rattle.csv_io.specs.Flush.{out_room, err_room};
 ghost use Rattle.picture_pen.specs.Drawing.{PlaneOk};
 ghost use Rattle.picture_row.specs.Room.{Room, Kept};
@@ -13,7 +14,7 @@ use csv_io::{ERR_ROOM, OUT_ROOM};
 use csv_next::next_found;
 use csv_out::{Run, next_line, refuse};
 use csv_reading::{Reading, behind, ends, fails, first, going, left_of, reads_on};
-use csv_status::{ENDED, GOES_ON, may_end};
+use csv_status::{ENDED, GOES_ON, is_over, may_end};
 use flat_read::read_flat;
 use layout::ROW_WORDS;
 use picture_fixed::put_start;
@@ -176,7 +177,7 @@ fn step<R: Read, W: Write, E: Write>(
     output: &mut W,
     errors: &mut E,
 ) -> Page
-    requires { Within page.reading × PlaneOk plane }
+    requires { Within page.reading × ((page.reading.over ≡ goes_on) × PlaneOk plane) }
     ensures { Within result.reading }
 {
     let s = page.reading;
@@ -200,7 +201,7 @@ fn step<R: Read, W: Write, E: Write>(
 
 // The start of the picture waits, and nothing is read yet.
 fn begin(out: &mut [u8; OUT_ROOM]) -> Page
-    ensures { Within result.reading }
+    ensures { Within result.reading × (result.reading.over ≡ goes_on) }
 {
     let n = put_start(out, 0);
     let s = first();
@@ -227,14 +228,16 @@ fn all_turns<R: Read, W: Write, E: Write>(
     let mut page = begin(out);
     for _ in 0..u64::MAX {
         page = step(page, plane, buf, out, err, input, output, errors);
-        if over_of(page) != GOES_ON {
-            break;
+        if is_over(over_of(page)) {
+            return page;
         }
     }
     page
 }
 
-fn over_of(page: Page) -> u64 {
+fn over_of(page: Page) -> u64
+    ensures { result ≡ page.reading.over }
+{
     let s = page.reading;
     s.over
 }

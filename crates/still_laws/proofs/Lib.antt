@@ -1,1 +1,2 @@
+mod Arms
 pub mod Shows

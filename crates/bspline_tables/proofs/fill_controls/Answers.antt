@@ -19,6 +19,6 @@ pub returns : goal.returns
 returns c =
     let pre = c.requires in
     let inv = c.loop-c.invariant in
-    let last = c.copy_from_slice in
-    rowing_all (rowing_put inv.1 (omega arith) pre.ch_in_bounds.1.1 inv.0 last.auto.self
-    (last.ensures.after ∙ weights_are _ _ _ _ _ (omega arith) pre.ch_in_bounds.1.0)) (omega arith)
+    let last = c.copy in
+    rowing_all (rowing_put inv.1 (omega arith) pre.ch_in_bounds.1.1 inv.0 last.auto.to
+    (last.ensures ∙ weights_are _ _ _ _ _ (omega arith) pre.ch_in_bounds.1.0)) (omega arith)

@@ -13,9 +13,9 @@ unfolding Below
 overflow_mul-from c =
     omega (arith, row_fits_lem _ _ _ _ (c.requires.below c.loop-w.w c.loop-w-test.true) c.requires.ch_in_bounds.0)
 
-pub overflow_add-from : goal.overflow_add-from
+pub overflow_add-numbers : goal.overflow_add-numbers
 unfolding Below
-overflow_add-from c =
+overflow_add-numbers c =
     omega (arith, row_fits_lem _ _ _ _ (c.requires.below c.loop-w.w c.loop-w-test.true) c.requires.ch_in_bounds.0)
 
 pub offset_bounds-pts-from : goal.offset_bounds-pts-from
@@ -23,14 +23,14 @@ unfolding Below
 offset_bounds-pts-from c =
     omega (arith, row_fits_lem _ _ _ _ (c.requires.below c.loop-w.w c.loop-w-test.true) c.requires.ch_in_bounds.0)
 
-pub slice_bounds-copy_from_slice-end-in-loop-w : goal.slice_bounds-copy_from_slice-end-in-loop-w
+pub slice_bounds-numbers-end : goal.slice_bounds-numbers-end
 unfolding Below
-slice_bounds-copy_from_slice-end-in-loop-w c =
+slice_bounds-numbers-end c =
     omega (arith, row_fits_lem _ _ _ _ (c.requires.below c.loop-w.w c.loop-w-test.true) c.requires.ch_in_bounds.0)
 
 pub loop-w-preserved : goal.loop-w-preserved
 loop-w-preserved c =
     let args = c.args in
-    let copied = c.copy_from_slice in
+    let copied = c.copy in
     let into = row_fits_lem c.loop-w.w (length args.ks.now) args.ch (length args.out.now) c.loop-w-test.true c.requires.ch_in_bounds.1 in
-    blocks_more c.loop-w.invariant (part-put _ _ (omega (arith, into)) copied.auto.self copied.ensures.after (λ j h. refl))
+    blocks_more c.loop-w.invariant (part-put _ _ (omega (arith, into)) copied.auto.to copied.ensures (λ j h. refl))

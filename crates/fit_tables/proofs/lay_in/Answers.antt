@@ -18,5 +18,5 @@ returns c =
     laid a.cubic a.n a.ch a.ms.now a.pts.now a.ks.now a.cs.now a.slopes.now _
     {ts = sums.new.out} {fts = fit.new.fts} {fps = fit.new.fps} {bends = fit.new.slopes}
     pre.n_in_bounds.0 (omega (arith, cells, pre.n_in_bounds.1)) pre.n_in_bounds_2.1 (omega (arith, sums.auto.out, pre.n_in_bounds_2.0))
-    sums.ensures (ap (λ (z : List Float). z ++ drop a.n a.ks.now) c.copy_from_slice.ensures.after)
-    fit.auto.fts fit.auto.fps fit.auto.slopes c.copy_from_slice-2.ensures.after fit.ensures
+    sums.ensures (ap (λ (z : List Float). z ++ drop a.n a.ks.now) c.copy.ensures)
+    fit.auto.fts fit.auto.fps fit.auto.slopes c.copy-2.ensures fit.ensures
